@@ -1,0 +1,147 @@
+-- The working form of `aligned` and its loops; that it is `aligned`.
+use Prim.Native.Nat.{ℕ, zero, suc, _+_, _-_, _≤_, _<_}
+use mathlib.Core.Path.{_≡_, _∙_, ap, refl, sym}
+use mathlib.Core.Bool.{Bool, true, false, _&&_, _||_, not}
+use mathlib.Core.List.{List}
+use borrow.Author.Tests.{lt-leb, leb-true, not-true}
+use native.Mathlib.Omega.{arith}
+use lib.Dec.{leb, eqb}
+use lib.ListN.{length, getD, List·getD-eq-default}
+use Rattle.runs.specs.Every.{everyBelow}
+use Rattle.runs.proofs.Everywhere.{and-true, and-left, and-right, true-or-false, clash, le-or-lt, every-suc, every-at, every-all}
+use Rattle.utf8.specs.Table.{within}
+use Rattle.utf8.specs.Formed.{continues, boundary}
+use Rattle.utf8.proofs.Boundaries.{boundary-at, boundary-begins}
+use Rattle.validity.specs.Windows.{ascii}
+use Rattle.validity.proofs.Ascii.{ascii-at}
+use Rattle.note.specs.Notes.{Note, startAt, endAt, inside, onBoundaries, shared, forward, aligned}
+use Rattle.note.specs.Steady.{follows, steadyAt, steady, uncut, uncutBelow}
+
+module _ (text starts ends : List ℕ) (size : ℕ) where
+  pub steady-none : true ≡ steady text starts ends size 0
+  unfolding steady everyBelow
+  steady-none = refl
+
+  pub steady-first : (ok : Bool) → ok ≡ (leb (getD starts 0 0) (getD ends 0 0) && leb (getD ends 0 0) size) → ok ≡ steady text starts ends size 1
+  unfolding steady everyBelow steadyAt
+  steady-first ok e = e
+
+  pub steady-more : (i : ℕ) (ok r : Bool) → 1 ≤ i → ok ≡ steady text starts ends size i → r ≡ follows (getD text i 0) (getD starts (i - 1) 0) (getD ends (i - 1) 0) (getD starts i 0) (getD ends i 0) size → (ok && r) ≡ steady text starts ends size (i + 1)
+  unfolding steady steadyAt
+  steady-more zero ok r low p q = absurd (omega arith)
+  steady-more (suc i) ok r low p q =
+      let one : suc i - 1 ≡ i = omega arith in
+      rw (every-suc (suc i) (steadyAt text starts ends size), p, q, one)
+
+module _ (original starts ends : List ℕ) where
+  pub uncut-none : true ≡ uncutBelow original starts ends 0
+  unfolding uncutBelow everyBelow
+  uncut-none = refl
+
+  pub uncut-more : (i : ℕ) (ok r q : Bool) → ok ≡ uncutBelow original starts ends i → r ≡ uncut original (getD starts i 0) → q ≡ uncut original (getD ends i 0) → (ok && (r && q)) ≡ uncutBelow original starts ends (i + 1)
+  unfolding uncutBelow
+  uncut-more i ok r q p a b = rw (every-suc i (λ j. uncut original (getD starts j 0) && uncut original (getD ends j 0)), p, a, b)
+
+pub uncut-past : (original : List ℕ) (p : ℕ) → length original ≤ p → true ≡ uncut original p
+unfolding uncut continues within
+uncut-past original p past = rw (List·getD-eq-default original 0 past)
+
+pub uncut-read : (original : List ℕ) (p : ℕ) (r : Bool) → r ≡ continues (getD original p 0) → not r ≡ uncut original p
+unfolding uncut
+uncut-read original p r e = ap not e
+
+-- a text of bytes below 80 is cut nowhere
+uncut-ascii : (original : List ℕ) (p : ℕ) → ascii original ≡ true → uncut original p ≡ true
+unfolding uncut continues within
+uncut-ascii original p e =
+    le-or-lt (length original) p
+    (λ past. sym (uncut-past original p past))
+    (λ below. rw (lt-leb 0x80 (getD original p 0) (ascii-at original e p below)))
+
+pub all-ascii : (original starts ends : List ℕ) (n : ℕ) → ascii original ≡ true → uncutBelow original starts ends n ≡ true
+unfolding uncutBelow
+all-ascii original starts ends n e = every-all n _ (λ i below. and-true _ _ (uncut-ascii original _ e) (uncut-ascii original _ e))
+
+bool-ext : (a b : Bool) → (a ≡ true → b ≡ true) → (b ≡ true → a ≡ true) → a ≡ b
+bool-ext true b f g = sym (f refl)
+bool-ext false b f g = true-or-false b (λ t. g t ∙ sym t) (λ t. sym t)
+
+-- a loop's flag at its end
+pub at-end : (f : ℕ → Bool) (i n : ℕ) (ok : Bool) → i ≤ n → n ≤ i → ok ≡ f i → ok ≡ f n
+at-end f i n ok most past e = let end : i ≡ n = omega arith in e ∙ ap f end
+
+module _ (n : Note) where
+  -- at one index, the working form from the conditions
+  steady-from : (i : ℕ) → inside n i ≡ true → shared n i ≡ true → forward n i ≡ true → steadyAt (n .normalized) (n .starts) (n .ends) (length (n .original)) i ≡ true
+  unfolding steadyAt follows inside shared forward
+  steady-from zero a b c = a
+  steady-from (suc i) a b c =
+      and-true _ _ (and-true _ _ (and-true _ _ a b) (and-left (leb (startAt n i) (startAt n (suc i))) _ c)) (and-right (leb (startAt n i) (startAt n (suc i))) _ c)
+
+  -- and back
+  steady-inside : (i : ℕ) → steadyAt (n .normalized) (n .starts) (n .ends) (length (n .original)) i ≡ true → inside n i ≡ true
+  unfolding steadyAt follows inside
+  steady-inside zero e = e
+  steady-inside (suc i) e =
+      let low = leb (startAt n i) (startAt n (suc i)) in
+      let same = not (continues (getD (n .normalized) (suc i) 0)) || (eqb (startAt n i) (startAt n (suc i)) && eqb (endAt n i) (endAt n (suc i))) in
+      and-left (leb (startAt n (suc i)) (endAt n (suc i)) && leb (endAt n (suc i)) (length (n .original))) same (and-left _ low (and-left _ (leb (endAt n i) (endAt n (suc i))) e))
+
+  steady-shared : (i : ℕ) → steadyAt (n .normalized) (n .starts) (n .ends) (length (n .original)) i ≡ true → shared n i ≡ true
+  unfolding steadyAt follows shared
+  steady-shared zero e = refl
+  steady-shared (suc i) e =
+      let low = leb (startAt n i) (startAt n (suc i)) in
+      and-right (leb (startAt n (suc i)) (endAt n (suc i)) && leb (endAt n (suc i)) (length (n .original))) _ (and-left _ low (and-left _ (leb (endAt n i) (endAt n (suc i))) e))
+
+  steady-forward : (i : ℕ) → steadyAt (n .normalized) (n .starts) (n .ends) (length (n .original)) i ≡ true → forward n i ≡ true
+  unfolding steadyAt follows forward
+  steady-forward zero e = refl
+  steady-forward (suc i) e =
+      let inner = leb (startAt n (suc i)) (endAt n (suc i)) && leb (endAt n (suc i)) (length (n .original)) && (not (continues (getD (n .normalized) (suc i) 0)) || (eqb (startAt n i) (startAt n (suc i)) && eqb (endAt n i) (endAt n (suc i)))) in
+      let most = inner && leb (startAt n i) (startAt n (suc i)) in
+      and-true _ _ (and-right inner (leb (startAt n i) (startAt n (suc i))) (and-left most (leb (endAt n i) (endAt n (suc i))) e)) (and-right most (leb (endAt n i) (endAt n (suc i))) e)
+
+  bounds-from : (i : ℕ) → onBoundaries n i ≡ true → (uncut (n .original) (startAt n i) && uncut (n .original) (endAt n i)) ≡ true
+  unfolding onBoundaries uncut
+  bounds-from i e =
+      let at : (p : ℕ) → boundary (n .original) p ≡ true → not (continues (getD (n .original) p 0)) ≡ true = λ p b. ap not (boundary-begins (n .original) p b) in
+      and-true _ _ (at (startAt n i) (and-left (boundary (n .original) (startAt n i)) _ e)) (at (endAt n i) (and-right (boundary (n .original) (startAt n i)) _ e))
+
+  bounds-back : (i : ℕ) → inside n i ≡ true → (uncut (n .original) (startAt n i) && uncut (n .original) (endAt n i)) ≡ true → onBoundaries n i ≡ true
+  unfolding inside onBoundaries uncut
+  bounds-back i a e =
+      let low : startAt n i ≤ endAt n i = leb-true _ _ (and-left (leb (startAt n i) (endAt n i)) _ a) in
+      let high : endAt n i ≤ length (n .original) = leb-true _ _ (and-right (leb (startAt n i) (endAt n i)) _ a) in
+      let first = not (continues (getD (n .original) (startAt n i) 0)) in
+      and-true _ _
+      (boundary-at (n .original) (startAt n i) (omega arith) (not-true _ (and-left first _ e)))
+      (boundary-at (n .original) (endAt n i) high (not-true _ (and-right first _ e)))
+
+  -- the alignments are sound exactly when each can follow the one before it and none cuts a character
+  pub aligned-forms : aligned n ≡ (steady (n .normalized) (n .starts) (n .ends) (length (n .original)) (length (n .normalized)) && uncutBelow (n .original) (n .starts) (n .ends) (length (n .normalized)))
+  unfolding aligned steady uncutBelow
+  aligned-forms =
+      let m = length (n .normalized) in
+      let a = everyBelow m (inside n) in
+      let b = everyBelow m (onBoundaries n) in
+      let c = everyBelow m (shared n) in
+      let d = everyBelow m (forward n) in
+      let st = steadyAt (n .normalized) (n .starts) (n .ends) (length (n .original)) in
+      let un : ℕ → Bool = λ i. uncut (n .original) (getD (n .starts) i 0) && uncut (n .original) (getD (n .ends) i 0) in
+      bool-ext _ _
+      (λ all.
+      let abc = and-left (a && b && c) d all in
+      let ab = and-left (a && b) c abc in
+      and-true _ _
+      (every-all m st (λ i h. steady-from i (every-at m (inside n) (and-left a b ab) i h) (every-at m (shared n) (and-right (a && b) c abc) i h) (every-at m (forward n) (and-right (a && b && c) d all) i h)))
+      (every-all m un (λ i h. bounds-from i (every-at m (onBoundaries n) (and-right a b ab) i h))))
+      (λ both.
+      let s = and-left (everyBelow m st) (everyBelow m un) both in
+      let u = and-right (everyBelow m st) (everyBelow m un) both in
+      let ins : (i : ℕ) → i < m → inside n i ≡ true = λ i h. steady-inside i (every-at m st s i h) in
+      and-true _ _
+      (and-true _ _
+      (and-true _ _ (every-all m (inside n) ins) (every-all m (onBoundaries n) (λ i h. bounds-back i (ins i h) (every-at m un u i h))))
+      (every-all m (shared n) (λ i h. steady-shared i (every-at m st s i h))))
+      (every-all m (forward n) (λ i h. steady-forward i (every-at m st s i h))))

@@ -1,0 +1,80 @@
+// Whether a note's alignments are sound, for a note whose texts and numbers of alignments were judged before.
+use utf8::continues;
+use validity::is_ascii;
+ghost use mathlib.Core.Path.{_≡_};
+ghost use lib.ListN.{length};
+ghost use Rattle.note.specs.Notes.{aligned, Judged};
+ghost use Rattle.note.specs.Steady.{follows, steady, uncut, uncutBelow};
+
+// Whether the alignment (s1, e1) at the byte `b` can follow (s0, e0). It has no branch, so that a loop over it is vectorised.
+fn follows(b: u8, s0: u16, e0: u16, s1: u16, e1: u16, size: u16) -> bool
+    ensures { λ r. ⌜ r ≡ follows b s0 e0 s1 e1 size ⌝ }
+{
+    (s1 <= e1)
+        & (e1 <= size)
+        & (!continues(b) | ((s0 == s1) & (e0 == e1)))
+        & (s0 <= s1)
+        & (e0 <= e1)
+}
+
+fn steady(text: &[u8], starts: &[u16], ends: &[u16], size: u16) -> bool
+    requires { ⌜ (length (now starts) ≡ length (now text)) × (length (now ends) ≡ length (now text)) ⌝ }
+    ensures { λ r. ⌜ r ≡ steady (now (text .entry)) (now (starts .entry)) (now (ends .entry)) size (length (now (text .entry))) ⌝ }
+{
+    if text.len() == 0 {
+        return true;
+    }
+    let mut ok = (starts[0] <= ends[0]) & (ends[0] <= size);
+    let mut i = 1;
+    while i < text.len() {
+        ok = ok
+            & follows(
+                text[i],
+                starts[i - 1],
+                ends[i - 1],
+                starts[i],
+                ends[i],
+                size,
+            );
+        i += 1;
+    }
+    ok
+}
+
+// Whether no character of the text is cut at `p`.
+fn uncut(original: &[u8], p: u16) -> bool
+    ensures { λ r. ⌜ r ≡ uncut (now (original .entry)) p ⌝ }
+{
+    let i = p as usize;
+    if i < original.len() {
+        return !continues(original[i]);
+    }
+    true
+}
+
+fn all_uncut(original: &[u8], starts: &[u16], ends: &[u16]) -> bool
+    requires { ⌜ length (now ends) ≡ length (now starts) ⌝ }
+    ensures { λ r. ⌜ r ≡ uncutBelow (now (original .entry)) (now (starts .entry)) (now (ends .entry)) (length (now (starts .entry))) ⌝ }
+{
+    let mut ok = true;
+    let mut i = 0;
+    while i < starts.len() {
+        ok = ok & (uncut(original, starts[i]) & uncut(original, ends[i]));
+        i += 1;
+    }
+    ok
+}
+
+// Whether the alignments are sound. An inner call: limits and numbers of alignments were judged before.
+pub fn aligned(original: &[u8], normalized: &[u8], starts: &[u16], ends: &[u16]) -> bool
+    requires { ⌜ Judged (now original) (now normalized) (now starts) (now ends) ⌝ }
+    ensures { λ r. ⌜ r ≡ aligned (record { original = now (original .entry); normalized = now (normalized .entry); starts = now (starts .entry); ends = now (ends .entry); original-shift = 0 }) ⌝ }
+{
+    if !steady(normalized, starts, ends, original.len() as u16) {
+        return false;
+    }
+    if is_ascii(original) {
+        return true;
+    }
+    all_uncut(original, starts, ends)
+}

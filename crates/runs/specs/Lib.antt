@@ -1,0 +1,3 @@
+-- What the contracts of `runs`, and of every crate that writes a lent buffer, are said with.
+pub mod Splice
+pub mod Every

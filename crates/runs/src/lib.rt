@@ -1,0 +1,52 @@
+// Runs of bytes and of 16-bit numbers, copied or filled into lent buffers.
+// Each function here is an inner one: its callers have measured the room before.
+ghost use mathlib.Core.Path.{_≡_};
+ghost use Prim.Native.Nat.{_+_, _≤_};
+ghost use lib.ListN.{length, replicate};
+ghost use Rattle.runs.specs.Splice.{splice};
+
+// `src` stands in `dst` from `at` on; all else is as it was.
+pub fn copy8(src: &[u8], dst: &mut [u8], at: usize)
+    requires { ⌜ at + length (now src) ≤ length (now dst) ⌝ }
+    ensures { λ _. ⌜ now (dst .exit) ≡ splice (now (dst .entry)) at (now (src .entry)) ⌝ }
+{
+    let mut j = 0;
+    while j < src.len() {
+        dst[at + j] = src[j];
+        j += 1;
+    }
+}
+
+pub fn copy16(src: &[u16], dst: &mut [u16], at: usize)
+    requires { ⌜ at + length (now src) ≤ length (now dst) ⌝ }
+    ensures { λ _. ⌜ now (dst .exit) ≡ splice (now (dst .entry)) at (now (src .entry)) ⌝ }
+{
+    let mut j = 0;
+    while j < src.len() {
+        dst[at + j] = src[j];
+        j += 1;
+    }
+}
+
+// `count` times `value` stands in `dst` from `at` on; all else is as it was.
+pub fn fill8(value: u8, count: usize, dst: &mut [u8], at: usize)
+    requires { ⌜ at + count ≤ length (now dst) ⌝ }
+    ensures { λ _. ⌜ now (dst .exit) ≡ splice (now (dst .entry)) at (replicate count value) ⌝ }
+{
+    let mut j = 0;
+    while j < count {
+        dst[at + j] = value;
+        j += 1;
+    }
+}
+
+pub fn fill16(value: u16, count: usize, dst: &mut [u16], at: usize)
+    requires { ⌜ at + count ≤ length (now dst) ⌝ }
+    ensures { λ _. ⌜ now (dst .exit) ≡ splice (now (dst .entry)) at (replicate count value) ⌝ }
+{
+    let mut j = 0;
+    while j < count {
+        dst[at + j] = value;
+        j += 1;
+    }
+}

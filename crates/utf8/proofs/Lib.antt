@@ -1,0 +1,4 @@
+-- Laws that belong to no one function.
+pub mod Boundaries
+pub mod Counting
+pub mod Scalars

@@ -1,0 +1,42 @@
+-- The table of what each of the 256 bytes announces as a lead byte, and the length of a character read off it.
+use Prim.Native.Nat.{ℕ, _+_, _≤_, _<_}
+use mathlib.Core.Path.{_≡_, refl}
+use mathlib.Core.Bool.{Bool, true}
+use mathlib.Core.List.{List, _++_}
+use lib.Dec.{eqb}
+use lib.ListN.{length, getD, replicate}
+use borrow.Author.Tests.{eqb-true}
+use Rattle.runs.specs.Every.{everyBelow}
+use Rattle.runs.proofs.Everywhere.{every-at}
+use Rattle.utf8.specs.Formed.{announced, wellFormed, boundary}
+
+-- document 01, Characters: a constant table of 256 entries
+unfoldable pub lengthTable : List ℕ
+lengthTable =
+    replicate 0x80 1  -- 00..7F
+    ++ (replicate 0x42 0  -- 80..C1
+    ++ (replicate 0x1E 2  -- C2..DF
+    ++ (replicate 0x10 3  -- E0..EF
+    ++ (replicate 0x05 4  -- F0..F4
+    ++ replicate 0x0B 0))))  -- F5..FF
+
+right : ℕ → Bool
+right b = eqb (getD lengthTable b 0) (announced b)
+
+-- its rule, computed at every entry
+pub getD-lengthTable : (b : ℕ) → b < 256 → getD lengthTable b 0 ≡ announced b
+unfolding everyBelow right lengthTable announced
+getD-lengthTable b h = eqb-true (getD lengthTable b 0) (announced b) (every-at 256 right refl b h)
+
+-- what a length is read of: a character of a well-formed text, and the table
+pub record CharBegins (s : List ℕ) (i : ℕ) (table : List ℕ) : Type 0 where
+  pub formed : wellFormed s ≡ true
+  pub begins : boundary s i ≡ true
+  pub more : i < length s
+  pub lent : table ≡ lengthTable
+
+-- r bytes from i on are a character of the text
+pub record CharLen (s : List ℕ) (i r : ℕ) : Type 0 where
+  pub long : r ≡ announced (getD s i 0)
+  pub inside : i + r ≤ length s
+  pub ends : boundary s (i + r) ≡ true

@@ -1,0 +1,23 @@
+-- Letter count (document 01, Characters): each character counts as one letter.
+use Prim.Native.Nat.{ℕ, zero, suc, _+_, _-_}
+use mathlib.Core.Bool.{cond}
+use mathlib.Core.List.{List, [], _∷_}
+use Rattle.utf8.specs.Formed.{announced, continues}
+
+-- the letters from a place on that is k bytes before the next character: each lead byte is one, and what it announces is passed over
+unfoldable pub lettersFrom : ℕ → List ℕ → ℕ
+lettersFrom k [] = 0
+lettersFrom zero (b ∷ s) = suc (lettersFrom (announced b - 1) s)
+lettersFrom (suc k) (b ∷ s) = lettersFrom k s
+
+unfoldable pub letters : List ℕ → ℕ
+letters s = lettersFrom 0 s
+
+-- 1 for a byte that begins a character, 0 for one that continues it
+unfoldable pub leadAt : ℕ → ℕ
+leadAt b = cond (continues b) 0 1
+
+-- the working form of `letters`: the bytes that begin a character
+unfoldable pub leads : List ℕ → ℕ
+leads [] = 0
+leads (b ∷ s) = leadAt b + leads s

@@ -1,0 +1,24 @@
+-- A scalar value and its bytes (the Unicode Standard, D76 and Table 3-6).
+use Prim.Native.Nat.{ℕ, _+_, _/_, _%_}
+use mathlib.Core.Bool.{Bool, cond, _&&_, not}
+use mathlib.Core.List.{List, [], _∷_}
+use lib.Dec.{leb, ltb}
+
+-- up to U+10FFFF, surrogates excepted
+unfoldable pub scalar : ℕ → Bool
+scalar c = leb c 0x10FFFF && not (leb 0xD800 c && leb c 0xDFFF)
+
+-- six bits of c in a byte that continues a character
+abbrev pub sixBits : ℕ → ℕ
+sixBits c = 0x80 + c % 64
+
+unfoldable pub encoded : ℕ → List ℕ
+encoded c =
+    cond (ltb c 0x80) (c ∷ [])
+    (cond (ltb c 0x800) ((0xC0 + c / 64) ∷ sixBits c ∷ [])
+    (cond (ltb c 0x10000) ((0xE0 + c / 4096) ∷ sixBits (c / 64) ∷ sixBits c ∷ [])
+    ((0xF0 + c / 262144) ∷ sixBits (c / 4096) ∷ sixBits (c / 64) ∷ sixBits c ∷ [])))
+
+-- the bytes of a scalar value, and none of any other number
+unfoldable pub bytesOf : ℕ → List ℕ
+bytesOf c = cond (scalar c) (encoded c) []

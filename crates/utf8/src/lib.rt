@@ -1,0 +1,81 @@
+// Characters: announced lengths, well-formed UTF-8, boundaries, letter counts, a scalar value's bytes.
+pub mod count;
+pub mod lead;
+
+ghost use mathlib.Core.Path.{_≡_};
+ghost use Rattle.utf8.specs.Encoding.{EncodedAs};
+ghost use Rattle.utf8.specs.Formed.{boundary, continues};
+
+// Whether a byte continues a character.
+pub fn continues(b: u8) -> bool
+    ensures { λ r. ⌜ r ≡ continues b ⌝ }
+{
+    (0x80 <= b) & (b <= 0xBF)
+}
+
+// Whether a character begins at `i`, or the text ends there.
+pub fn is_char_boundary(s: &[u8], i: usize) -> bool
+    ensures { λ r. ⌜ r ≡ boundary (now (s .entry)) i ⌝ }
+{
+    if i < s.len() {
+        return !continues(s[i]);
+    }
+    i == s.len()
+}
+
+// A scalar value's bytes: the first `len` of `bytes`, the rest 0. A surrogate, or a number above U+10FFFF, has none.
+pub struct Encoded {
+    pub len: usize,
+    pub bytes: [u8; 4],
+}
+
+pub fn encode_utf8(c: u32) -> Encoded
+    ensures { λ r. ⌜ EncodedAs c r ⌝ }
+{
+    if c < 0x80 {
+        return Encoded {
+            len: 1,
+            bytes: [c as u8, 0, 0, 0],
+        };
+    }
+    if c < 0x800 {
+        return Encoded {
+            len: 2,
+            bytes: [(0xC0 + c / 64) as u8, (0x80 + c % 64) as u8, 0, 0],
+        };
+    }
+    if c < 0x10000 {
+        if 0xD800 <= c {
+            if c <= 0xDFFF {
+                return Encoded {
+                    len: 0,
+                    bytes: [0; 4],
+                };
+            }
+        }
+        return Encoded {
+            len: 3,
+            bytes: [
+                (0xE0 + c / 4096) as u8,
+                (0x80 + c / 64 % 64) as u8,
+                (0x80 + c % 64) as u8,
+                0,
+            ],
+        };
+    }
+    if c <= 0x10FFFF {
+        return Encoded {
+            len: 4,
+            bytes: [
+                (0xF0 + c / 262144) as u8,
+                (0x80 + c / 4096 % 64) as u8,
+                (0x80 + c / 64 % 64) as u8,
+                (0x80 + c % 64) as u8,
+            ],
+        };
+    }
+    Encoded {
+        len: 0,
+        bytes: [0; 4],
+    }
+}

@@ -1,0 +1,45 @@
+-- The fast form of well-formedness: a byte is judged by itself and the three before it, so that a run of bytes is judged at once.
+use Prim.Native.Nat.{ℕ, _+_}
+use mathlib.Core.Bool.{Bool, xor, _&&_, _||_, not}
+use mathlib.Core.List.{List, _∷_}
+use lib.Dec.{leb, ltb}
+use lib.ListN.{length, getD, drop}
+use Rattle.runs.specs.Every.{everyBelow}
+use Rattle.utf8.specs.Formed.{second}
+use Rattle.utf8.specs.Table.{within}
+
+-- every byte is below 80
+unfoldable pub ascii : List ℕ → Bool
+ascii s = everyBelow (length s) (λ i. ltb (getD s i 0) 0x80)
+
+-- a character is not at its end after b3, b2, b1
+unfoldable pub pending : ℕ → ℕ → ℕ → Bool
+pending b3 b2 b1 = leb 0xC0 b1 || leb 0xE0 b2 || leb 0xF0 b3
+
+-- a byte that stands in no row of Table 3-7: C0, C1, F5..FF
+unfoldable pub never : ℕ → Bool
+never b0 = (leb 0xC0 b0 && ltb b0 0xC2) || leb 0xF5 b0
+
+-- b0 cannot stand after b3, b2, b1: it continues a character where none is pending, or none where one is
+unfoldable pub faulty : ℕ → ℕ → ℕ → ℕ → Bool
+faulty b3 b2 b1 b0 = xor (pending b3 b2 b1) (within (second b1) b0) || never b0
+
+-- the fourth byte of a window can stand where it does; bytes past the end are 0
+unfoldable pub calm : List ℕ → Bool
+calm w = not (faulty (getD w 0 0) (getD w 1 0) (getD w 2 0) (getD w 3 0))
+
+-- the first n windows of w are
+unfoldable pub calmFirst : List ℕ → ℕ → Bool
+calmFirst w n = everyBelow n (λ i. calm (drop i w))
+
+-- the text after three bytes 0; past its end are bytes 0 too
+unfoldable pub paddedAt : List ℕ → ℕ → ℕ
+paddedAt s k = getD (0 ∷ 0 ∷ 0 ∷ s) k 0
+
+-- the window that ends at i in the text
+unfoldable pub calmAt : List ℕ → ℕ → Bool
+calmAt s i = calm (drop i (0 ∷ 0 ∷ 0 ∷ s))
+
+-- the n windows from there on
+unfoldable pub calmFrom : List ℕ → ℕ → ℕ → Bool
+calmFrom s i n = everyBelow n (λ j. calmAt s (i + j))
