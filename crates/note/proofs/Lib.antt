@@ -1,3 +1,6 @@
 -- Laws that belong to no one function.
 pub mod Aligning
 pub mod Checking
+pub mod Columns
+pub mod CharRanges
+pub mod Answers

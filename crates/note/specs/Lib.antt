@@ -4,3 +4,4 @@ pub mod Notes
 pub mod Steady
 pub mod Starting
 pub mod Counting
+pub mod StartingSound

@@ -1,8 +1,11 @@
 // The exported calls, for C and Rust: include/zulmyren.h says what each means. Nothing else is exported.
+use note::LetterCount;
 ghost use mathlib.Core.Path.{_≡_};
 ghost use Rattle.utf8.specs.Formed.{wellFormed};
+ghost use Rattle.note.specs.Counting.{letterCount};
 ghost use Rattle.note.specs.Notes.{noteFaults};
 ghost use Rattle.note.specs.Refusals.{answerOf, verdict};
+ghost use Rattle.zulmyren.specs.Calls.{countOf, StartedCall};
 
 #[no_mangle]
 pub extern "C" fn zulmyren_well_formed(text: &[u8]) -> bool
@@ -22,4 +25,31 @@ pub extern "C" fn zulmyren_check_note(
     ensures { λ r. ⌜ r ≡ answerOf (verdict (noteFaults (record { original = now (original .entry); normalized = now (normalized .entry); starts = now (starts .entry); ends = now (ends .entry); original-shift = «original_shift» }))) ⌝ }
 {
     note::answer(note::check_note(original, normalized, starts, ends, original_shift))
+}
+
+#[no_mangle]
+pub extern "C" fn zulmyren_from_text(text: &[u8], starts: &mut [u16], ends: &mut [u16]) -> u32
+    ensures { λ r. ⌜ StartedCall (now (text .entry)) (now (starts .entry)) (now (ends .entry)) r (now (starts .exit)) (now (ends .exit)) ⌝ }
+{
+    note::answer(note::starting::from_text(text, starts, ends))
+}
+
+// The answer of a count: the refusal's number, or 0 and the count.
+#[repr(C)]
+pub struct Count {
+    pub refusal: u32,
+    pub count: u32,
+}
+
+#[no_mangle]
+pub extern "C" fn zulmyren_letter_count(text: &[u8], start: u32, end: u32) -> Count
+    ensures { λ r. ⌜ r ≡ countOf (letterCount (now (text .entry)) start end) ⌝ }
+{
+    match note::letters::letter_count(text, start, end) {
+        LetterCount::Letters(count) => Count { refusal: 0, count },
+        LetterCount::Unread(k) => Count {
+            refusal: note::number(k),
+            count: 0,
+        },
+    }
 }

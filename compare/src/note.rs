@@ -1,0 +1,72 @@
+//! A note as the library is lent it, and a second check of its soundness, written from document 01 over `core::str`.
+
+use crate::tally::{hex, numbers};
+use crate::texts::LIMIT;
+use std::fmt;
+use tokenizers::NormalizedString;
+
+#[derive(Clone)]
+pub struct Note {
+    pub original: Vec<u8>,
+    pub normalized: Vec<u8>,
+    pub starts: Vec<u16>,
+    pub ends: Vec<u16>,
+    pub original_shift: u32,
+}
+
+impl From<&NormalizedString> for Note {
+    fn from(note: &NormalizedString) -> Self {
+        let narrow = |position: usize| u16::try_from(position).expect("a position of a text within the limit");
+        Note {
+            original: note.get_original().into(),
+            normalized: note.get().into(),
+            starts: note.alignments().iter().map(|&(start, _)| narrow(start)).collect(),
+            ends: note.alignments().iter().map(|&(_, end)| narrow(end)).collect(),
+            original_shift: note.original_shift() as u32,
+        }
+    }
+}
+
+impl Note {
+    /// 0, or the first met of 2, 3, 1 and 4.
+    pub fn refusal(&self) -> u32 {
+        let shifted = self.original_shift as usize + self.original.len();
+        if self.normalized.len().max(shifted) > LIMIT {
+            return 2;
+        }
+        let bytes = self.normalized.len();
+        if (self.starts.len(), self.ends.len()) != (bytes, bytes) {
+            return 3;
+        }
+        match (std::str::from_utf8(&self.original), std::str::from_utf8(&self.normalized)) {
+            (Ok(original), Ok(normalized)) if self.is_sound(original, normalized) => 0,
+            (Ok(_), Ok(_)) => 4,
+            _ => 1,
+        }
+    }
+
+    fn is_sound(&self, original: &str, normalized: &str) -> bool {
+        let alignments: Vec<(u16, u16)> = self.starts.iter().copied().zip(self.ends.iter().copied()).collect();
+        // `str::get` is there for start ≤ end ≤ length, both on character boundaries, and for nothing else.
+        let inside = alignments.iter().all(|&(start, end)| original.get(start.into()..end.into()).is_some());
+        let whole = normalized.char_indices().all(|(at, character)| {
+            let of_character = &alignments[at..at + character.len_utf8()];
+            of_character.iter().all(|alignment| *alignment == of_character[0])
+        });
+        inside && whole && self.starts.is_sorted() && self.ends.is_sorted()
+    }
+}
+
+impl fmt::Display for Note {
+    fn fmt(&self, f: &mut fmt::Formatter<'_>) -> fmt::Result {
+        write!(
+            f,
+            "original {}, normalized {}, starts {}, ends {}, shift {}",
+            hex(&self.original),
+            hex(&self.normalized),
+            numbers(&self.starts),
+            numbers(&self.ends),
+            self.original_shift
+        )
+    }
+}

@@ -1,0 +1,109 @@
+//! The Rust original: files of the folder that TOKENIZERS_SRC names, each included whole and unchanged, and thin
+//! stand-ins for what they lean on that the folder does not have. They only let the files compile; no comparison runs
+//! one.
+
+use std::iter::Empty;
+
+pub use normalizer::{NormalizedString, OffsetReferential};
+
+pub type Error = Box<dyn std::error::Error + Send + Sync>;
+pub type Result<T> = std::result::Result<T, Error>;
+pub type Offsets = (usize, usize);
+
+/// `log::trace!`, with no logger: the arguments are type-checked and never evaluated.
+macro_rules! trace {
+    ($($argument:tt)+) => {
+        if false {
+            let _ = format_args!($($argument)+);
+        }
+    };
+}
+
+pub mod pattern {
+    include!(concat!(env!("TOKENIZERS_SRC"), "/src/tokenizer/pattern.rs"));
+}
+
+pub mod normalizer {
+    include!(concat!(env!("TOKENIZERS_SRC"), "/src/tokenizer/normalizer.rs"));
+
+    /// A child module, since only such a one reaches the private fields.
+    mod fields {
+        use super::NormalizedString;
+        use crate::Offsets;
+
+        impl NormalizedString {
+            pub fn of_fields(
+                original: String,
+                normalized: String,
+                alignments: Vec<Offsets>,
+                original_shift: usize,
+            ) -> Self {
+                Self { original, normalized, alignments, original_shift }
+            }
+
+            pub fn alignments(&self) -> &[Offsets] {
+                &self.alignments
+            }
+
+            pub fn original_shift(&self) -> usize {
+                self.original_shift
+            }
+        }
+    }
+}
+
+pub mod pre_tokenizer {
+    include!(concat!(env!("TOKENIZERS_SRC"), "/src/tokenizer/pre_tokenizer.rs"));
+}
+
+pub mod utils {
+    /// Of the crates `onig` or `fancy_regex`: it has no values.
+    pub enum SysRegex {}
+
+    impl SysRegex {
+        pub fn find_iter(&self, _inside: &str) -> std::iter::Empty<crate::Offsets> {
+            match *self {}
+        }
+    }
+}
+
+// The next line makes this crate the one of that name, and so the trait below its trait.
+extern crate self as unicode_normalization_alignments;
+
+pub trait UnicodeNormalization {
+    fn nfd(&self) -> Empty<(char, isize)> {
+        unimplemented!("normalization forms are not compared")
+    }
+    fn nfkd(&self) -> Empty<(char, isize)> {
+        self.nfd()
+    }
+    fn nfc(&self) -> Empty<(char, isize)> {
+        self.nfd()
+    }
+    fn nfkc(&self) -> Empty<(char, isize)> {
+        self.nfd()
+    }
+}
+
+impl UnicodeNormalization for str {}
+
+#[derive(Debug, Clone, PartialEq, Eq)]
+pub struct Token {
+    pub id: u32,
+    pub value: String,
+    pub offsets: Offsets,
+}
+
+pub enum TruncationDirection {
+    Left,
+    Right,
+}
+
+#[derive(Default)]
+pub struct Encoding {}
+
+impl FromIterator<(u32, String, Offsets, Option<u32>, u32)> for Encoding {
+    fn from_iter<I: IntoIterator<Item = (u32, String, Offsets, Option<u32>, u32)>>(_: I) -> Self {
+        unimplemented!("encodings are not compared")
+    }
+}

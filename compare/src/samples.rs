@@ -1,0 +1,179 @@
+//! Notes to compare on, and ways to damage one.
+
+use crate::note::Note;
+use crate::random::Random;
+use crate::texts::{self, KINDS, LIMIT};
+use std::iter::repeat_n;
+use tokenizers::normalizer::Range;
+use tokenizers::NormalizedString;
+
+/// A note that the Rust original edited, on an original text of `len` bytes.
+pub fn edited(len: usize, random: &mut Random) -> NormalizedString {
+    let mut note = NormalizedString::from(texts::text(*random.choose(&KINDS), len, random));
+    for _ in 0..1 + random.below(5) {
+        edit(&mut note, random);
+    }
+    note
+}
+
+fn edit(note: &mut NormalizedString, random: &mut Random) {
+    let piece: String = (0..random.below(5)).map(|_| texts::any_scalar(random)).collect();
+    match random.below(6) {
+        0 => replace(note, &piece, random),
+        1 => {
+            note.prepend(&piece);
+        }
+        2 => {
+            note.append(&piece);
+        }
+        3 => slice(note, random),
+        _ => edit_whole(note, &piece, random),
+    }
+}
+
+fn replace(note: &mut NormalizedString, content: &str, random: &mut Random) {
+    let at = texts::any_boundary(note.get(), random);
+    let literal: String = note.get()[at..].chars().take(1 + random.below(2)).collect();
+    note.replace(literal.as_str(), content).expect("a literal is a regular expression");
+}
+
+fn slice(note: &mut NormalizedString, random: &mut Random) {
+    let original = random.below(2) == 0;
+    let text = if original { note.get_original() } else { note.get() };
+    let (one, other) = (texts::any_boundary(text, random), texts::any_boundary(text, random));
+    let range = one.min(other)..one.max(other);
+    let slice = note.slice(if original { Range::Original(range) } else { Range::Normalized(range) });
+    if let Some(slice) = slice {
+        *note = slice;
+    }
+}
+
+fn edit_whole(note: &mut NormalizedString, piece: &str, random: &mut Random) {
+    // Where the original's range does not reach the first normalized byte, these edits read past their range and panic.
+    if note.convert_offsets(Range::Original(..)) != Some(0..note.len()) {
+        return;
+    }
+    let other = piece.chars().next().unwrap_or('é');
+    let modulus = 2 + random.below(5) as u32;
+    let chosen = |c: char| (c as u32).is_multiple_of(modulus);
+    match random.below(4) {
+        0 => note.filter(|c| !chosen(c)),
+        1 => note.map(|c| if chosen(c) { other } else { c }),
+        2 => note.lowercase(),
+        _ => note.uppercase(),
+    };
+}
+
+/// Two texts with any alignments that are sound, and any shift that the limit allows.
+pub fn scattered(original: String, normalized: String, random: &mut Random) -> NormalizedString {
+    let characters = normalized.chars().count();
+    let starts = sorted_boundaries(&original, characters, random);
+    let ends = sorted_boundaries(&original, characters, random);
+    let alignments = normalized
+        .chars()
+        .zip(starts.into_iter().zip(ends))
+        .flat_map(|(c, (start, end))| repeat_n((start, end.max(start)), c.len_utf8()))
+        .collect();
+    let shift = random.below(LIMIT + 1 - original.len());
+    NormalizedString::of_fields(original, normalized, alignments, shift)
+}
+
+fn sorted_boundaries(text: &str, count: usize, random: &mut Random) -> Vec<usize> {
+    let mut boundaries: Vec<usize> = (0..count).map(|_| texts::any_boundary(text, random)).collect();
+    boundaries.sort();
+    boundaries
+}
+
+/// A note of one of the three makes, on an original text of `len` bytes.
+pub fn any(len: usize, random: &mut Random) -> NormalizedString {
+    let (kind, other) = (*random.choose(&KINDS), *random.choose(&KINDS));
+    match random.below(3) {
+        0 => texts::text(kind, len, random).into(),
+        1 => edited(len, random),
+        _ => {
+            let normalized_len = random.below(LIMIT.min(2 * len) + 1);
+            let original = texts::text(kind, len, random);
+            let normalized = texts::text(other, normalized_len, random);
+            scattered(original, normalized, random)
+        }
+    }
+}
+
+/// A change at one normalized byte, by name. Some leave the note sound.
+pub type DamageAt = (&'static str, fn(&mut Note, usize));
+
+pub const DAMAGES_AT: [DamageAt; 24] = [
+    ("start + 1", |note, i| add(&mut note.starts[i..=i], 1)),
+    ("start - 1", |note, i| add(&mut note.starts[i..=i], MINUS_ONE)),
+    ("end + 1", |note, i| add(&mut note.ends[i..=i], 1)),
+    ("end - 1", |note, i| add(&mut note.ends[i..=i], MINUS_ONE)),
+    ("starts + 1 from here on", |note, i| add(&mut note.starts[i..], 1)),
+    ("starts - 1 from here on", |note, i| add(&mut note.starts[i..], MINUS_ONE)),
+    ("ends + 1 from here on", |note, i| add(&mut note.ends[i..], 1)),
+    ("ends - 1 from here on", |note, i| add(&mut note.ends[i..], MINUS_ONE)),
+    ("starts + 1 up to here", |note, i| add(&mut note.starts[..=i], 1)),
+    ("ends - 1 up to here", |note, i| add(&mut note.ends[..=i], MINUS_ONE)),
+    ("start 0", |note, i| note.starts[i] = 0),
+    ("start 65535", |note, i| note.starts[i] = u16::MAX),
+    ("end 0", |note, i| note.ends[i] = 0),
+    ("end 65535", |note, i| note.ends[i] = u16::MAX),
+    ("start the end", |note, i| note.starts[i] = note.ends[i]),
+    ("end the start", |note, i| note.ends[i] = note.starts[i]),
+    ("start and end swapped", |note, i| std::mem::swap(&mut note.starts[i], &mut note.ends[i])),
+    ("start swapped with the next", |note, i| swap_with_next(&mut note.starts, i)),
+    ("end swapped with the next", |note, i| swap_with_next(&mut note.ends, i)),
+    ("all alignments from here on this one", |note, i| {
+        repeat_from(&mut note.starts, i);
+        repeat_from(&mut note.ends, i);
+    }),
+    ("normalized byte FF", |note, i| note.normalized[i] = 0xFF),
+    ("normalized byte 80", |note, i| note.normalized[i] = 0x80),
+    ("original byte FF", |note, i| set_byte(&mut note.original, i, 0xFF)),
+    ("original byte 80", |note, i| set_byte(&mut note.original, i, 0x80)),
+];
+
+/// A change that needs no byte to be there.
+pub type Damage = (&'static str, fn(&mut Note));
+
+pub const DAMAGES: [Damage; 11] = [
+    ("starts one shorter", |note| _ = note.starts.pop()),
+    ("ends one shorter", |note| _ = note.ends.pop()),
+    ("starts one longer", |note| note.starts.push(0)),
+    ("ends one longer", |note| note.ends.push(0)),
+    ("original one shorter", |note| _ = note.original.pop()),
+    ("normalized one shorter", |note| _ = note.normalized.pop()),
+    ("original cut short by a lead byte", |note| note.original.push(0xC3)),
+    ("shift at the limit", |note| note.original_shift = shift_limit(note)),
+    ("shift past the limit", |note| note.original_shift = shift_limit(note) + 1),
+    ("shift 4294967295", |note| note.original_shift = u32::MAX),
+    ("shift and length 4294967296", |note| note.original_shift = (note.original.len() as u32).wrapping_neg()),
+];
+
+const MINUS_ONE: u16 = u16::MAX;
+
+fn add(numbers: &mut [u16], step: u16) {
+    for number in numbers {
+        *number = number.wrapping_add(step);
+    }
+}
+
+fn swap_with_next(column: &mut [u16], i: usize) {
+    if i + 1 < column.len() {
+        column.swap(i, i + 1);
+    }
+}
+
+fn repeat_from(column: &mut [u16], i: usize) {
+    let value = column[i];
+    column[i..].fill(value);
+}
+
+fn set_byte(text: &mut [u8], i: usize, byte: u8) {
+    if let Some(place) = text.get_mut(i) {
+        *place = byte;
+    }
+}
+
+fn shift_limit(note: &Note) -> u32 {
+    LIMIT.saturating_sub(note.original.len()) as u32
+}

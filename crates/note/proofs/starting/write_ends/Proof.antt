@@ -1,0 +1,81 @@
+-- Each turn writes one more end; a byte that begins a character is the end of the byte before it.
+use mathlib.Core.Path.{_∙_, sym}
+use borrow.Author.Tests.{not-true, not-false}
+use Rattle.note.proofs.CharRanges.{EndsFrom, no-ends, end-begins, end-goes-on, all-ends}
+use native.Mathlib.Omega.{arith}
+use borrow.Author.Needs.{needs}
+use Rattle.note.proofs.starting.write_ends.Statement.{statement}
+use Rattle.note.proofs.starting.write_ends.Tie as tie
+
+abbrev Inv-loop : tie.InvT-loop
+Inv-loop text ends₀ end₀ i₀ ends end i = EndsFrom text ends₀ ends end i
+
+abbrev μ-loop : tie.MeasureT-loop
+μ-loop text ends₀ end₀ i₀ ends end i = i
+
+cast-end : tie.Need-cast-end Inv-loop μ-loop
+cast-end c = omega arith
+
+loop-holds : tie.Need-loop-holds Inv-loop μ-loop
+loop-holds c = no-ends _ _ (c .before .before .pre .0)
+
+sub-i : tie.Need-sub-i Inv-loop μ-loop
+sub-i c = omega arith
+
+mul-ends : tie.Need-mul-ends Inv-loop μ-loop
+mul-ends c = omega arith
+
+slice-write-ends : tie.Need-slice-write-ends Inv-loop μ-loop
+slice-write-ends c = omega arith
+
+shared-slice-read-continues : tie.Need-shared-slice-read-continues Inv-loop μ-loop
+shared-slice-read-continues c = omega arith
+
+continues-requires : tie.Need-continues-requires Inv-loop μ-loop
+continues-requires c κs = search needs
+
+cast-end-2 : tie.Need-cast-end-2 Inv-loop μ-loop
+cast-end-2 c = omega arith
+
+loop-less : tie.Need-loop-less Inv-loop μ-loop
+loop-less c = omega arith
+
+loop-again : tie.Need-loop-again Inv-loop μ-loop
+loop-again c =
+    end-begins _ _ _ _ _ (c .before .before .before .before .loop .inv) (c .before .before .before .loop-test .taken) (c .before .before .before .before .before .before .before .pre .1 .1) (c .before .before .before .before .before .before .before .pre .0)
+    (sym (c .before .continues .ensures) ∙ not-true _ (c .if1 .taken))
+
+loop-less-2 : tie.Need-loop-less-2 Inv-loop μ-loop
+loop-less-2 c = omega arith
+
+loop-again-2 : tie.Need-loop-again-2 Inv-loop μ-loop
+loop-again-2 c =
+    end-goes-on _ _ _ _ _ (c .before .before .before .before .loop .inv) (c .before .before .before .loop-test .taken) (c .before .before .before .before .before .before .before .pre .1 .1)
+    (sym (c .before .continues .ensures) ∙ not-false _ (c .if1 .left))
+
+same-length : tie.Need-same-length Inv-loop μ-loop
+same-length c = c .before .loop .inv .filled .same
+
+returns : tie.Need-returns Inv-loop μ-loop
+returns c = all-ends _ _ _ _ _ (c .before .loop .inv) (c .loop-test .left) (c .before .before .before .before .pre .1 .1)
+
+pub write-ends-spec : {M : Type 1} → statement M
+write-ends-spec =
+    tie.close
+    (tie.spec
+    Inv-loop
+    μ-loop
+    cast-end
+    loop-holds
+    sub-i
+    mul-ends
+    slice-write-ends
+    shared-slice-read-continues
+    continues-requires
+    cast-end-2
+    loop-less
+    loop-again
+    loop-less-2
+    loop-again-2
+    same-length
+    returns)

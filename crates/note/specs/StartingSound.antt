@@ -1,0 +1,187 @@
+-- The note of a fresh text is sound, and accepted where the text is: each byte's alignment is the range of its character.
+-- Before it, the laws of that range: it holds the byte, its ends are boundaries, and it is the next byte's range or ends before it.
+use Prim.Native.Nat.{ℕ, zero, suc, _+_, _≤_, _<_}
+use mathlib.Core.Path.{_≡_, _∙_, refl, sym}
+use mathlib.Core.Bool.{true, false}
+use mathlib.Core.List.{List, [], _∷_, _++_}
+use native.Mathlib.Numerals.{add-one}
+use native.Mathlib.Omega.{arith}
+use lib.ListN.{length, getD, length-append, List·getD-append}
+use lib.Seq.{getD-at}
+use borrow.Author.Tests.{le-leb, eq-eqb}
+use Rattle.runs.proofs.Everywhere.{and-true, every-all, le-or-lt, true-or-false, clash}
+use Rattle.utf8.specs.Formed.{wellFormed, continues, announced, boundary}
+use Rattle.utf8.proofs.Boundaries.{CharAt, char-at, boundary-zero, boundary-at, boundary-begins}
+use Rattle.note.specs.declared.Verdict.the-variants.{Accepted}
+use Rattle.note.specs.Refusals.{verdict}
+use Rattle.note.specs.Notes.{limit, fits, paired, textsFormed, startAt, endAt, inside, onBoundaries, shared, forward, aligned, Sound, noteFaults}
+use Rattle.note.specs.Starting.{charStart, charEnd, column, starting}
+
+-- a column by its length and its numbers
+pub length-column : (n : ℕ) (f : ℕ → ℕ) → length (column n f) ≡ n
+unfolding column
+length-column zero f = refl
+length-column (suc n) f = rw (length-append (column n f) (f n ∷ []), length-column n f) (omega arith)
+
+pub getD-column : (n : ℕ) (f : ℕ → ℕ) (i : ℕ) → i < n → getD (column n f) i 0 ≡ f i
+unfolding column
+getD-column zero f i h = absurd (omega arith)
+getD-column (suc n) f i h =
+    let long : length (column n f) ≡ n = length-column n f in
+    le-or-lt n i
+    (λ top. let last : i ≡ n = omega arith in rw last (getD-at (column n f) (f n) [] 0 n long))
+    (λ below. List·getD-append (column n f) (f n ∷ []) 0 i (omega arith) ∙ getD-column n f i below)
+
+pub column-suc : (n : ℕ) (f : ℕ → ℕ) → column (n + 1) f ≡ column n f ++ (f n ∷ [])
+unfolding column
+column-suc n f = rw (add-one n)
+
+-- the next byte's range: the same where the byte continues the character
+pub charStart-continues : (s : List ℕ) (i : ℕ) → continues (getD s (suc i) 0) ≡ true → charStart s (suc i) ≡ charStart s i
+unfolding charStart
+charStart-continues s i e = rw e
+
+pub charStart-begins : (s : List ℕ) (i : ℕ) → continues (getD s i 0) ≡ false → charStart s i ≡ i
+unfolding charStart
+charStart-begins s zero e = refl
+charStart-begins s (suc i) e = rw e
+
+pub charEnd-continues : (s : List ℕ) (i : ℕ) → continues (getD s (suc i) 0) ≡ true → charEnd s (suc i) ≡ charEnd s i
+unfolding charEnd
+charEnd-continues s i e = rw (charStart-continues s i e)
+
+-- the range of the byte at i
+pub record Ranged (s : List ℕ) (i : ℕ) : Type 0 where
+  pub from : charStart s i ≤ i
+  pub begins : boundary s (charStart s i) ≡ true
+  pub past : i < charEnd s i
+  pub most : charEnd s i ≤ length s
+  pub ends : boundary s (charEnd s i) ≡ true
+  pub rest : (k : ℕ) → charStart s i < k → k < charEnd s i → continues (getD s k 0) ≡ true
+
+-- where the byte at i begins a character
+ranged-begins : (s : List ℕ) (i : ℕ) → wellFormed s ≡ true → boundary s i ≡ true → i < length s → Ranged s i
+unfolding charEnd
+ranged-begins s i p e h =
+    let at : CharAt s i (announced (getD s i 0)) = char-at s i p e h in
+    let here : charStart s i ≡ i = charStart-begins s i (boundary-begins s i e) in
+    record {
+      from = omega arith;
+      begins = rw here e;
+      past = rw here (omega arith);
+      most = rw here (at .inside);
+      ends = rw here (at .ends);
+      rest = rw here (at .rest);
+    }
+
+-- where the byte after it continues its character
+ranged-continues : (s : List ℕ) (i : ℕ) → Ranged s i → continues (getD s (suc i) 0) ≡ true → Ranged s (suc i)
+ranged-continues s i r more =
+    let start : charStart s (suc i) ≡ charStart s i = charStart-continues s i more in
+    let end : charEnd s (suc i) ≡ charEnd s i = charEnd-continues s i more in
+    let on : suc i < charEnd s i =
+    le-or-lt (charEnd s i) (suc i)
+    (λ last.
+    let at : charEnd s i ≡ suc i = omega arith in
+    clash (continues (getD s (suc i) 0)) more (rw at at (boundary-begins s (charEnd s i) (r .ends))))
+    (λ below. below) in
+    record {
+      from = omega arith;
+      begins = rw start (r .begins);
+      past = omega arith;
+      most = omega arith;
+      ends = rw end (r .ends);
+      rest = rw (start, end) (r .rest);
+    }
+
+pub ranged : (s : List ℕ) (i : ℕ) → wellFormed s ≡ true → i < length s → Ranged s i
+ranged s zero p h = ranged-begins s 0 p (boundary-zero s p) h
+ranged s (suc i) p h =
+    true-or-false (continues (getD s (suc i) 0))
+    (λ more. ranged-continues s i (ranged s i p (omega arith)) more)
+    (λ new. ranged-begins s (suc i) p (boundary-at s (suc i) (omega arith) new) h)
+
+-- the next byte's range begins where this one's ends, unless it continues the character
+pub charEnd-begins : (s : List ℕ) (i : ℕ) → Ranged s i → continues (getD s (suc i) 0) ≡ false → charEnd s i ≡ suc i
+charEnd-begins s i r new =
+    le-or-lt (charEnd s i) (suc i)
+    (λ last. omega arith)
+    (λ below. clash (continues (getD s (suc i) 0)) (r .rest (suc i) (omega arith) below) new)
+
+-- the two columns, number by number
+pub starting-start : (s : List ℕ) (i : ℕ) → i < length s → startAt (starting s) i ≡ charStart s i
+unfolding starting
+starting-start s i h = getD-column (length s) (charStart s) i h
+
+pub starting-end : (s : List ℕ) (i : ℕ) → i < length s → endAt (starting s) i ≡ charEnd s i
+unfolding starting
+starting-end s i h = getD-column (length s) (charEnd s) i h
+
+-- each of the four things that soundness asks of an alignment
+module _ (s : List ℕ) (p : wellFormed s ≡ true) where
+  starting-inside : (i : ℕ) → i < length s → inside (starting s) i ≡ true
+  unfolding starting inside
+  starting-inside i h =
+      let r : Ranged s i = ranged s i p h in
+      rw (starting-start s i h, starting-end s i h)
+      (and-true _ _ (le-leb (charStart s i) (charEnd s i) (omega arith)) (le-leb _ _ (r .most)))
+
+  starting-boundaries : (i : ℕ) → i < length s → onBoundaries (starting s) i ≡ true
+  unfolding starting onBoundaries
+  starting-boundaries i h =
+      let r : Ranged s i = ranged s i p h in
+      rw (starting-start s i h, starting-end s i h) (and-true _ _ (r .begins) (r .ends))
+
+  starting-shared : (i : ℕ) → i < length s → shared (starting s) i ≡ true
+  unfolding starting shared
+  starting-shared zero h = refl
+  starting-shared (suc i) h =
+      rw (starting-start s i (omega arith), starting-start s (suc i) h, starting-end s i (omega arith), starting-end s (suc i) h)
+      (true-or-false (continues (getD s (suc i) 0))
+      (λ more. rw more (and-true _ _ (eq-eqb _ _ (sym (charStart-continues s i more))) (eq-eqb _ _ (sym (charEnd-continues s i more)))))
+      (λ new. rw new))
+
+  starting-forward : (i : ℕ) → i < length s → forward (starting s) i ≡ true
+  unfolding starting forward
+  starting-forward zero h = refl
+  starting-forward (suc i) h =
+      let r : Ranged s i = ranged s i p (omega arith) in
+      let q : Ranged s (suc i) = ranged s (suc i) p h in
+      let ahead : (charStart s i ≤ charStart s (suc i)) × (charEnd s i ≤ charEnd s (suc i)) =
+      true-or-false (continues (getD s (suc i) 0))
+      (λ more. (omega (arith, charStart-continues s i more), omega (arith, charEnd-continues s i more)))
+      (λ new. (omega (arith, charStart-begins s (suc i) new), omega (arith, charEnd-begins s i r new))) in
+      rw (starting-start s i (omega arith), starting-start s (suc i) h, starting-end s i (omega arith), starting-end s (suc i) h)
+      (and-true _ _ (le-leb _ _ (ahead .0)) (le-leb _ _ (ahead .1)))
+
+  starting-aligned : aligned (starting s) ≡ true
+  unfolding starting aligned
+  starting-aligned =
+      and-true _ _
+      (and-true _ _
+      (and-true _ _ (every-all _ _ starting-inside) (every-all _ _ starting-boundaries))
+      (every-all _ _ starting-shared))
+      (every-all _ _ starting-forward)
+
+  starting-paired : paired (starting s) ≡ true
+  unfolding starting paired
+  starting-paired = and-true _ _ (eq-eqb _ _ (length-column (length s) (charStart s))) (eq-eqb _ _ (length-column (length s) (charEnd s)))
+
+  starting-formed : textsFormed (starting s) ≡ true
+  unfolding starting textsFormed
+  starting-formed = and-true _ _ p p
+
+starting-fits : (s : List ℕ) → length s ≤ limit → fits (starting s) ≡ true
+unfolding starting fits
+starting-fits s h = rw (le-leb (length s) limit h, le-leb (0 + length s) limit (omega arith))
+
+-- The note of a fresh well-formed text is sound.
+pub starting-sound : (s : List ℕ) → wellFormed s ≡ true → Sound (starting s)
+starting-sound s p =
+    record { has-pairs = starting-paired s p; has-texts = starting-formed s p; has-alignments = starting-aligned s p }
+
+-- Every call that is lent the note of a fresh well-formed text within the limit accepts it.
+pub starting-accepted : (s : List ℕ) → wellFormed s ≡ true → length s ≤ limit → verdict (noteFaults (starting s)) ≡ Accepted
+unfolding verdict
+starting-accepted s p h =
+    simp (starting-fits s h, starting-paired s p, starting-formed s p, starting-aligned s p)

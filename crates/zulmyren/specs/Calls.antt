@@ -1,0 +1,19 @@
+-- Each exported call answers the number of its verdict; its lent buffers are those of the call below.
+use Prim.Native.Nat.{ℕ}
+use mathlib.Core.Path.{_≡_}
+use mathlib.Core.List.{List}
+use lib.ListN.{length}
+use Rattle.note.specs.declared.LetterCount.{LetterCount}
+use Rattle.note.specs.declared.LetterCount.the-variants.{Letters, Unread}
+use Rattle.note.specs.Refusals.{numberOf, answerOf, verdict}
+use Rattle.note.specs.Starting.{startingFaults, Started}
+use Rattle.zulmyren.specs.declared.Count.{Count}
+
+-- the count, or the refusal's number beside 0
+abbrev pub countOf : LetterCount → Count
+countOf (Letters n) = record { refusal = 0; count = n }
+countOf (Unread k) = record { refusal = numberOf k; count = 0 }
+
+pub record StartedCall (text starts₀ ends₀ : List ℕ) (r : ℕ) (starts₁ ends₁ : List ℕ) : Type 0 where
+  pub number : r ≡ answerOf (verdict (startingFaults text (length starts₀) (length ends₀)))
+  pub buffers : Started text starts₀ ends₀ (verdict (startingFaults text (length starts₀) (length ends₀))) starts₁ ends₁

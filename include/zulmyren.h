@@ -1,0 +1,52 @@
+/* Zulmyren: notes with alignments, proved. Link target/staticlib/libzulmyren.a (`rt staticlib zulmyren`).
+ *
+ * A text is lent as a pointer and a number of bytes; a column of 16-bit numbers as a pointer and a number of elements. A pointer may be anything
+ * where its length is 0. Lent buffers that are written must not overlap with anything else that is lent to the call.
+ *
+ * A note is lent as transcript (original), cleaned text (normalized), starts and ends (one of each per cleaned byte) and shift (original_shift).
+ *
+ * A call answers 0 where it accepts, and else the number of the first refusal met, in the order 2, 3, 1, 4, 6, 8, 11, 5, 10, 7, 9:
+ *    1 torn           a text, or a string of the call, is not well-formed UTF-8
+ *    2 overlong       a text, or shift plus transcript length, is over 65,535
+ *    3 uneven         starts, ends and cleaned bytes differ in number
+ *    4 stray          alignments break soundness
+ *    5 off place      a range end past its text or inside a character
+ *    6 bad script     7 nothing left     8 broken list     11 miscounted
+ *    9 no room        the result exceeds a lent buffer, or its cleaned text 65,535 bytes
+ *   10 nothing there  the range converts to nothing
+ * A refused call writes to no buffer. An accepted one leaves what stands beyond its result as it was. No call demands anything of its input.
+ */
+#ifndef ZULMYREN_H
+#define ZULMYREN_H
+
+#include <stdbool.h>
+#include <stddef.h>
+#include <stdint.h>
+
+#ifdef __cplusplus
+extern "C" {
+#endif
+
+/* Whether a text of any length is well-formed UTF-8 (the Unicode Standard, Table 3-7). */
+bool zulmyren_well_formed(const uint8_t *text, size_t text_len);
+
+/* The letters, one for each character, of the bytes start..end of a text. Refusals: 2, 1, 5 (start > end too). count is 0 where it refuses. */
+typedef struct {
+    uint32_t refusal;
+    uint32_t count;
+} zulmyren_count;
+zulmyren_count zulmyren_letter_count(const uint8_t *text, size_t text_len, uint32_t start, uint32_t end);
+
+/* Whether a lent note is sound and within the limits. Refusals: 2, 3, 1, 4. */
+uint32_t zulmyren_check_note(const uint8_t *original, size_t original_len, const uint8_t *normalized, size_t normalized_len,
+                             const uint16_t *starts, size_t starts_len, const uint16_t *ends, size_t ends_len, uint32_t original_shift);
+
+/* The note of a fresh text (Rust: NormalizedString::from): cleaned text and transcript are `text`, the shift is 0, and the first text_len starts and
+ * ends are written: each byte's character's byte range. Refusals: 2, 1, 9 (starts_len or ends_len below text_len). */
+uint32_t zulmyren_from_text(const uint8_t *text, size_t text_len, uint16_t *starts, size_t starts_len, uint16_t *ends, size_t ends_len);
+
+#ifdef __cplusplus
+}
+#endif
+
+#endif
