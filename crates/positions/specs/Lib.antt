@@ -1,0 +1,3 @@
+-- Character positions (document 01).
+pub mod Positions
+pub mod Bounded
