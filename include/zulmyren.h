@@ -45,6 +45,23 @@ uint32_t zulmyren_check_note(const uint8_t *original, size_t original_len, const
  * ends are written: each byte's character's byte range. Refusals: 2, 1, 9 (starts_len or ends_len below text_len). */
 uint32_t zulmyren_from_text(const uint8_t *text, size_t text_len, uint16_t *starts, size_t starts_len, uint16_t *ends, size_t ends_len);
 
+/* Two numbers, or a refusal beside 0 and 0. */
+typedef struct {
+    uint32_t refusal;
+    uint32_t start;
+    uint32_t end;
+} zulmyren_offsets;
+
+/* A pair of bytes of a text as a pair of its characters (Rust: BytesToCharOffsetConverter::convert): byte b is the character that it belongs to; an end
+ * past the text is the character of end - 1, plus 1, or where that is past it too the start's character plus 2. Refusals: 2, 1, 10 (start past the text). */
+zulmyren_offsets zulmyren_char_offsets(const uint8_t *text, size_t text_len, uint32_t start, uint32_t end);
+
+/* The same for a list of pairs, in one pass where they are in order. For each pair numbers, char_starts and char_ends get 0 and its two characters, or 10
+ * beside 0 and 0. Refusals of the call: 2, 3 (starts_len differs from ends_len), 1, 9 (a written column shorter than starts_len). */
+uint32_t zulmyren_char_offsets_all(const uint8_t *text, size_t text_len, const uint32_t *starts, size_t starts_len, const uint32_t *ends, size_t ends_len,
+                                   uint8_t *numbers, size_t numbers_len, uint32_t *char_starts, size_t char_starts_len, uint32_t *char_ends,
+                                   size_t char_ends_len);
+
 #ifdef __cplusplus
 }
 #endif

@@ -7,7 +7,11 @@ use Rattle.note.specs.declared.LetterCount.{LetterCount}
 use Rattle.note.specs.declared.LetterCount.the-variants.{Letters, Unread}
 use Rattle.note.specs.Refusals.{numberOf, answerOf, verdict}
 use Rattle.note.specs.Starting.{startingFaults, Started}
+use Rattle.positions.specs.declared.CharOffsets.{CharOffsets}
+use Rattle.positions.specs.declared.CharOffsets.the-variants.{Chars, Refused}
+use Rattle.positions.specs.Positions.{listFaults, ConvertedAll}
 use Rattle.zulmyren.specs.declared.Count.{Count}
+use Rattle.zulmyren.specs.declared.Offsets.{Offsets}
 
 -- the count, or the refusal's number beside 0
 abbrev pub countOf : LetterCount → Count
@@ -17,3 +21,12 @@ countOf (Unread k) = record { refusal = numberOf k; count = 0 }
 pub record StartedCall (text starts₀ ends₀ : List ℕ) (r : ℕ) (starts₁ ends₁ : List ℕ) : Type 0 where
   pub number : r ≡ answerOf (verdict (startingFaults text (length starts₀) (length ends₀)))
   pub buffers : Started text starts₀ ends₀ (verdict (startingFaults text (length starts₀) (length ends₀))) starts₁ ends₁
+
+-- the two numbers, or the refusal's number beside 0 and 0
+abbrev pub charsOf : CharOffsets → Offsets
+charsOf (Chars a e) = record { refusal = 0; start = a .0; end = e .0 }
+charsOf (Refused k) = record { refusal = numberOf k; start = 0; end = 0 }
+
+pub record ConvertedCall (text starts ends n₀ a₀ e₀ : List ℕ) (r : ℕ) (n₁ a₁ e₁ : List ℕ) : Type 0 where
+  pub number : r ≡ answerOf (verdict (listFaults text starts ends (length n₀) (length a₀) (length e₀)))
+  pub buffers : ConvertedAll text starts ends n₀ a₀ e₀ (verdict (listFaults text starts ends (length n₀) (length a₀) (length e₀))) n₁ a₁ e₁

@@ -1,11 +1,13 @@
 // The exported calls, for C and Rust: include/zulmyren.h says what each means. Nothing else is exported.
-use note::LetterCount;
+use note::{LetterCount, OriginalByte};
+use positions::CharOffsets;
 ghost use mathlib.Core.Path.{_≡_};
 ghost use Rattle.utf8.specs.Formed.{wellFormed};
 ghost use Rattle.note.specs.Counting.{letterCount};
 ghost use Rattle.note.specs.Notes.{noteFaults};
 ghost use Rattle.note.specs.Refusals.{answerOf, verdict};
-ghost use Rattle.zulmyren.specs.Calls.{countOf, StartedCall};
+ghost use Rattle.positions.specs.Positions.{converted};
+ghost use Rattle.zulmyren.specs.Calls.{countOf, charsOf, ConvertedCall, StartedCall};
 
 #[no_mangle]
 pub extern "C" fn zulmyren_well_formed(text: &[u8]) -> bool
@@ -52,4 +54,44 @@ pub extern "C" fn zulmyren_letter_count(text: &[u8], start: u32, end: u32) -> Co
             count: 0,
         },
     }
+}
+
+// The answer of a range or a pair: the refusal's number, or 0 and two numbers.
+#[repr(C)]
+pub struct Offsets {
+    pub refusal: u32,
+    pub start: u32,
+    pub end: u32,
+}
+
+#[no_mangle]
+pub extern "C" fn zulmyren_char_offsets(text: &[u8], start: u32, end: u32) -> Offsets
+    ensures { λ r. ⌜ r ≡ charsOf (converted (now (text .entry)) start end) ⌝ }
+{
+    match positions::convert(text, OriginalByte(start), OriginalByte(end)) {
+        CharOffsets::Chars(first, last) => Offsets {
+            refusal: 0,
+            start: first.0,
+            end: last.0,
+        },
+        CharOffsets::Refused(k) => Offsets {
+            refusal: note::number(k),
+            start: 0,
+            end: 0,
+        },
+    }
+}
+
+#[no_mangle]
+pub extern "C" fn zulmyren_char_offsets_all(
+    text: &[u8],
+    starts: &[u32],
+    ends: &[u32],
+    numbers: &mut [u8],
+    char_starts: &mut [u32],
+    char_ends: &mut [u32],
+) -> u32
+    ensures { λ r. ⌜ ConvertedCall (now (text .entry)) (now (starts .entry)) (now (ends .entry)) (now (numbers .entry)) (now («char_starts» .entry)) (now («char_ends» .entry)) r (now (numbers .exit)) (now («char_starts» .exit)) (now («char_ends» .exit)) ⌝ }
+{
+    note::answer(positions::convert_all(text, starts, ends, numbers, char_starts, char_ends))
 }
