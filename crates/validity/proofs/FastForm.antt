@@ -34,7 +34,7 @@ unfolding second
 second-plain b h =
     simp (ne-eqb b 0xE0 (λ e. omega arith), ne-eqb b 0xF0 (λ e. omega arith), ne-eqb b 0xED (λ e. omega arith), ne-eqb b 0xF4 (λ e. omega arith))
 
-asked-none : (b : ℕ) → b < 0x80 → asked b ≡ []
+pub asked-none : (b : ℕ) → b < 0x80 → asked b ≡ []
 unfolding asked announced
 asked-none b h = simp (lt-ltb b 0x80 h)
 
@@ -76,7 +76,7 @@ never-lead b e h =
     (λ big. le-or-lt 0xF5 b (λ top. clash (never b) (simp (le-ltb b 0xC2 big, le-leb 0xC0 b h, le-leb 0xF5 b top)) e) (λ low. (big, low)))
     (λ small. clash (never b) (simp (lt-ltb b 0xC2 small, le-leb 0xC0 b h)) e)
 
-announced-ascii : (b : ℕ) → b < 0x80 → announced b ≡ 1
+pub announced-ascii : (b : ℕ) → b < 0x80 → announced b ≡ 1
 unfolding announced
 announced-ascii b h = simp (lt-ltb b 0x80 h)
 
@@ -114,7 +114,7 @@ module _ (b3 b2 b1 : ℕ) where
   unfolding wanted
   wanted-none h k l = simp (lt-leb 0xC0 b1 h, lt-leb 0xE0 b2 k, lt-leb 0xF0 b3 l)
 
-  pending-1 : 0xC0 ≤ b1 → pending b3 b2 b1 ≡ true
+  pub pending-1 : 0xC0 ≤ b1 → pending b3 b2 b1 ≡ true
   unfolding pending
   pending-1 h = simp (le-leb 0xC0 b1 h)
 

@@ -2,3 +2,4 @@
 pub mod FastForm
 pub mod Padding
 pub mod Ascii
+pub mod Tiers

@@ -1,15 +1,15 @@
--- Windows of four bytes: read one by one, counted in a block, cut into blocks.
+-- Windows of four bytes: read one by one, along the text and in a block of it.
 use Prim.Native.Nat.{ℕ, zero, suc, _+_, _-_, _≤_, _<_}
 use mathlib.Core.Path.{_≡_, _∙_, ap, refl, sym}
-use mathlib.Core.Bool.{Bool, true, false, _&&_, _||_, not}
-use mathlib.Core.List.{List, [], _∷_}
+use mathlib.Core.Bool.{Bool, true, false, _&&_, not}
+use mathlib.Core.List.{List, _∷_}
 use native.Mathlib.Nat.{add-zero, zero-add}
 use native.Mathlib.Omega.{arith}
-use lib.ListN.{length, getD, take, drop, List·getD-eq-default}
-use lib.Seq.{getD-take, getD-drop, drop-drop}
+use lib.ListN.{length, getD, drop, length-take, length-drop, List·getD-eq-default}
+use lib.Seq.{getD-take, getD-drop}
 use Rattle.runs.specs.Every.{everyBelow}
 use Rattle.runs.specs.Splice.{part}
-use Rattle.runs.proofs.Everywhere.{every-suc, every-not, every-add, every-ext, and-true, and-false-l, and-false-r}
+use Rattle.runs.proofs.Everywhere.{every-suc, every-not, every-add, every-ext, and-true, and-false-l}
 use Rattle.utf8.specs.Formed.{wellFormed}
 use Rattle.validity.specs.Windows.{faulty, calm, calmFirst, paddedAt, calmAt, calmFrom}
 use Rattle.validity.proofs.FastForm.{formed-calm}
@@ -40,44 +40,24 @@ pub calm-padded : (s : List ℕ) (i b3 b2 b1 b0 : ℕ) (f : Bool) → b3 ≡ pad
 unfolding paddedAt calmAt
 calm-padded s i b3 b2 b1 b0 f e3 e2 e1 e0 e = calm-read (0 ∷ 0 ∷ 0 ∷ s) i f (rw (← e3, ← e2, ← e1, ← e0) e)
 
-not-not : (a : Bool) → not (not a) ≡ a
-not-not true = refl
-not-not false = refl
-
-de-morgan : (a b : Bool) → (not a || b) ≡ not (a && not b)
-de-morgan true true = refl
-de-morgan true false = refl
-de-morgan false b = refl
-
--- one more window of a block
-pub none-bad : (w : List ℕ) → false ≡ not (calmFirst w 0)
-unfolding calmFirst everyBelow
-none-bad w = refl
-
-pub more-bad : (w : List ℕ) (j : ℕ) (bad f : Bool) → bad ≡ not (calmFirst w j) → f ≡ faulty (getD w j 0) (getD w (j + 1) 0) (getD w (j + 2) 0) (getD w (j + 3) 0) → (bad || f) ≡ not (calmFirst w (j + 1))
-unfolding calmFirst
-more-bad w j bad f p q =
-    rw (every-suc j (λ (i : ℕ). calm (drop i w)), p, ← calm-read w j f q) (de-morgan (everyBelow j (λ (i : ℕ). calm (drop i w))) f)
-
 -- a window of a block is the window of the text there
-window-calm : (s : List ℕ) (i j : ℕ) → 3 ≤ i → j < 128 → calm (drop j (part s (i - 3) (i + 128))) ≡ calmAt s (i + j)
+window-calm : (s : List ℕ) (i e j : ℕ) → 3 ≤ i → j < e - i → calm (drop j (part s (i - 3) e)) ≡ calmAt s (i + j)
 unfolding calm calmAt paddedAt
-window-calm s i j low below =
-    let at : (k : ℕ) → k < 4 → getD (drop j (part s (i - 3) (i + 128))) k 0 ≡ getD (drop (i + j) (0 ∷ 0 ∷ 0 ∷ s)) k 0 =
+window-calm s i e j low below =
+    let at : (k : ℕ) → k < 4 → getD (drop j (part s (i - 3) e)) k 0 ≡ getD (drop (i + j) (0 ∷ 0 ∷ 0 ∷ s)) k 0 =
     λ k small.
-    getD-drop j (part s (i - 3) (i + 128)) k 0 ∙ getD-take (i + 128 - (i - 3)) (drop (i - 3) s) (j + k) 0 (omega arith)
+    getD-drop j (part s (i - 3) e) k 0 ∙ getD-take (e - (i - 3)) (drop (i - 3) s) (j + k) 0 (omega arith)
     ∙ getD-drop (i - 3) s (j + k) 0
     ∙ ap (λ (m : ℕ). getD s m 0) (let same : i - 3 + (j + k) ≡ i + j + k - 3 = omega arith in same)
     ∙ sym (padded-high s (i + j + k) (omega arith)) ∙ sym (getD-drop (i + j) (0 ∷ 0 ∷ 0 ∷ s) k 0) in
     rw (at 0 (omega arith), at 1 (omega arith), at 2 (omega arith), at 3 (omega arith))
 
-pub block-done : (w : List ℕ) (j : ℕ) (bad : Bool) → bad ≡ not (calmFirst w j) → j ≤ 128 → 128 ≤ j → not bad ≡ calmFirst w 128
-block-done w j bad p most least = let full : j ≡ 128 = omega arith in ap not p ∙ not-not (calmFirst w j) ∙ ap (calmFirst w) full
-
--- a block of the text at i: its windows are the text's
-pub block-calm : (s : List ℕ) (i : ℕ) → 3 ≤ i → i + 128 ≤ length s → calmFirst (part s (i - 3) (i + 128)) 128 ≡ calmFrom s i 128
+-- a block of the text from i to e, with the three bytes before it: its windows are the text's
+block-calm : (s : List ℕ) (i e : ℕ) → 3 ≤ i → e ≤ length s → calmFirst (part s (i - 3) e) (length (part s (i - 3) e) - 3) ≡ calmFrom s i (e - i)
 unfolding calmFirst calmFrom
-block-calm s i low room = every-ext 128 _ _ (λ j below. window-calm s i j low below)
+block-calm s i e low room =
+    let size : length (part s (i - 3) e) - 3 ≡ e - i = simp (length-take, length-drop) (omega arith) in
+    rw size (every-ext (e - i) _ _ (λ j below. window-calm s i e j low below))
 
 -- from one place on: none yet, one more, a block more, all of the text
 pub from-none : (s : List ℕ) (i : ℕ) → calmFrom s i 0 ≡ true
@@ -147,14 +127,15 @@ pub record Blocks (s : List ℕ) (i : ℕ) : Type 0 where
   pub most : i ≤ length s + 3
   pub calm-so-far : calmFrom s 0 i ≡ true
 
-pub blocks-more : (s : List ℕ) (i : ℕ) (r : Bool) → Blocks s i → i + 128 ≤ length s → r ≡ calmFirst (part s (i - 3) (i + 128)) 128 → r ≡ true → Blocks s (i + 128)
-blocks-more s i r b room e t =
-    record {
-      least = omega (arith, b .least);
-      most = omega arith;
-      calm-so-far = from-add s 0 i 128 ∙ and-true _ _ (b .calm-so-far) (ap (λ (m : ℕ). calmFrom s m 128) (zero-add i) ∙ sym (block-calm s i (b .least) room) ∙ sym e ∙ t);
-    }
+module _ (s : List ℕ) (i e : ℕ) (r : Bool) (b : Blocks s i) (room : (i < e) × (e ≤ length s)) (says : r ≡ calmFirst (part s (i - 3) e) (length (part s (i - 3) e) - 3)) where
+  -- the block is judged with all before it
+  with-block : calmFrom s 0 e ≡ r
+  with-block =
+      let whole : i + (e - i) ≡ e = omega arith in
+      ap (calmFrom s 0) (sym whole) ∙ from-add s 0 i (e - i) ∙ rw (b .calm-so-far, zero-add i) (sym (block-calm s i e (b .least) (room .1)) ∙ sym says)
 
-pub blocks-fault : (s : List ℕ) (i : ℕ) (r : Bool) → Blocks s i → i + 128 ≤ length s → r ≡ calmFirst (part s (i - 3) (i + 128)) 128 → r ≡ false → wellFormed s ≡ false
-blocks-fault s i r b room e t =
-    stretch-fault s (i + 128) (omega arith) (from-add s 0 i 128 ∙ and-false-r (calmFrom s 0 i) (calmFrom s (0 + i) 128) (ap (λ (m : ℕ). calmFrom s m 128) (zero-add i) ∙ sym (block-calm s i (b .least) room) ∙ sym e ∙ t))
+  pub blocks-more : r ≡ true → Blocks s e
+  blocks-more t = record { least = omega arith; most = omega arith; calm-so-far = with-block ∙ t }
+
+  pub blocks-fault : r ≡ false → wellFormed s ≡ false
+  blocks-fault t = stretch-fault s e (omega arith) (with-block ∙ t)

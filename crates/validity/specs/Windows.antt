@@ -1,7 +1,7 @@
 -- The fast form of well-formedness: a byte is judged by itself and the three before it, so that a run of bytes is judged at once.
-use Prim.Native.Nat.{ℕ, _+_}
+use Prim.Native.Nat.{ℕ, _+_, max}
 use mathlib.Core.Bool.{Bool, xor, _&&_, _||_, not}
-use mathlib.Core.List.{List, _∷_}
+use mathlib.Core.List.{List, [], _∷_}
 use lib.Dec.{leb, ltb}
 use lib.ListN.{length, getD, drop}
 use Rattle.runs.specs.Every.{everyBelow}
@@ -11,6 +11,11 @@ use Rattle.utf8.specs.Table.{within}
 -- every byte is below 80
 unfoldable pub ascii : List ℕ → Bool
 ascii s = everyBelow (length s) (λ i. ltb (getD s i 0) 0x80)
+
+-- the largest byte, or 0
+unfoldable pub largest : List ℕ → ℕ
+largest [] = 0
+largest (b ∷ s) = max b (largest s)
 
 -- a character is not at its end after b3, b2, b1
 unfoldable pub pending : ℕ → ℕ → ℕ → Bool
