@@ -1,6 +1,7 @@
 // The note: its referentials, the refusals of every call on it, the check that it is sound, and the note of a fresh text.
 pub mod aligned;
 pub mod letters;
+pub mod rewrap;
 pub mod starting;
 
 use aligned::aligned;
