@@ -62,6 +62,36 @@ uint32_t zulmyren_char_offsets_all(const uint8_t *text, size_t text_len, const u
                                    uint8_t *numbers, size_t numbers_len, uint32_t *char_starts, size_t char_starts_len, uint32_t *char_ends,
                                    size_t char_ends_len);
 
+/* A range start..end of one text of a note as a range of the other (Rust: convert_offsets). of_original says that the range is the transcript's. An empty
+ * range is answered as it is, even past the text. Refusals: 2, 3, 1, 4, 10. */
+zulmyren_offsets zulmyren_convert_offsets(
+    const uint8_t *original, size_t original_len, const uint8_t *normalized, size_t normalized_len,
+    const uint16_t *starts, size_t starts_len, const uint16_t *ends, size_t ends_len, uint32_t original_shift,
+    bool of_original, uint32_t start, uint32_t end);
+
+/* Where a range of either text stands in the cleaned text (Rust: get_range), or in the transcript (get_range_original): start..end of the text that is read.
+ * Refusals: 2, 3, 1, 4, 10 (it converts to nothing, or its end is past the text or inside a character). */
+zulmyren_offsets zulmyren_get_range(
+    const uint8_t *original, size_t original_len, const uint8_t *normalized, size_t normalized_len,
+    const uint16_t *starts, size_t starts_len, const uint16_t *ends, size_t ends_len, uint32_t original_shift,
+    bool of_original, uint32_t start, uint32_t end);
+zulmyren_offsets zulmyren_get_range_original(
+    const uint8_t *original, size_t original_len, const uint8_t *normalized, size_t normalized_len,
+    const uint16_t *starts, size_t starts_len, const uint16_t *ends, size_t ends_len, uint32_t original_shift,
+    bool of_original, uint32_t start, uint32_t end);
+
+/* Whether start..end is a part of the transcript (of_original) or of the cleaned text that can be handed out. Refusals: 2, 1, 10. */
+uint32_t zulmyren_part_verdict(const uint8_t *original, size_t original_len, const uint8_t *normalized, size_t normalized_len, bool of_original,
+                               uint32_t start, uint32_t end);
+
+/* zulmyren_convert_offsets for a list of ranges from[i]..to[i], the note checked once. For each range numbers, out_starts and out_ends get 0 and the converted
+ * range, or 10 beside 0 and 0. Refusals of the call: 2, 3 (also from_len differs from to_len), 1, 4, 9 (a written column shorter than from_len). */
+uint32_t zulmyren_convert_all(
+    const uint8_t *original, size_t original_len, const uint8_t *normalized, size_t normalized_len,
+    const uint16_t *starts, size_t starts_len, const uint16_t *ends, size_t ends_len, uint32_t original_shift,
+    bool of_original, const uint32_t *from, size_t from_len, const uint32_t *to, size_t to_len, uint8_t *numbers, size_t numbers_len,
+    uint32_t *out_starts, size_t out_starts_len, uint32_t *out_ends, size_t out_ends_len);
+
 #ifdef __cplusplus
 }
 #endif

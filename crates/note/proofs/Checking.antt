@@ -48,7 +48,18 @@ beside-none n = rw (or-none (not (textsFormed n)))
     or-none true = refl
     or-none false = refl
 
--- by what the code tests
+-- the two texts, by what the code tests
+module _ (o m : List ℕ) (r : Bool) (e : r ≡ wellFormed o) where
+  pub texts-torn : r ≡ false → false ≡ (wellFormed o && wellFormed m)
+  texts-torn f = rw (← e, f)
+
+  pub texts-same : r ≡ true → o ≡ m → true ≡ (wellFormed o && wellFormed m)
+  texts-same t same = rw (← same, ← e, t)
+
+  pub texts-both : (q : Bool) → r ≡ true → q ≡ wellFormed m → q ≡ (wellFormed o && wellFormed m)
+  texts-both q t is = rw (← e, t) is
+
+-- the note, by what the code tests
 module _ (o m s e : List ℕ) (shift : ℕ) where
   abbrev lent : Note
   lent = record { original = o; normalized = m; starts = s; ends = e; original-shift = shift }
@@ -89,17 +100,13 @@ module _ (o m s e : List ℕ) (shift : ℕ) where
       or-true true = refl
       or-true false = refl
 
-  pub torn-1 : (torn : Bool) → wellFormed o ≡ false → (not (textsFormed lent) || torn) ≡ true
+  pub torn-texts : (torn : Bool) → (wellFormed o && wellFormed m) ≡ false → (not (textsFormed lent) || torn) ≡ true
   unfolding textsFormed
-  torn-1 torn h = rw h
+  torn-texts torn h = rw h
 
-  pub torn-2 : (torn : Bool) → wellFormed o ≡ true → wellFormed m ≡ false → (not (textsFormed lent) || torn) ≡ true
+  pub torn-not : (torn : Bool) → torn ≡ false → (wellFormed o && wellFormed m) ≡ true → (not (textsFormed lent) || torn) ≡ false
   unfolding textsFormed
-  torn-2 torn g h = rw (g, h)
-
-  pub torn-not : (torn : Bool) → torn ≡ false → wellFormed o ≡ true → wellFormed m ≡ true → (not (textsFormed lent) || torn) ≡ false
-  unfolding textsFormed
-  torn-not torn t g h = rw (g, h, t)
+  torn-not torn t h = rw (h, t)
 
   -- the alignments, by their working form
   pub unsteady : (r : Bool) → r ≡ steady m s e (length o) (length m) → r ≡ false → false ≡ aligned lent

@@ -2,5 +2,7 @@
 pub mod Aligning
 pub mod Checking
 pub mod Columns
+pub mod Mirroring
 pub mod CharRanges
 pub mod Answers
+pub mod SoundAt

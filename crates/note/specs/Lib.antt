@@ -2,6 +2,7 @@
 pub mod Refusals
 pub mod Notes
 pub mod Steady
+pub mod Unedited
 pub mod Starting
 pub mod Counting
 pub mod StartingSound

@@ -82,8 +82,11 @@ noteFaults n =
 abbrev pub besideFaults : Note → Bool → Refusal → Bool
 besideFaults n torn = meets IllFormed (not (textsFormed n) || torn) (noteFaults n)
 
--- what the first two checks, 2 and 3, tell
-pub record Judged (original normalized starts ends : List ℕ) : Type 0 where
+-- what the first three checks, 2, 3 and 1, tell, and a flag that is set only where the two texts are the same
+pub record Judged (original normalized starts ends : List ℕ) (same : Bool) : Type 0 where
   pub short : length original ≤ limit
+  pub normalized-short : length normalized ≤ limit
   pub starts-paired : length starts ≡ length normalized
   pub ends-paired : length ends ≡ length normalized
+  pub formed : wellFormed normalized ≡ true
+  pub alike : same ≡ true → original ≡ normalized

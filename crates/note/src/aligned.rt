@@ -1,4 +1,5 @@
 // Whether a note's alignments are sound, for a note whose texts and numbers of alignments were judged before.
+use crate::unedited::mirrored;
 use utf8::continues;
 use validity::is_ascii;
 ghost use mathlib.Core.Path.{_≡_};
@@ -65,11 +66,16 @@ fn all_uncut(original: &[u8], starts: &[u16], ends: &[u16]) -> bool
     ok
 }
 
-// Whether the alignments are sound. An inner call: limits and numbers of alignments were judged before.
-pub fn aligned(original: &[u8], normalized: &[u8], starts: &[u16], ends: &[u16]) -> bool
-    requires { ⌜ Judged (now original) (now normalized) (now starts) (now ends) ⌝ }
+// Whether the alignments are sound. An inner call: limits, numbers of alignments and texts were judged before.
+pub fn aligned(original: &[u8], normalized: &[u8], starts: &[u16], ends: &[u16], same: bool) -> bool
+    requires { ⌜ Judged (now original) (now normalized) (now starts) (now ends) same ⌝ }
     ensures { λ r. ⌜ r ≡ aligned (record { original = now (original .entry); normalized = now (normalized .entry); starts = now (starts .entry); ends = now (ends .entry); original-shift = 0 }) ⌝ }
 {
+    if same {
+        if mirrored(normalized, starts, ends) {
+            return true;
+        }
+    }
     if !steady(normalized, starts, ends, original.len() as u16) {
         return false;
     }

@@ -3,9 +3,11 @@ pub mod aligned;
 pub mod letters;
 pub mod rewrap;
 pub mod starting;
+pub mod unedited;
 
 use aligned::aligned;
-use validity::well_formed;
+use unedited::same_bytes;
+use unedited::texts_formed;
 ghost use mathlib.Core.Path.{_≡_};
 ghost use Rattle.note.specs.Notes.{noteFaults, besideFaults};
 ghost use Rattle.note.specs.Refusals.{answerOf, numberOf, verdict};
@@ -107,13 +109,11 @@ pub fn check_beside(
     if torn {
         return Verdict::Refused(Refusal::IllFormed);
     }
-    if !well_formed(original) {
+    let same = same_bytes(original, normalized);
+    if !texts_formed(original, normalized, same) {
         return Verdict::Refused(Refusal::IllFormed);
     }
-    if !well_formed(normalized) {
-        return Verdict::Refused(Refusal::IllFormed);
-    }
-    if !aligned(original, normalized, starts, ends) {
+    if !aligned(original, normalized, starts, ends, same) {
         return Verdict::Refused(Refusal::Misaligned);
     }
     Verdict::Accepted

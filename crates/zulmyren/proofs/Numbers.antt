@@ -1,20 +1,29 @@
 -- From a call's answer to the exported number.
 use Prim.Native.Nat.{ℕ}
 use mathlib.Core.Path.{_≡_, _∙_, ap, sym}
+use mathlib.Core.Bool.{Bool}
 use mathlib.Core.List.{List}
 use Rattle.note.specs.declared.LetterCount.{LetterCount}
 use Rattle.note.specs.declared.LetterCount.the-variants.{Letters, Unread}
 use Rattle.note.specs.declared.Refusal.{Refusal}
 use Rattle.note.specs.declared.Verdict.{Verdict}
-use Rattle.note.specs.Refusals.{numberOf, answerOf}
+use Rattle.note.specs.Refusals.{numberOf, answerOf, verdict}
 use Rattle.note.specs.Starting.{Started}
 use Rattle.note.specs.declared.CharIndex.{CharIndex}
 use Rattle.positions.specs.declared.CharOffsets.{CharOffsets}
 use Rattle.positions.specs.declared.CharOffsets.the-variants.{Chars, Refused}
 use Rattle.positions.specs.Positions.{ConvertedAll}
+use Rattle.note.specs.Notes.{Note}
+use Rattle.convert.specs.declared.Range.{Range}
+use Rattle.convert.specs.declared.Converted.{Converted}
+use Rattle.convert.specs.declared.Converted.the-variants.{Found, Refused as NotFound}
+use Rattle.convert.specs.Converting.{startOf, endOf}
+use Rattle.reading.specs.Reading.{partFaults}
+use Rattle.batch.specs.declared.OffsetReferential.{OffsetReferential}
+use Rattle.batch.specs.Ranges.{rangeOf, ConvertedAll as Batch}
 use Rattle.zulmyren.specs.declared.Count.{Count}
 use Rattle.zulmyren.specs.declared.Offsets.{Offsets}
-use Rattle.zulmyren.specs.Calls.{countOf, charsOf, StartedCall, ConvertedCall}
+use Rattle.zulmyren.specs.Calls.{countOf, charsOf, sideOf, offsetsOf, StartedCall, ConvertedCall, BatchCall}
 
 pub started-call : (text starts₀ ends₀ : List ℕ) (v : Verdict) (r : ℕ) (starts₁ ends₁ : List ℕ) → Started text starts₀ ends₀ v starts₁ ends₁ → r ≡ answerOf v → StartedCall text starts₀ ends₀ r starts₁ ends₁
 started-call text starts₀ ends₀ v r starts₁ ends₁ s e = record { number = e ∙ ap answerOf (s .answer); buffers = rw (s .answer) at s }
@@ -33,3 +42,24 @@ chars-told v w a e q l = sym (ap charsOf (sym q ∙ l))
 
 pub chars-refused : (v w : CharOffsets) (k : Refusal) (r : ℕ) → v ≡ w → v ≡ Refused k → r ≡ numberOf k → record { refusal = r; start = 0; end = 0 } ≡ charsOf w
 chars-refused v w k r e l q = rw q (sym (ap charsOf (sym e ∙ l)))
+
+batch-call : (n : Note) (side : OffsetReferential) (from to n₀ s₀ e₀ : List ℕ) (v : Verdict) (r : ℕ) (n₁ s₁ e₁ : List ℕ) → Batch n side from to n₀ s₀ e₀ v n₁ s₁ e₁ → r ≡ answerOf v → BatchCall n side from to n₀ s₀ e₀ r n₁ s₁ e₁
+batch-call n side from to n₀ s₀ e₀ v r n₁ s₁ e₁ s e = record { number = e ∙ ap answerOf (s .answer); buffers = rw (s .answer) at s }
+
+-- a range's call, through the side, the range and the answer's numbers
+pub range-call : (f : Range → Converted) (side : OffsetReferential) (b : Bool) (range : Range) (a e : ℕ) (answer : Converted) (r : Offsets) → side ≡ sideOf b → range ≡ rangeOf side a e → answer ≡ f range → r ≡ offsetsOf answer → r ≡ offsetsOf (f (rangeOf (sideOf b) a e))
+range-call f side b range a e answer r p q w t = t ∙ ap offsetsOf (w ∙ ap f (q ∙ ap (λ (x : OffsetReferential). rangeOf x a e) p))
+
+pub numbers-found : (v : Converted) (range : Range) (a e : ℕ) → v ≡ Found range → a ≡ startOf range → e ≡ endOf range → record { refusal = 0; start = a; end = e } ≡ offsetsOf v
+numbers-found v range a e f p q = rw (f, p, q)
+
+pub numbers-refused : (v : Converted) (k : Refusal) (r : ℕ) → v ≡ NotFound k → r ≡ numberOf k → record { refusal = r; start = 0; end = 0 } ≡ offsetsOf v
+numbers-refused v k r f q = rw (f, q)
+
+pub part-call : (o m : List ℕ) (side : OffsetReferential) (b : Bool) (range : Range) (a e : ℕ) (v : Verdict) (r : ℕ) → side ≡ sideOf b → range ≡ rangeOf side a e → v ≡ verdict (partFaults o m range) → r ≡ answerOf v → r ≡ answerOf (verdict (partFaults o m (rangeOf (sideOf b) a e)))
+part-call o m side b range a e v r p q w t =
+    t ∙ ap answerOf (w ∙ ap (λ (x : Range). verdict (partFaults o m x)) (q ∙ ap (λ (x : OffsetReferential). rangeOf x a e) p))
+
+-- the batch, through the side
+pub batch-side : (n : Note) (side : OffsetReferential) (b : Bool) (from to n₀ s₀ e₀ : List ℕ) (v : Verdict) (r : ℕ) (n₁ s₁ e₁ : List ℕ) → side ≡ sideOf b → Batch n side from to n₀ s₀ e₀ v n₁ s₁ e₁ → r ≡ answerOf v → BatchCall n (sideOf b) from to n₀ s₀ e₀ r n₁ s₁ e₁
+batch-side n side b from to n₀ s₀ e₀ v r n₁ s₁ e₁ p s e = batch-call n (sideOf b) from to n₀ s₀ e₀ v r n₁ s₁ e₁ (rw p at s) e

@@ -1,6 +1,7 @@
 -- Each exported call answers the number of its verdict; its lent buffers are those of the call below.
 use Prim.Native.Nat.{ℕ}
 use mathlib.Core.Path.{_≡_}
+use mathlib.Core.Bool.{Bool, true, false}
 use mathlib.Core.List.{List}
 use lib.ListN.{length}
 use Rattle.note.specs.declared.LetterCount.{LetterCount}
@@ -10,6 +11,11 @@ use Rattle.note.specs.Starting.{startingFaults, Started}
 use Rattle.positions.specs.declared.CharOffsets.{CharOffsets}
 use Rattle.positions.specs.declared.CharOffsets.the-variants.{Chars, Refused}
 use Rattle.positions.specs.Positions.{listFaults, ConvertedAll}
+use Rattle.note.specs.Notes.{Note}
+use Rattle.convert.specs.declared.Converted.{Converted}
+use Rattle.batch.specs.declared.OffsetReferential.{OffsetReferential}
+use Rattle.batch.specs.declared.OffsetReferential.the-variants.{Original, Normalized}
+use Rattle.batch.specs.Ranges.{numberIn, startIn, endIn, even, roomy, batchFaults, ConvertedAll as Batch}
 use Rattle.zulmyren.specs.declared.Count.{Count}
 use Rattle.zulmyren.specs.declared.Offsets.{Offsets}
 
@@ -30,3 +36,15 @@ charsOf (Refused k) = record { refusal = numberOf k; start = 0; end = 0 }
 pub record ConvertedCall (text starts ends n₀ a₀ e₀ : List ℕ) (r : ℕ) (n₁ a₁ e₁ : List ℕ) : Type 0 where
   pub number : r ≡ answerOf (verdict (listFaults text starts ends (length n₀) (length a₀) (length e₀)))
   pub buffers : ConvertedAll text starts ends n₀ a₀ e₀ (verdict (listFaults text starts ends (length n₀) (length a₀) (length e₀))) n₁ a₁ e₁
+
+-- the text that a range is in
+abbrev pub sideOf : Bool → OffsetReferential
+sideOf true = Original
+sideOf false = Normalized
+
+abbrev pub offsetsOf : Converted → Offsets
+offsetsOf answer = record { refusal = numberIn answer; start = startIn answer; end = endIn answer }
+
+pub record BatchCall (n : Note) (side : OffsetReferential) (from to n₀ s₀ e₀ : List ℕ) (r : ℕ) (n₁ s₁ e₁ : List ℕ) : Type 0 where
+  pub number : r ≡ answerOf (verdict (batchFaults n (even from to) (roomy (length from) n₀ s₀ e₀)))
+  pub buffers : Batch n side from to n₀ s₀ e₀ (verdict (batchFaults n (even from to) (roomy (length from) n₀ s₀ e₀))) n₁ s₁ e₁

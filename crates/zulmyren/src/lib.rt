@@ -1,5 +1,9 @@
 // The exported calls, for C and Rust: include/zulmyren.h says what each means. Nothing else is exported.
-use note::{LetterCount, OriginalByte};
+use batch::OffsetReferential;
+use batch::range_of;
+use convert::Converted;
+use note::LetterCount;
+use note::OriginalByte;
 use positions::CharOffsets;
 ghost use mathlib.Core.Path.{_≡_};
 ghost use Rattle.utf8.specs.Formed.{wellFormed};
@@ -7,7 +11,10 @@ ghost use Rattle.note.specs.Counting.{letterCount};
 ghost use Rattle.note.specs.Notes.{noteFaults};
 ghost use Rattle.note.specs.Refusals.{answerOf, verdict};
 ghost use Rattle.positions.specs.Positions.{converted};
-ghost use Rattle.zulmyren.specs.Calls.{countOf, charsOf, ConvertedCall, StartedCall};
+ghost use Rattle.convert.specs.Converting.{convertOffsets};
+ghost use Rattle.reading.specs.Reading.{getRange, getRangeOriginal, partFaults};
+ghost use Rattle.batch.specs.Ranges.{rangeOf};
+ghost use Rattle.zulmyren.specs.Calls.{countOf, charsOf, sideOf, offsetsOf, BatchCall, ConvertedCall, StartedCall};
 
 #[no_mangle]
 pub extern "C" fn zulmyren_well_formed(text: &[u8]) -> bool
@@ -94,4 +101,135 @@ pub extern "C" fn zulmyren_char_offsets_all(
     ensures { λ r. ⌜ ConvertedCall (now (text .entry)) (now (starts .entry)) (now (ends .entry)) (now (numbers .entry)) (now («char_starts» .entry)) (now («char_ends» .entry)) r (now (numbers .exit)) (now («char_starts» .exit)) (now («char_ends» .exit)) ⌝ }
 {
     note::answer(positions::convert_all(text, starts, ends, numbers, char_starts, char_ends))
+}
+
+// The text that a range is in.
+fn side_of(original: bool) -> OffsetReferential
+    ensures { λ r. ⌜ r ≡ sideOf original ⌝ }
+{
+    if original {
+        return OffsetReferential::Original;
+    }
+    OffsetReferential::Normalized
+}
+
+fn in_numbers(answer: Converted) -> Offsets
+    ensures { λ r. ⌜ r ≡ offsetsOf answer ⌝ }
+{
+    match answer {
+        Converted::Found(range) => Offsets {
+            refusal: 0,
+            start: convert::start_of(range),
+            end: convert::end_of(range),
+        },
+        Converted::Refused(k) => Offsets {
+            refusal: note::number(k),
+            start: 0,
+            end: 0,
+        },
+    }
+}
+
+#[no_mangle]
+pub extern "C" fn zulmyren_convert_offsets(
+    original: &[u8],
+    normalized: &[u8],
+    starts: &[u16],
+    ends: &[u16],
+    original_shift: u32,
+    of_original: bool,
+    start: u32,
+    end: u32,
+) -> Offsets
+    ensures { λ r. ⌜ r ≡ offsetsOf (convertOffsets (record { original = now (original .entry); normalized = now (normalized .entry); starts = now (starts .entry); ends = now (ends .entry); original-shift = «original_shift» }) (rangeOf (sideOf «of_original») start end)) ⌝ }
+{
+    let range = range_of(side_of(of_original), start, end);
+    in_numbers(convert::convert_offsets(original, normalized, starts, ends, original_shift, range))
+}
+
+#[no_mangle]
+pub extern "C" fn zulmyren_get_range(
+    original: &[u8],
+    normalized: &[u8],
+    starts: &[u16],
+    ends: &[u16],
+    original_shift: u32,
+    of_original: bool,
+    start: u32,
+    end: u32,
+) -> Offsets
+    ensures { λ r. ⌜ r ≡ offsetsOf (getRange (record { original = now (original .entry); normalized = now (normalized .entry); starts = now (starts .entry); ends = now (ends .entry); original-shift = «original_shift» }) (rangeOf (sideOf «of_original») start end)) ⌝ }
+{
+    let range = range_of(side_of(of_original), start, end);
+    in_numbers(reading::get_range(original, normalized, starts, ends, original_shift, range))
+}
+
+#[no_mangle]
+pub extern "C" fn zulmyren_get_range_original(
+    original: &[u8],
+    normalized: &[u8],
+    starts: &[u16],
+    ends: &[u16],
+    original_shift: u32,
+    of_original: bool,
+    start: u32,
+    end: u32,
+) -> Offsets
+    ensures { λ r. ⌜ r ≡ offsetsOf (getRangeOriginal (record { original = now (original .entry); normalized = now (normalized .entry); starts = now (starts .entry); ends = now (ends .entry); original-shift = «original_shift» }) (rangeOf (sideOf «of_original») start end)) ⌝ }
+{
+    let range = range_of(side_of(of_original), start, end);
+    in_numbers(reading::get_range_original(
+        original,
+        normalized,
+        starts,
+        ends,
+        original_shift,
+        range,
+    ))
+}
+
+#[no_mangle]
+pub extern "C" fn zulmyren_part_verdict(
+    original: &[u8],
+    normalized: &[u8],
+    of_original: bool,
+    start: u32,
+    end: u32,
+) -> u32
+    ensures { λ r. ⌜ r ≡ answerOf (verdict (partFaults (now (original .entry)) (now (normalized .entry)) (rangeOf (sideOf «of_original») start end))) ⌝ }
+{
+    let range = range_of(side_of(of_original), start, end);
+    note::answer(reading::part_verdict(original, normalized, range))
+}
+
+#[no_mangle]
+pub extern "C" fn zulmyren_convert_all(
+    original: &[u8],
+    normalized: &[u8],
+    starts: &[u16],
+    ends: &[u16],
+    original_shift: u32,
+    of_original: bool,
+    from: &[u32],
+    to: &[u32],
+    numbers: &mut [u8],
+    out_starts: &mut [u32],
+    out_ends: &mut [u32],
+) -> u32
+    ensures { λ r. ⌜ BatchCall (record { original = now (original .entry); normalized = now (normalized .entry); starts = now (starts .entry); ends = now (ends .entry); original-shift = «original_shift» }) (sideOf «of_original») (now (from .entry)) (now (to .entry)) (now (numbers .entry)) (now («out_starts» .entry)) (now («out_ends» .entry)) r (now (numbers .exit)) (now («out_starts» .exit)) (now («out_ends» .exit)) ⌝ }
+{
+    let side = side_of(of_original);
+    note::answer(batch::convert_all(
+        original,
+        normalized,
+        starts,
+        ends,
+        original_shift,
+        side,
+        from,
+        to,
+        numbers,
+        out_starts,
+        out_ends,
+    ))
 }

@@ -1,7 +1,9 @@
 -- Each way out is the first condition met.
 use mathlib.Core.Path.{sym, _∙_}
 use borrow.Author.Tests.{not-true, not-false}
-use Rattle.note.proofs.Checking.{too-long, unpaired, ill-formed, misaligned, accepted, fits-not-1, fits-not-2, fits-not-3, fits-so, paired-not-1, paired-not-2, paired-so, torn-so, torn-1, torn-2, torn-not, aligned-shift}
+use Rattle.runs.proofs.Everywhere.{and-right}
+use Rattle.utf8.specs.Formed.{wellFormed}
+use Rattle.note.proofs.Checking.{too-long, unpaired, ill-formed, misaligned, accepted, fits-not-1, fits-not-2, fits-not-3, fits-so, paired-not-1, paired-not-2, paired-so, torn-so, torn-texts, torn-not, aligned-shift}
 use borrow.Author.Needs.{needs}
 use Rattle.note.proofs.check_beside.Statement.{statement}
 use Rattle.note.proofs.check_beside.Tie as tie
@@ -27,26 +29,31 @@ returns-5 c = unpaired _ _ (fits-so _ _ _ _ _ (c .before .before .before .before
 returns-6 : tie.Need-returns-6
 returns-6 c = ill-formed _ _ (fits-so _ _ _ _ _ (c .before .before .before .before .before .if1 .left) (c .before .before .before .before .if2 .left) (c .before .before .before .if3 .left)) (paired-so _ _ _ _ _ (c .before .before .if4 .left) (c .before .if5 .left)) (torn-so _ _ _ _ _ _ (c .if6 .taken))
 
-well-formed-requires : tie.Need-well-formed-requires
-well-formed-requires c κs = search needs
+same-bytes-requires : tie.Need-same-bytes-requires
+same-bytes-requires c κs = search needs
+
+texts-formed-requires : tie.Need-texts-formed-requires
+texts-formed-requires c κs = c .same-bytes .ensures .told
 
 returns-7 : tie.Need-returns-7
-returns-7 c = ill-formed _ _ (fits-so _ _ _ _ _ (c .before .before .before .before .before .before .before .if1 .left) (c .before .before .before .before .before .before .if2 .left) (c .before .before .before .before .before .if3 .left)) (paired-so _ _ _ _ _ (c .before .before .before .before .if4 .left) (c .before .before .before .if5 .left)) (torn-1 _ _ _ _ _ _ (sym (c .before .well-formed .ensures) ∙ not-true _ (c .if7 .taken)))
-
-well-formed-requires-2 : tie.Need-well-formed-requires-2
-well-formed-requires-2 c κs = search needs
-
-returns-8 : tie.Need-returns-8
-returns-8 c = ill-formed _ _ (fits-so _ _ _ _ _ (c .before .before .before .before .before .before .before .before .before .if1 .left) (c .before .before .before .before .before .before .before .before .if2 .left) (c .before .before .before .before .before .before .before .if3 .left)) (paired-so _ _ _ _ _ (c .before .before .before .before .before .before .if4 .left) (c .before .before .before .before .before .if5 .left)) (torn-2 _ _ _ _ _ _ (sym (c .before .before .before .well-formed .ensures) ∙ not-false _ (c .before .before .if7 .left)) (sym (c .before .well-formed2 .ensures) ∙ not-true _ (c .if8 .taken)))
+returns-7 c = ill-formed _ _ (fits-so _ _ _ _ _ (c .before .before .before .before .before .before .before .before .if1 .left) (c .before .before .before .before .before .before .before .if2 .left) (c .before .before .before .before .before .before .if3 .left)) (paired-so _ _ _ _ _ (c .before .before .before .before .before .if4 .left) (c .before .before .before .before .if5 .left)) (torn-texts _ _ _ _ _ _ (sym (c .before .texts-formed .ensures) ∙ not-true _ (c .if7 .taken)))
 
 aligned-requires : tie.Need-aligned-requires
-aligned-requires c κs = search needs
+aligned-requires c κs =
+    record {
+      short = c .before .before .before .before .before .before .before .before .if1 .left;
+      normalized-short = c .before .before .before .before .before .before .before .if2 .left;
+      starts-paired = c .before .before .before .before .before .if4 .left;
+      ends-paired = c .before .before .before .before .if5 .left;
+      formed = and-right (wellFormed (c .before .before .before .before .before .before .before .before .before .before .before .before .before .args .original .now)) _ (sym (c .before .texts-formed .ensures) ∙ not-false _ (c .if7 .left));
+      alike = c .before .before .same-bytes .ensures .told;
+    }
+
+returns-8 : tie.Need-returns-8
+returns-8 c = misaligned _ _ (fits-so _ _ _ _ _ (c .before .before .before .before .before .before .before .before .before .before .if1 .left) (c .before .before .before .before .before .before .before .before .before .if2 .left) (c .before .before .before .before .before .before .before .before .if3 .left)) (paired-so _ _ _ _ _ (c .before .before .before .before .before .before .before .if4 .left) (c .before .before .before .before .before .before .if5 .left)) (torn-not _ _ _ _ _ _ (c .before .before .before .before .before .if6 .left) (sym (c .before .before .before .texts-formed .ensures) ∙ not-false _ (c .before .before .if7 .left))) (sym (aligned-shift _ _ _ _ _ _ (c .before .aligned .ensures)) ∙ not-true _ (c .if8 .taken))
 
 returns-9 : tie.Need-returns-9
-returns-9 c = misaligned _ _ (fits-so _ _ _ _ _ (c .before .before .before .before .before .before .before .before .before .before .before .if1 .left) (c .before .before .before .before .before .before .before .before .before .before .if2 .left) (c .before .before .before .before .before .before .before .before .before .if3 .left)) (paired-so _ _ _ _ _ (c .before .before .before .before .before .before .before .before .if4 .left) (c .before .before .before .before .before .before .before .if5 .left)) (torn-not _ _ _ _ _ _ (c .before .before .before .before .before .before .if6 .left) (sym (c .before .before .before .before .before .well-formed .ensures) ∙ not-false _ (c .before .before .before .before .if7 .left)) (sym (c .before .before .before .well-formed2 .ensures) ∙ not-false _ (c .before .before .if8 .left))) (sym (aligned-shift _ _ _ _ _ _ (c .before .aligned .ensures)) ∙ not-true _ (c .if9 .taken))
-
-returns-10 : tie.Need-returns-10
-returns-10 c = accepted _ _ (fits-so _ _ _ _ _ (c .before .before .before .before .before .before .before .before .before .before .before .if1 .left) (c .before .before .before .before .before .before .before .before .before .before .if2 .left) (c .before .before .before .before .before .before .before .before .before .if3 .left)) (paired-so _ _ _ _ _ (c .before .before .before .before .before .before .before .before .if4 .left) (c .before .before .before .before .before .before .before .if5 .left)) (torn-not _ _ _ _ _ _ (c .before .before .before .before .before .before .if6 .left) (sym (c .before .before .before .before .before .well-formed .ensures) ∙ not-false _ (c .before .before .before .before .if7 .left)) (sym (c .before .before .before .well-formed2 .ensures) ∙ not-false _ (c .before .before .if8 .left))) (sym (aligned-shift _ _ _ _ _ _ (c .before .aligned .ensures)) ∙ not-false _ (c .if9 .left))
+returns-9 c = accepted _ _ (fits-so _ _ _ _ _ (c .before .before .before .before .before .before .before .before .before .before .if1 .left) (c .before .before .before .before .before .before .before .before .before .if2 .left) (c .before .before .before .before .before .before .before .before .if3 .left)) (paired-so _ _ _ _ _ (c .before .before .before .before .before .before .before .if4 .left) (c .before .before .before .before .before .before .if5 .left)) (torn-not _ _ _ _ _ _ (c .before .before .before .before .before .if6 .left) (sym (c .before .before .before .texts-formed .ensures) ∙ not-false _ (c .before .before .if7 .left))) (sym (aligned-shift _ _ _ _ _ _ (c .before .aligned .ensures)) ∙ not-false _ (c .if8 .left))
 
 pub check-beside-spec : {M : Type 1} → statement M
 check-beside-spec =
@@ -59,10 +66,9 @@ check-beside-spec =
     returns-4
     returns-5
     returns-6
-    well-formed-requires
+    same-bytes-requires
+    texts-formed-requires
     returns-7
-    well-formed-requires-2
-    returns-8
     aligned-requires
-    returns-9
-    returns-10)
+    returns-8
+    returns-9)

@@ -1,0 +1,171 @@
+-- The answers of a list of ranges, written one by one; and what the call answers, by the checks that it has passed.
+use Prim.Native.Nat.{ℕ, _+_, _≤_, _<_}
+use mathlib.Core.Path.{_≡_, _∙_, ap, refl, sym}
+use mathlib.Core.Bool.{Bool, true, false, cond, _&&_, not}
+use mathlib.Core.List.{List}
+use native.Mathlib.Omega.{arith}
+use lib.Dec.{leb, eqb}
+use lib.ListN.{length, getD, set}
+use borrow.Author.Tests.{le-leb, lt-leb, eq-eqb, ne-eqb}
+use Rattle.runs.proofs.Everywhere.{and-true, and-false-l, and-false-r, and-unit, true-or-false}
+use Rattle.note.specs.declared.Refusal.{Refusal}
+use Rattle.note.specs.declared.Refusal.the-variants.{IllFormed, TooLong, LengthMismatch, Misaligned, NotBoundary, BadScript, Exhausted, BadMatches, NoRoom, Missing, CountMismatch}
+use Rattle.note.specs.declared.Verdict.{Verdict}
+use Rattle.note.specs.declared.Verdict.the-variants.{Accepted, Refused}
+use Rattle.note.specs.Refusals.{numberOf, verdict, left}
+use Rattle.note.specs.Notes.{Note, fits, paired, textsFormed, aligned, noteFaults}
+use Rattle.note.proofs.Columns.{Filled, none-filled, filled-up, all-filled}
+use Rattle.convert.specs.declared.Range.{Range}
+use Rattle.convert.specs.declared.Converted.{Converted}
+use Rattle.convert.specs.Converting.{inOriginal, inNormalized, converted, convertOffsets}
+use Rattle.convert.specs.Answers.{then, noted, noted-then, answered-accepted}
+use Rattle.batch.specs.declared.OffsetReferential.{OffsetReferential}
+use Rattle.batch.specs.declared.OffsetReferential.the-variants.{Original, Normalized}
+use Rattle.batch.specs.Ranges.{rangeOf, startIn, endIn, numberIn, answerAt, even, roomy, batchFaults, unevenOf, Answers, ConvertedAll, Room}
+
+pub rangeOf-original : (side : OffsetReferential) (a b : ℕ) → side ≡ Original → inOriginal a b ≡ rangeOf side a b
+unfolding rangeOf
+rangeOf-original side a b is = rw is
+
+pub rangeOf-normalized : (side : OffsetReferential) (a b : ℕ) → side ≡ Normalized → inNormalized a b ≡ rangeOf side a b
+unfolding rangeOf
+rangeOf-normalized side a b is = rw is
+
+-- a refusal's number fits a byte
+pub numberOf-small : (k : Refusal) → numberOf k ≤ 11
+numberOf-small IllFormed = omega arith
+numberOf-small TooLong = omega arith
+numberOf-small LengthMismatch = omega arith
+numberOf-small Misaligned = omega arith
+numberOf-small NotBoundary = omega arith
+numberOf-small BadScript = omega arith
+numberOf-small Exhausted = omega arith
+numberOf-small BadMatches = omega arith
+numberOf-small NoRoom = omega arith
+numberOf-small Missing = omega arith
+numberOf-small CountMismatch = omega arith
+
+-- i of n answers are written
+pub record Filling (answers : ℕ → Converted) (n : ℕ) (n₀ s₀ e₀ m s e : List ℕ) (i : ℕ) : Type 0 where
+  pub most : i ≤ n
+  pub numbers-to : Filled (λ k. numberIn (answers k)) n₀ 0 i m
+  pub starts-to : Filled (λ k. startIn (answers k)) s₀ 0 i s
+  pub ends-to : Filled (λ k. endIn (answers k)) e₀ 0 i e
+
+pub none-answered : (answers : ℕ → Converted) (n : ℕ) (m s e : List ℕ) → Filling answers n m s e m s e 0
+none-answered answers n m s e =
+    record { most = omega arith; numbers-to = none-filled _ m 0; starts-to = none-filled _ s 0; ends-to = none-filled _ e 0 }
+
+module _ (starts ends : List ℕ) (side : OffsetReferential) (from to n₀ s₀ e₀ : List ℕ) where
+  pub one-answered : (m s e : List ℕ) (i : ℕ) (range : Range) (answer : Converted) (x y z : ℕ) → Room from to n₀ s₀ e₀ → Filling (answerAt (converted starts ends) side from to) (length from) n₀ s₀ e₀ m s e i → i < length from → range ≡ rangeOf side (getD from i 0) (getD to i 0) → answer ≡ converted starts ends range → x ≡ numberIn answer → y ≡ startIn answer → z ≡ endIn answer → Filling (answerAt (converted starts ends) side from to) (length from) n₀ s₀ e₀ (set m i x) (set s i y) (set e i z) (i + 1)
+  unfolding answerAt
+  one-answered m s e i range answer x y z room w more is ans p q r =
+      let here : answer ≡ converted starts ends (rangeOf side (getD from i 0) (getD to i 0)) = ans ∙ ap (converted starts ends) is in
+      record {
+        most = omega arith;
+        numbers-to = filled-up _ n₀ 0 i m x (w .numbers-to) (omega arith) (p ∙ ap numberIn here);
+        starts-to = filled-up _ s₀ 0 i s y (w .starts-to) (omega arith) (q ∙ ap startIn here);
+        ends-to = filled-up _ e₀ 0 i e z (w .ends-to) (omega arith) (r ∙ ap endIn here);
+      }
+
+pub all-answered : (answers : ℕ → Converted) (from to n₀ s₀ e₀ m s e : List ℕ) (i : ℕ) → Room from to n₀ s₀ e₀ → Filling answers (length from) n₀ s₀ e₀ m s e i → length from ≤ i → Answers answers (length from) n₀ s₀ e₀ m s e
+all-answered answers from to n₀ s₀ e₀ m s e i room w done =
+    let full : i ≡ length from = omega arith in
+    record {
+      numbers-are = all-filled _ n₀ _ m (rw full at (w .numbers-to)) (room .of-numbers);
+      starts-are = all-filled _ s₀ _ s (rw full at (w .starts-to)) (room .of-starts);
+      ends-are = all-filled _ e₀ _ e (rw full at (w .ends-to)) (room .of-ends);
+    }
+
+-- an uneven list
+pub uneven-long : (v : Verdict) (k : Refusal) (r : ℕ) → v ≡ Refused k → r ≡ numberOf k → r ≡ 2 → Refused k ≡ unevenOf v
+unfolding unevenOf
+uneven-long v k r is e two = rw (is, ← e, two)
+
+pub uneven-other : (v : Verdict) (k : Refusal) (r : ℕ) → v ≡ Refused k → r ≡ numberOf k → (r ≡ 2 → ⊥) → Refused LengthMismatch ≡ unevenOf v
+unfolding unevenOf
+uneven-other v k r is e other = rw (is, ← e, ne-eqb r 2 other)
+
+pub uneven-accepted : (v : Verdict) → v ≡ Accepted → Refused LengthMismatch ≡ unevenOf v
+unfolding unevenOf
+uneven-accepted v is = rw is
+
+noted-uneven : (f p t a : Bool) (more : Verdict) → noted f true t a more ≡ unevenOf (noted f p t a Accepted)
+unfolding unevenOf
+noted-uneven true p t a more = refl
+noted-uneven false true t a more = refl
+noted-uneven false false true a more = refl
+noted-uneven false false false true more = refl
+noted-uneven false false false false more = refl
+
+verdict-uneven : (n : Note) (same room : Bool) → same ≡ false → verdict (batchFaults n same room) ≡ unevenOf (verdict (noteFaults n))
+unfolding verdict
+verdict-uneven n same room no-match =
+    rw (and-false-r (paired n) same no-match)
+    (noted-uneven (not (fits n)) (not (paired n)) (not (textsFormed n)) (not (aligned n)) (cond (not room) (Refused NoRoom) Accepted))
+
+-- 9 behind the note's refusals
+verdict-even : (n : Note) (same room : Bool) → same ≡ true → verdict (batchFaults n same room) ≡ then (verdict (noteFaults n)) (cond room Accepted (Refused NoRoom))
+unfolding verdict
+verdict-even n same room yes-match =
+    rw (yes-match, and-unit (paired n))
+    (noted-then (not (fits n)) (not (paired n)) (not (textsFormed n)) (not (aligned n)) (cond (not room) (Refused NoRoom) Accepted)
+    ∙ ap (then (noted (not (fits n)) (not (paired n)) (not (textsFormed n)) (not (aligned n)) Accepted)) (flip room))
+  where
+    flip : (t : Bool) → cond (not t) (Refused NoRoom) Accepted ≡ cond t Accepted (Refused NoRoom)
+    flip true = refl
+    flip false = refl
+
+left-uneven : (v : Verdict) (x d : List ℕ) → d ≡ left (unevenOf v) x d
+unfolding unevenOf
+left-uneven Accepted x d = refl
+left-uneven (Refused k) x d = true-or-false (eqb (numberOf k) 2) (λ t. rw t) (λ f. rw f)
+
+module _ (n : Note) (side : OffsetReferential) (from to n₀ s₀ e₀ : List ℕ) (v : Verdict) (checked : v ≡ verdict (noteFaults n)) where
+  pub list-uneven : (r : Verdict) → r ≡ unevenOf v → (length from ≡ length to → ⊥) → ConvertedAll n side from to n₀ s₀ e₀ r n₀ s₀ e₀
+  list-uneven r e differ =
+      record {
+        answer = e ∙ ap unevenOf checked ∙ sym (verdict-uneven n (even from to) (roomy (length from) n₀ s₀ e₀) (ne-eqb _ _ differ));
+        numbers-are = rw e (left-uneven v _ n₀);
+        starts-are = rw e (left-uneven v _ s₀);
+        ends-are = rw e (left-uneven v _ e₀);
+      }
+
+  module _ (same : length from ≡ length to) where
+    is-then : verdict (batchFaults n (even from to) (roomy (length from) n₀ s₀ e₀)) ≡ then v (cond (roomy (length from) n₀ s₀ e₀) Accepted (Refused NoRoom))
+    is-then =
+        verdict-even n (even from to) (roomy (length from) n₀ s₀ e₀) (eq-eqb (length from) (length to) same)
+        ∙ ap (λ (w : Verdict). then w (cond (roomy (length from) n₀ s₀ e₀) Accepted (Refused NoRoom))) (sym checked)
+
+    pub note-refused : (k : Refusal) → v ≡ Refused k → ConvertedAll n side from to n₀ s₀ e₀ (Refused k) n₀ s₀ e₀
+    note-refused k is = record { answer = sym (is-then ∙ rw is); numbers-are = refl; starts-are = refl; ends-are = refl }
+
+    module _ (ok : v ≡ Accepted) where
+      no-room : roomy (length from) n₀ s₀ e₀ ≡ false → ConvertedAll n side from to n₀ s₀ e₀ (Refused NoRoom) n₀ s₀ e₀
+      no-room f = record { answer = sym (is-then ∙ rw (ok, f)); numbers-are = refl; starts-are = refl; ends-are = refl }
+
+      pub no-numbers : length n₀ < length from → ConvertedAll n side from to n₀ s₀ e₀ (Refused NoRoom) n₀ s₀ e₀
+      no-numbers h = no-room (and-false-l _ (leb (length from) (length s₀) && leb (length from) (length e₀)) (lt-leb (length from) (length n₀) h))
+
+      pub no-starts : length s₀ < length from → ConvertedAll n side from to n₀ s₀ e₀ (Refused NoRoom) n₀ s₀ e₀
+      no-starts h =
+          no-room (and-false-r (leb (length from) (length n₀)) _ (and-false-l _ (leb (length from) (length e₀)) (lt-leb (length from) (length s₀) h)))
+
+      pub no-ends : length e₀ < length from → ConvertedAll n side from to n₀ s₀ e₀ (Refused NoRoom) n₀ s₀ e₀
+      no-ends h =
+          no-room (and-false-r (leb (length from) (length n₀)) _ (and-false-r (leb (length from) (length s₀)) _ (lt-leb (length from) (length e₀) h)))
+
+      -- on an accepted note the single call converts
+      single : converted (n .starts) (n .ends) ≡ convertOffsets n
+      unfolding convertOffsets
+      single = λ j range. answered-accepted n (converted (n .starts) (n .ends) range) v checked ok j
+
+      pub all-converted : (n₁ s₁ e₁ : List ℕ) → Room from to n₀ s₀ e₀ → Answers (answerAt (converted (n .starts) (n .ends)) side from to) (length from) n₀ s₀ e₀ n₁ s₁ e₁ → ConvertedAll n side from to n₀ s₀ e₀ Accepted n₁ s₁ e₁
+      all-converted n₁ s₁ e₁ room w =
+          let t : roomy (length from) n₀ s₀ e₀ ≡ true = and-true _ _ (le-leb _ _ (room .of-numbers)) (and-true _ _ (le-leb _ _ (room .of-starts)) (le-leb _ _ (room .of-ends))) in
+          record {
+            answer = sym (is-then ∙ rw (ok, t));
+            numbers-are = rw (← single) (w .numbers-are);
+            starts-are = rw (← single) (w .starts-are);
+            ends-are = rw (← single) (w .ends-are);
+          }

@@ -1,0 +1,2 @@
+-- Converting a list of ranges over one note.
+pub mod Ranges

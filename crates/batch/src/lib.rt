@@ -1,0 +1,139 @@
+// Converting a list of ranges over one note, which is checked once.
+use convert::Converted;
+use convert::Range;
+use convert::convert_checked;
+use convert::end_of;
+use convert::start_of;
+use note::NormalizedByte;
+use note::OriginalByte;
+use note::Refusal;
+use note::Verdict;
+use note::check_note;
+use note::number;
+ghost use mathlib.Core.Path.{_≡_};
+ghost use lib.ListN.{length};
+ghost use Rattle.convert.specs.Converting.{Columns, converted};
+ghost use Rattle.batch.specs.Ranges.{rangeOf, startIn, endIn, numberIn, answerAt, unevenOf, Answers, ConvertedAll, Room};
+
+// The text that a list's numbers are of (Rust: `OffsetReferential`).
+pub enum OffsetReferential {
+    Original,
+    Normalized,
+}
+
+pub fn range_of(side: OffsetReferential, from: u32, to: u32) -> Range
+    ensures { λ r. ⌜ r ≡ rangeOf side from to ⌝ }
+{
+    match side {
+        OffsetReferential::Original => Range::Original(OriginalByte(from), OriginalByte(to)),
+        OffsetReferential::Normalized => Range::Normalized(
+            NormalizedByte(from),
+            NormalizedByte(to),
+        ),
+    }
+}
+
+// An answer's three numbers.
+fn start_in(answer: Converted) -> u32
+    ensures { λ r. ⌜ r ≡ startIn answer ⌝ }
+{
+    match answer {
+        Converted::Found(range) => start_of(range),
+        Converted::Refused(_) => 0,
+    }
+}
+
+fn end_in(answer: Converted) -> u32
+    ensures { λ r. ⌜ r ≡ endIn answer ⌝ }
+{
+    match answer {
+        Converted::Found(range) => end_of(range),
+        Converted::Refused(_) => 0,
+    }
+}
+
+fn number_in(answer: Converted) -> u8
+    ensures { λ r. ⌜ r ≡ numberIn answer ⌝ }
+{
+    match answer {
+        Converted::Found(_) => 0,
+        Converted::Refused(k) => number(k) as u8,
+    }
+}
+
+// What is said where the list's starts and ends differ in number: 2 comes before 3, and nothing else does.
+fn uneven(checked: Verdict) -> Verdict
+    ensures { λ r. ⌜ r ≡ unevenOf checked ⌝ }
+{
+    match checked {
+        Verdict::Accepted => Verdict::Refused(Refusal::LengthMismatch),
+        Verdict::Refused(k) => {
+            if number(k) == 2 {
+                return Verdict::Refused(k);
+            }
+            Verdict::Refused(Refusal::LengthMismatch)
+        }
+    }
+}
+
+// Every range of the list, on a checked note and with room for the answers.
+fn convert_each(
+    starts: &[u16],
+    ends: &[u16],
+    side: OffsetReferential,
+    from: &[u32],
+    to: &[u32],
+    numbers: &mut [u8],
+    out_starts: &mut [u32],
+    out_ends: &mut [u32],
+)
+    requires { ⌜ Columns (now starts) (now ends) ⌝ }
+    requires { ⌜ Room (now from) (now to) (now numbers) (now «out_starts») (now «out_ends») ⌝ }
+    ensures { λ _. ⌜ Answers (answerAt (converted (now (starts .entry)) (now (ends .entry))) side (now (from .entry)) (now (to .entry))) (length (now (from .entry))) (now (numbers .entry)) (now («out_starts» .entry)) (now («out_ends» .entry)) (now (numbers .exit)) (now («out_starts» .exit)) (now («out_ends» .exit)) ⌝ }
+{
+    let mut i = 0;
+    while i < from.len() {
+        let answer = convert_checked(starts, ends, range_of(side, from[i], to[i]));
+        numbers[i] = number_in(answer);
+        out_starts[i] = start_in(answer);
+        out_ends[i] = end_in(answer);
+        i += 1;
+    }
+}
+
+// Each range start..end of the list is answered as `convert_offsets` answers it, in three numbers: 0, start and end, or
+// its refusal's number, 0 and 0. The call itself: 2, 3 (also where the list's starts and ends differ in number), 1, 4, 9.
+pub fn convert_all(
+    original: &[u8],
+    normalized: &[u8],
+    starts: &[u16],
+    ends: &[u16],
+    original_shift: u32,
+    side: OffsetReferential,
+    from: &[u32],
+    to: &[u32],
+    numbers: &mut [u8],
+    out_starts: &mut [u32],
+    out_ends: &mut [u32],
+) -> Verdict
+    ensures { λ r. ⌜ ConvertedAll (record { original = now (original .entry); normalized = now (normalized .entry); starts = now (starts .entry); ends = now (ends .entry); original-shift = «original_shift» }) side (now (from .entry)) (now (to .entry)) (now (numbers .entry)) (now («out_starts» .entry)) (now («out_ends» .entry)) r (now (numbers .exit)) (now («out_starts» .exit)) (now («out_ends» .exit)) ⌝ }
+{
+    let checked = check_note(original, normalized, starts, ends, original_shift);
+    if from.len() != to.len() {
+        return uneven(checked);
+    }
+    if let Verdict::Refused(k) = checked {
+        return Verdict::Refused(k);
+    }
+    if numbers.len() < from.len() {
+        return Verdict::Refused(Refusal::NoRoom);
+    }
+    if out_starts.len() < from.len() {
+        return Verdict::Refused(Refusal::NoRoom);
+    }
+    if out_ends.len() < from.len() {
+        return Verdict::Refused(Refusal::NoRoom);
+    }
+    convert_each(starts, ends, side, from, to, numbers, out_starts, out_ends);
+    Verdict::Accepted
+}

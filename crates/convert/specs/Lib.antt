@@ -1,0 +1,5 @@
+-- Converting (document 01).
+pub mod Converting
+pub mod Answers
+pub mod Standing
+pub mod Identity

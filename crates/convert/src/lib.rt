@@ -1,0 +1,176 @@
+// Converting (document 01): a range of the transcript as a range of the cleaned text, and back.
+use note::NormalizedByte;
+use note::OriginalByte;
+use note::Refusal;
+use note::Verdict;
+use note::check_note;
+use note::rewrap::same_in_normalized;
+use note::rewrap::same_in_original;
+ghost use mathlib.Core.Path.{_≡_};
+ghost use Prim.Native.Nat.{_<_, _-_};
+ghost use Rattle.note.specs.Notes.{limit};
+ghost use Rattle.convert.specs.Converting.{Columns, startOf, endOf, begun, stepped, walked, expanded, toOriginal, toNormalized, converted, convertOffsets};
+
+// A range start..end, in the bytes of the one text or of the other (Rust: `Range`).
+pub enum Range {
+    Original(OriginalByte, OriginalByte),
+    Normalized(NormalizedByte, NormalizedByte),
+}
+
+// A range's numbers, in the text that it names.
+pub fn start_of(range: Range) -> u32
+    ensures { λ r. ⌜ r ≡ startOf range ⌝ }
+{
+    match range {
+        Range::Original(from, _) => from.0,
+        Range::Normalized(from, _) => from.0,
+    }
+}
+
+pub fn end_of(range: Range) -> u32
+    ensures { λ r. ⌜ r ≡ endOf range ⌝ }
+{
+    match range {
+        Range::Original(_, to) => to.0,
+        Range::Normalized(_, to) => to.0,
+    }
+}
+
+// What a call that answers a range says; the range names its text.
+pub enum Converted {
+    Found(Range),
+    Refused(Refusal),
+}
+
+// The first and the last place that a walk over the alignments has found so far (Rust: `(start, end)`, two options).
+pub enum Places {
+    Neither,
+    Last(NormalizedByte),
+    Both(NormalizedByte, NormalizedByte),
+}
+
+// The byte at `i` is walked, before a first place is found.
+fn begin(i: NormalizedByte, start: u16, end: u16, from: u32) -> Places
+    requires { ⌜ i .0 < limit ⌝ }
+    ensures { λ r. ⌜ r ≡ begun from (i .0) start end ⌝ }
+{
+    let next = NormalizedByte(i.0 + 1);
+    if (start as u32) < from {
+        return Places::Last(next);
+    }
+    if start == end {
+        return Places::Last(next);
+    }
+    Places::Both(i, next)
+}
+
+// The byte at `i` is walked.
+fn step(found: Places, i: NormalizedByte, start: u16, end: u16, from: u32) -> Places
+    requires { ⌜ i .0 < limit ⌝ }
+    ensures { λ r. ⌜ r ≡ stepped from (i .0) start end found ⌝ }
+{
+    match found {
+        Places::Both(first, _) => Places::Both(first, NormalizedByte(i.0 + 1)),
+        Places::Last(_) => begin(i, start, end, from),
+        Places::Neither => begin(i, start, end, from),
+    }
+}
+
+// The alignments are walked up to the first that ends past the target.
+fn walk(starts: &[u16], ends: &[u16], from: u32, to: u32) -> Places
+    requires { ⌜ Columns (now starts) (now ends) ⌝ }
+    ensures { λ r. ⌜ r ≡ walked (now (starts .entry)) (now (ends .entry)) from to ⌝ }
+{
+    let mut found = Places::Neither;
+    let mut i = 0;
+    while i < ends.len() {
+        if to < ends[i] as u32 {
+            break;
+        }
+        found = step(found, NormalizedByte(i as u32), starts[i], ends[i], from);
+        i += 1;
+    }
+    found
+}
+
+// Rust: `expand_alignments`, of the alignments from `from` up to `to`: two reads.
+fn expand_alignments(starts: &[u16], ends: &[u16], from: u32, to: u32) -> Converted
+    requires { ⌜ (Columns (now starts) (now ends)) × (from < to) ⌝ }
+    ensures { λ r. ⌜ r ≡ expanded (now (starts .entry)) (now (ends .entry)) from to ⌝ }
+{
+    let first = from as usize;
+    let past = to as usize;
+    if ends.len() < past {
+        return Converted::Refused(Refusal::Missing);
+    }
+    let start = OriginalByte(starts[first] as u32);
+    let end = OriginalByte(ends[past - 1] as u32);
+    Converted::Found(Range::Original(start, end))
+}
+
+// A range of the cleaned text, in the transcript.
+fn to_original(starts: &[u16], ends: &[u16], from: NormalizedByte, to: NormalizedByte) -> Converted
+    requires { ⌜ Columns (now starts) (now ends) ⌝ }
+    ensures { λ r. ⌜ r ≡ toOriginal (now (starts .entry)) (now (ends .entry)) from to ⌝ }
+{
+    let a = from.0;
+    let b = to.0;
+    if a == b {
+        return Converted::Found(Range::Original(same_in_original(from), same_in_original(to)));
+    }
+    if b < a {
+        return Converted::Refused(Refusal::Missing);
+    }
+    expand_alignments(starts, ends, a, b)
+}
+
+// A range of the transcript, in the cleaned text.
+fn to_normalized(starts: &[u16], ends: &[u16], from: OriginalByte, to: OriginalByte) -> Converted
+    requires { ⌜ Columns (now starts) (now ends) ⌝ }
+    ensures { λ r. ⌜ r ≡ toNormalized (now (starts .entry)) (now (ends .entry)) from to ⌝ }
+{
+    let a = from.0;
+    let b = to.0;
+    if a == b {
+        return Converted::Found(Range::Normalized(
+            same_in_normalized(from),
+            same_in_normalized(to),
+        ));
+    }
+    if b < a {
+        return Converted::Refused(Refusal::Missing);
+    }
+    match walk(starts, ends, a, b) {
+        Places::Both(first, last) => Converted::Found(Range::Normalized(first, last)),
+        Places::Last(last) => Converted::Found(Range::Normalized(last, last)),
+        Places::Neither => Converted::Refused(Refusal::Missing),
+    }
+}
+
+// `convert_offsets` for proved callers that have had the note checked: it asks for the columns that a check leaves.
+pub fn convert_checked(starts: &[u16], ends: &[u16], range: Range) -> Converted
+    requires { ⌜ Columns (now starts) (now ends) ⌝ }
+    ensures { λ r. ⌜ r ≡ converted (now (starts .entry)) (now (ends .entry)) range ⌝ }
+{
+    match range {
+        Range::Normalized(from, to) => to_original(starts, ends, from, to),
+        Range::Original(from, to) => to_normalized(starts, ends, from, to),
+    }
+}
+
+// Rust: `convert_offsets`. Refusals, in this order: 2, 3, 1, 4, 10.
+pub fn convert_offsets(
+    original: &[u8],
+    normalized: &[u8],
+    starts: &[u16],
+    ends: &[u16],
+    original_shift: u32,
+    range: Range,
+) -> Converted
+    ensures { λ r. ⌜ r ≡ convertOffsets (record { original = now (original .entry); normalized = now (normalized .entry); starts = now (starts .entry); ends = now (ends .entry); original-shift = «original_shift» }) range ⌝ }
+{
+    match check_note(original, normalized, starts, ends, original_shift) {
+        Verdict::Refused(k) => Converted::Refused(k),
+        Verdict::Accepted => convert_checked(starts, ends, range),
+    }
+}

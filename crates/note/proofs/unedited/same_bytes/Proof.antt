@@ -1,0 +1,53 @@
+-- Every byte so far is the same.
+use Prim.Native.Nat.{_≤_, _-_}
+use mathlib.Core.Path.{_≡_}
+use lib.ListN.{length}
+use Rattle.note.proofs.Mirroring.{alike, alike-none, alike-more, alike-all, unlike}
+use native.Mathlib.Omega.{arith}
+use Rattle.note.proofs.unedited.same_bytes.Statement.{statement}
+use Rattle.note.proofs.unedited.same_bytes.Tie as tie
+
+abbrev Inv-loop : tie.InvT-loop
+Inv-loop a b ok₀ i₀ ok i = (i ≤ length a) × (ok ≡ alike a b i)
+
+abbrev μ-loop : tie.MeasureT-loop
+μ-loop a b ok₀ i₀ ok i = length a - i
+
+returns : tie.Need-returns Inv-loop μ-loop
+returns c = unlike _ _ (c .if1 .taken)
+
+loop-holds : tie.Need-loop-holds Inv-loop μ-loop
+loop-holds c = (omega arith, alike-none _ _)
+
+shared-slice-read-ok : tie.Need-shared-slice-read-ok Inv-loop μ-loop
+shared-slice-read-ok c = omega arith
+
+shared-slice-read-ok-2 : tie.Need-shared-slice-read-ok-2 Inv-loop μ-loop
+shared-slice-read-ok-2 c = omega arith
+
+add-i : tie.Need-add-i Inv-loop μ-loop
+add-i c = omega arith
+
+loop-less : tie.Need-loop-less Inv-loop μ-loop
+loop-less c = omega arith
+
+loop-again : tie.Need-loop-again Inv-loop μ-loop
+loop-again c = (omega arith, alike-more _ _ _ _ (c .before .before .before .loop .inv .1))
+
+returns-2 : tie.Need-returns-2 Inv-loop μ-loop
+returns-2 c = alike-all _ _ _ _ (omega arith) (omega arith) (omega arith) (c .before .loop .inv .1)
+
+pub same-bytes-spec : {M : Type 1} → statement M
+same-bytes-spec =
+    tie.close
+    (tie.spec
+    Inv-loop
+    μ-loop
+    returns
+    loop-holds
+    shared-slice-read-ok
+    shared-slice-read-ok-2
+    add-i
+    loop-less
+    loop-again
+    returns-2)

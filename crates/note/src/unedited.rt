@@ -1,0 +1,74 @@
+// The note that no edit has touched: its cleaned text is its transcript, each byte aligned to its character's range.
+use utf8::continues;
+use validity::well_formed;
+ghost use mathlib.Core.Path.{_≡_};
+ghost use mathlib.Core.Bool.{true, _&&_};
+ghost use Prim.Native.Nat.{_≤_};
+ghost use lib.ListN.{length};
+ghost use Rattle.utf8.specs.Formed.{wellFormed};
+ghost use Rattle.note.specs.Notes.{limit};
+ghost use Rattle.note.specs.Unedited.{Same, mirrors, mirrored};
+
+// Whether two texts are the same. The loop has no way out inside, so that it is vectorised.
+pub fn same_bytes(a: &[u8], b: &[u8]) -> bool
+    ensures { λ r. ⌜ Same (now (a .entry)) (now (b .entry)) r ⌝ }
+{
+    if a.len() != b.len() {
+        return false;
+    }
+    let mut ok = true;
+    let mut i = 0;
+    while i < a.len() {
+        ok = ok & (a[i] == b[i]);
+        i += 1;
+    }
+    ok
+}
+
+// Whether both texts are well-formed. Where they are the same, one is judged.
+pub fn texts_formed(original: &[u8], normalized: &[u8], same: bool) -> bool
+    requires { ⌜ (same ≡ true → now original ≡ now normalized) ⌝ }
+    ensures { λ r. ⌜ r ≡ (wellFormed (now (original .entry)) && wellFormed (now (normalized .entry))) ⌝ }
+{
+    if !well_formed(original) {
+        return false;
+    }
+    if same {
+        return true;
+    }
+    well_formed(normalized)
+}
+
+// Whether the start s1 and the end e0 are those of characters, by their neighbours and the byte `b` at `i`. No branch, as above.
+fn mirrors(b: u8, s0: u16, s1: u16, e0: u16, e1: u16, i: u16) -> bool
+    ensures { λ r. ⌜ r ≡ mirrors b s0 s1 e0 e1 i ⌝ }
+{
+    let more = continues(b);
+    ((more & (s1 == s0)) | (!more & (s1 == i))) & ((more & (e0 == e1)) | (!more & (e0 == i)))
+}
+
+// Whether each byte is aligned to its character's range.
+pub fn mirrored(text: &[u8], starts: &[u16], ends: &[u16]) -> bool
+    requires { ⌜ length (now text) ≤ limit ⌝ }
+    requires { ⌜ (length (now starts) ≡ length (now text)) × (length (now ends) ≡ length (now text)) ⌝ }
+    ensures { λ r. ⌜ r ≡ mirrored (now (text .entry)) (now (starts .entry)) (now (ends .entry)) (length (now (text .entry))) ⌝ }
+{
+    if text.len() == 0 {
+        return true;
+    }
+    let mut ok = (starts[0] == 0) & (ends[text.len() - 1] == text.len() as u16);
+    let mut i = 1;
+    while i < text.len() {
+        ok = ok
+            & mirrors(
+                text[i],
+                starts[i - 1],
+                starts[i],
+                ends[i - 1],
+                ends[i],
+                i as u16,
+            );
+        i += 1;
+    }
+    ok
+}

@@ -1,0 +1,2 @@
+-- Reading (document 01).
+pub mod Reading
