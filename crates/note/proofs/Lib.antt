@@ -6,3 +6,5 @@ pub mod Mirroring
 pub mod CharRanges
 pub mod Answers
 pub mod SoundAt
+pub mod Verdicts
+pub mod SoundFrom

@@ -1,3 +1,5 @@
 -- Laws that belong to no one function.
 pub mod Written
 pub mod Everywhere
+pub mod Laying
+pub mod Sameness

@@ -1,3 +1,4 @@
 -- What the contracts of `runs`, and of every crate that writes a lent buffer, are said with.
 pub mod Splice
 pub mod Every
+pub mod Same

@@ -1,5 +1,7 @@
 // Runs of bytes and of 16-bit numbers, copied or filled into lent buffers.
 // Each function here is an inner one: its callers have measured the room before.
+pub mod same;
+
 ghost use mathlib.Core.Path.{_≡_};
 ghost use Prim.Native.Nat.{_+_, _≤_};
 ghost use lib.ListN.{length, replicate};

@@ -1,0 +1,2 @@
+-- Match lists (document 01, Finding).
+pub mod Places
