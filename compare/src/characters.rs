@@ -75,7 +75,7 @@ fn four_bytes_at_a_block_edge(tally: &mut Tally) {
 }
 
 /// The first and last characters of Table 3-7's rows, what stands just outside them, and characters that are cut short.
-fn sequences() -> Vec<Vec<u8>> {
+pub fn sequences() -> Vec<Vec<u8>> {
     let rows = "\u{0}\u{7F}\u{80}\u{7FF}\u{800}\u{FFF}\u{1000}\u{CFFF}\u{D000}\u{D7FF}\u{E000}\u{FFFF}\
         \u{10000}\u{3FFFF}\u{40000}\u{FFFFF}\u{100000}\u{10FFFF}";
     let outside: [&[u8]; 14] = [
@@ -171,7 +171,7 @@ fn empty_text_anywhere(tally: &mut Tally) {
     }
 }
 
-fn expected_count(text: &[u8], start: u32, end: u32) -> Count {
+pub fn expected_count(text: &[u8], start: u32, end: u32) -> Count {
     let refused = |refusal| Count { refusal, count: 0 };
     if text.len() > LIMIT {
         return refused(2);

@@ -1,11 +1,15 @@
-//! Compares the proved library with the Rust original, call by call, and measures both (`bench`).
+//! Compares the proved library with the Rust original, call by call, measures both (`bench`), and writes the list of the
+//! original's answers that crates/replay replays (`list`).
 //! Each module of calls has a file with two functions, `compare` and `bench`.
 
+mod answers;
 mod bench;
 mod characters;
+mod comments;
 mod every;
 mod lent;
 mod library;
+mod list;
 mod note;
 mod notes;
 mod random;
@@ -19,8 +23,9 @@ fn main() -> ExitCode {
     match std::env::args().nth(1).as_deref() {
         None => compare(),
         Some("bench") => measure(),
+        Some("list") => answers::write(),
         Some(_) => {
-            eprintln!("usage: compare/run [bench]");
+            eprintln!("usage: compare/run [bench | list]");
             ExitCode::from(2)
         }
     }
@@ -30,6 +35,7 @@ fn compare() -> ExitCode {
     let mut report = tally::Report::default();
     characters::compare(&mut report);
     notes::compare(&mut report);
+    comments::compare(&mut report);
     report.finish()
 }
 

@@ -36,7 +36,7 @@ pub fn compare(report: &mut Report) {
 }
 
 /// The note that the Rust original makes of a text, or the refusal that document 01 gives it.
-fn expected_from_text(text: &[u8]) -> Result<Note, u32> {
+pub fn expected_from_text(text: &[u8]) -> Result<Note, u32> {
     if text.len() > LIMIT {
         return Err(2);
     }
@@ -68,7 +68,7 @@ fn from_text(tally: &mut Tally, text: &[u8], rooms: impl IntoIterator<Item = (us
 }
 
 /// Buffers that are just large enough, larger, and short in one column, the other or both.
-fn rooms(len: usize) -> Vec<(usize, usize)> {
+pub fn rooms(len: usize) -> Vec<(usize, usize)> {
     let short = len.saturating_sub(1);
     vec![
         (len, len),
@@ -208,23 +208,24 @@ fn every_size(tally: &mut Tally) {
 }
 
 /// A fault of each rank and kind; document 01's order decides among those of one note.
+pub const FAULTS: [fn(&mut Note); 9] = [
+    |note| note.original.resize(LIMIT + 1, b'o'),
+    |note| note.normalized.resize(LIMIT + 1, b'n'),
+    |note| note.original_shift = u32::MAX,
+    |note| note.starts.push(4),
+    |note| note.ends.truncate(1),
+    |note| note.original[0] = 0xFF,
+    |note| note.normalized[0] = 0xFF,
+    |note| note.starts[0] = 3,
+    |note| note.ends[0] = 2,
+];
+
 fn every_set_of_faults(tally: &mut Tally) {
     tally.family("every set of faults out of nine");
-    let faults: [fn(&mut Note); 9] = [
-        |note| note.original.resize(LIMIT + 1, b'o'),
-        |note| note.normalized.resize(LIMIT + 1, b'n'),
-        |note| note.original_shift = u32::MAX,
-        |note| note.starts.push(4),
-        |note| note.ends.truncate(1),
-        |note| note.original[0] = 0xFF,
-        |note| note.normalized[0] = 0xFF,
-        |note| note.starts[0] = 3,
-        |note| note.ends[0] = 2,
-    ];
     let sound = Note::from(&NormalizedString::from("aéb"));
-    for set in 0..1_u32 << faults.len() {
+    for set in 0..1_u32 << FAULTS.len() {
         let mut note = sound.clone();
-        for (_, fault) in faults.iter().enumerate().filter(|(i, _)| set >> i & 1 == 1) {
+        for (_, fault) in FAULTS.iter().enumerate().filter(|(i, _)| set >> i & 1 == 1) {
             fault(&mut note);
         }
         check_note(tally, &note, || format!("faults {set:09b}"));
