@@ -92,6 +92,18 @@ uint32_t zulmyren_convert_all(
     bool of_original, const uint32_t *from, size_t from_len, const uint32_t *to, size_t to_len, uint8_t *numbers, size_t numbers_len,
     uint32_t *out_starts, size_t out_starts_len, uint32_t *out_ends, size_t out_ends_len);
 
+/* A place list is bytes: for each place 11 (unmatched) or 12 (matched), its start and its end in the cleaned text, two bytes each, little-endian. It is refused
+ * (8) where a command is unknown or cut, a place ends before it starts, the places do not cover the text in order, or one stands inside a character. */
+
+/* A note with every matched place replaced by the filler (Rust: replace). The first count bytes of out, and as many of out_starts and out_ends, are the published
+ * note: unmatched places keep their bytes and alignments, each filler byte carries the alignment of the byte before its place's end, (0, 0) if that end is 0.
+ * Refusals: 2, 3, 1 (also of the filler), 4, 8, 9. count is 0 where it refuses. */
+zulmyren_count zulmyren_replace(
+    const uint8_t *original, size_t original_len, const uint8_t *normalized, size_t normalized_len,
+    const uint16_t *starts, size_t starts_len, const uint16_t *ends, size_t ends_len, uint32_t original_shift,
+    const uint8_t *list, size_t list_len, const uint8_t *filler, size_t filler_len, uint8_t *out, size_t out_len,
+    uint16_t *out_starts, size_t out_starts_len, uint16_t *out_ends, size_t out_ends_len);
+
 #ifdef __cplusplus
 }
 #endif

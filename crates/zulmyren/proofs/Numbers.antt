@@ -1,7 +1,7 @@
 -- From a call's answer to the exported number.
-use Prim.Native.Nat.{ℕ}
-use mathlib.Core.Path.{_≡_, _∙_, ap, sym}
-use mathlib.Core.Bool.{Bool}
+use Prim.Native.Nat.{ℕ, _≤_, min}
+use mathlib.Core.Path.{_≡_, _∙_, ap, refl, sym}
+use mathlib.Core.Bool.{Bool, true, _&&_}
 use mathlib.Core.List.{List}
 use Rattle.note.specs.declared.LetterCount.{LetterCount}
 use Rattle.note.specs.declared.LetterCount.the-variants.{Letters, Unread}
@@ -21,9 +21,22 @@ use Rattle.convert.specs.Converting.{startOf, endOf}
 use Rattle.reading.specs.Reading.{partFaults}
 use Rattle.batch.specs.declared.OffsetReferential.{OffsetReferential}
 use Rattle.batch.specs.Ranges.{rangeOf, ConvertedAll as Batch}
+use borrow.Author.Tests.{leb-true, not-false}
+use native.Mathlib.Omega.{arith}
+use lib.Dec.{leb}
+use lib.ListN.{length}
+use Rattle.runs.proofs.Everywhere.{and-left}
+use Rattle.note.specs.declared.Refusal.the-variants.{NoRoom}
+use Rattle.note.specs.declared.Verdict.the-variants.{Accepted, Refused as Rejected}
+use Rattle.note.proofs.Verdicts.{accepted-meets}
+use Rattle.pattern.specs.Places.{placesOf}
+use Rattle.replace.specs.Replacing.{laid, replaced, hasRoom, replaceFaults, Replacing}
+use Rattle.replace.specs.Writing.{sizes}
+use Rattle.replace.specs.Blanking.{taken}
+use Rattle.replace.proofs.Sizes.{length-laid}
 use Rattle.zulmyren.specs.declared.Count.{Count}
 use Rattle.zulmyren.specs.declared.Offsets.{Offsets}
-use Rattle.zulmyren.specs.Calls.{countOf, charsOf, sideOf, offsetsOf, StartedCall, ConvertedCall, BatchCall}
+use Rattle.zulmyren.specs.Calls.{countOf, charsOf, sideOf, offsetsOf, lengthIn, StartedCall, ConvertedCall, BatchCall, ReplaceCall}
 
 pub started-call : (text starts₀ ends₀ : List ℕ) (v : Verdict) (r : ℕ) (starts₁ ends₁ : List ℕ) → Started text starts₀ ends₀ v starts₁ ends₁ → r ≡ answerOf v → StartedCall text starts₀ ends₀ r starts₁ ends₁
 started-call text starts₀ ends₀ v r starts₁ ends₁ s e = record { number = e ∙ ap answerOf (s .answer); buffers = rw (s .answer) at s }
@@ -63,3 +76,33 @@ part-call o m side b range a e v r p q w t =
 -- the batch, through the side
 pub batch-side : (n : Note) (side : OffsetReferential) (b : Bool) (from to n₀ s₀ e₀ : List ℕ) (v : Verdict) (r : ℕ) (n₁ s₁ e₁ : List ℕ) → side ≡ sideOf b → Batch n side from to n₀ s₀ e₀ v n₁ s₁ e₁ → r ≡ answerOf v → BatchCall n (sideOf b) from to n₀ s₀ e₀ r n₁ s₁ e₁
 batch-side n side b from to n₀ s₀ e₀ v r n₁ s₁ e₁ p s e = batch-call n (sideOf b) from to n₀ s₀ e₀ v r n₁ s₁ e₁ (rw p at s) e
+
+-- what an accepted replacement measures is what it publishes
+published-size : (n : Note) (list filler out₀ starts₀ ends₀ out starts ends : List ℕ) (m : ℕ) → Replacing n list filler out₀ starts₀ ends₀ Accepted out starts ends → m ≡ min 65536 (sizes (length filler) (placesOf list)) → m ≡ length (replaced (placesOf list) filler n .text)
+unfolding replaced hasRoom
+published-size n list filler out₀ starts₀ ends₀ out starts ends m call e =
+    let long : length (laid (λ (end : ℕ). filler) (placesOf list) (n .normalized)) ≡ sizes (length filler) (placesOf list) =
+    length-laid (n .normalized) (n .normalized) (λ (end : ℕ). filler) (length filler) 0 (placesOf list) refl (λ end. refl) (taken call .covered) in
+    let room : hasRoom (replaced (placesOf list) filler n) (length out₀) (length starts₀) (length ends₀) ≡ true =
+    not-false _ (accepted-meets (replaceFaults n list filler (length out₀) (length starts₀) (length ends₀)) (sym (call .answer)) NoRoom) in
+    let t = length (laid (λ (end : ℕ). filler) (placesOf list) (n .normalized)) in
+    let short : t ≤ 65535 = leb-true t 65535 (and-left (leb t 65535) _ (and-left (leb t 65535 && leb t (length out₀)) _ (and-left _ _ room))) in
+    e ∙ omega arith
+
+pub replace-told : (n : Note) (list filler out₀ starts₀ ends₀ : List ℕ) (v : Verdict) (out starts ends : List ℕ) (m : ℕ) → Replacing n list filler out₀ starts₀ ends₀ v out starts ends → v ≡ Accepted → m ≡ min 65536 (sizes (length filler) (placesOf list)) → ReplaceCall n list filler out₀ starts₀ ends₀ (record { refusal = 0; count = m }) out starts ends
+replace-told n list filler out₀ starts₀ ends₀ v out starts ends m call a e =
+    let yes : Replacing n list filler out₀ starts₀ ends₀ Accepted out starts ends = rw a at call in
+    record {
+      number = ap answerOf (yes .answer);
+      size = published-size n list filler out₀ starts₀ ends₀ out starts ends m yes e ∙ ap (λ (w : Verdict). lengthIn w (length (replaced (placesOf list) filler n .text))) (yes .answer);
+      buffers = rw (yes .answer) at yes;
+    }
+
+pub replace-refused : (n : Note) (list filler out₀ starts₀ ends₀ : List ℕ) (v : Verdict) (out starts ends : List ℕ) (k : Refusal) (r : ℕ) → Replacing n list filler out₀ starts₀ ends₀ v out starts ends → v ≡ Rejected k → r ≡ numberOf k → ReplaceCall n list filler out₀ starts₀ ends₀ (record { refusal = r; count = 0 }) out starts ends
+replace-refused n list filler out₀ starts₀ ends₀ v out starts ends k r call a e =
+    let no : Replacing n list filler out₀ starts₀ ends₀ (Rejected k) out starts ends = rw a at call in
+    record {
+      number = e ∙ ap answerOf (no .answer);
+      size = ap (λ (w : Verdict). lengthIn w (length (replaced (placesOf list) filler n .text))) (no .answer);
+      buffers = rw (no .answer) at no;
+    }

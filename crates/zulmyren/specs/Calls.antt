@@ -16,6 +16,10 @@ use Rattle.convert.specs.declared.Converted.{Converted}
 use Rattle.batch.specs.declared.OffsetReferential.{OffsetReferential}
 use Rattle.batch.specs.declared.OffsetReferential.the-variants.{Original, Normalized}
 use Rattle.batch.specs.Ranges.{numberIn, startIn, endIn, even, roomy, batchFaults, ConvertedAll as Batch}
+use Rattle.note.specs.declared.Verdict.{Verdict}
+use Rattle.note.specs.declared.Verdict.the-variants.{Accepted, Refused as Rejected}
+use Rattle.pattern.specs.Places.{placesOf}
+use Rattle.replace.specs.Replacing.{replaced, replaceFaults, Replacing}
 use Rattle.zulmyren.specs.declared.Count.{Count}
 use Rattle.zulmyren.specs.declared.Offsets.{Offsets}
 
@@ -48,3 +52,13 @@ offsetsOf answer = record { refusal = numberIn answer; start = startIn answer; e
 pub record BatchCall (n : Note) (side : OffsetReferential) (from to n₀ s₀ e₀ : List ℕ) (r : ℕ) (n₁ s₁ e₁ : List ℕ) : Type 0 where
   pub number : r ≡ answerOf (verdict (batchFaults n (even from to) (roomy (length from) n₀ s₀ e₀)))
   pub buffers : Batch n side from to n₀ s₀ e₀ (verdict (batchFaults n (even from to) (roomy (length from) n₀ s₀ e₀))) n₁ s₁ e₁
+
+-- the length of a result, 0 where the call is refused
+abbrev pub lengthIn : Verdict → ℕ → ℕ
+lengthIn Accepted n = n
+lengthIn (Rejected k) n = 0
+
+pub record ReplaceCall (n : Note) (list filler out₀ starts₀ ends₀ : List ℕ) (r : Count) (out starts ends : List ℕ) : Type 0 where
+  pub number : r .refusal ≡ answerOf (verdict (replaceFaults n list filler (length out₀) (length starts₀) (length ends₀)))
+  pub size : r .count ≡ lengthIn (verdict (replaceFaults n list filler (length out₀) (length starts₀) (length ends₀))) (length (replaced (placesOf list) filler n .text))
+  pub buffers : Replacing n list filler out₀ starts₀ ends₀ (verdict (replaceFaults n list filler (length out₀) (length starts₀) (length ends₀))) out starts ends

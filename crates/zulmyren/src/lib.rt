@@ -4,6 +4,7 @@ use batch::range_of;
 use convert::Converted;
 use note::LetterCount;
 use note::OriginalByte;
+use note::Verdict;
 use positions::CharOffsets;
 ghost use mathlib.Core.Path.{_≡_};
 ghost use Rattle.utf8.specs.Formed.{wellFormed};
@@ -14,7 +15,7 @@ ghost use Rattle.positions.specs.Positions.{converted};
 ghost use Rattle.convert.specs.Converting.{convertOffsets};
 ghost use Rattle.reading.specs.Reading.{getRange, getRangeOriginal, partFaults};
 ghost use Rattle.batch.specs.Ranges.{rangeOf};
-ghost use Rattle.zulmyren.specs.Calls.{countOf, charsOf, sideOf, offsetsOf, BatchCall, ConvertedCall, StartedCall};
+ghost use Rattle.zulmyren.specs.Calls.{countOf, charsOf, sideOf, offsetsOf, BatchCall, ConvertedCall, ReplaceCall, StartedCall};
 
 #[no_mangle]
 pub extern "C" fn zulmyren_well_formed(text: &[u8]) -> bool
@@ -232,4 +233,42 @@ pub extern "C" fn zulmyren_convert_all(
         out_starts,
         out_ends,
     ))
+}
+
+#[no_mangle]
+pub extern "C" fn zulmyren_replace(
+    original: &[u8],
+    normalized: &[u8],
+    starts: &[u16],
+    ends: &[u16],
+    original_shift: u32,
+    list: &[u8],
+    filler: &[u8],
+    out: &mut [u8],
+    out_starts: &mut [u16],
+    out_ends: &mut [u16],
+) -> Count
+    ensures { λ r. ⌜ ReplaceCall (record { original = now (original .entry); normalized = now (normalized .entry); starts = now (starts .entry); ends = now (ends .entry); original-shift = «original_shift» }) (now (list .entry)) (now (filler .entry)) (now (out .entry)) (now («out_starts» .entry)) (now («out_ends» .entry)) r (now (out .exit)) (now («out_starts» .exit)) (now («out_ends» .exit)) ⌝ }
+{
+    match replace::replace(
+        original,
+        normalized,
+        starts,
+        ends,
+        original_shift,
+        list,
+        filler,
+        out,
+        out_starts,
+        out_ends,
+    ) {
+        Verdict::Accepted => Count {
+            refusal: 0,
+            count: replace::measure(list, filler.len()) as u32,
+        },
+        Verdict::Refused(k) => Count {
+            refusal: note::number(k),
+            count: 0,
+        },
+    }
 }
