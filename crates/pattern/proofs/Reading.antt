@@ -1,19 +1,15 @@
 -- A list read place by place: what stands at a command, and the places from there on.
 use Prim.Native.Nat.{ℕ, zero, suc, _+_, _-_, _≤_, _<_}
-use mathlib.Core.Path.{_≡_, _∙_, ap, refl, sym}
-use mathlib.Core.Bool.{cond}
+use mathlib.Core.Path.{_≡_, _∙_, ap, refl}
 use mathlib.Core.List.{List, [], _∷_}
-use native.Mathlib.Numerals.{add-one}
 use native.Mathlib.Omega.{arith}
-use lib.Dec.{leb}
 use lib.ListN.{length, getD, drop, length-drop, drop-of-length-le}
 use lib.Seq.{drop-cons, drop-drop, getD-drop}
-use borrow.Author.Tests.{le-leb, lt-leb, eq-eqb, ne-eqb}
+use borrow.Author.Tests.{le-leb, lt-leb, ne-eqb}
 use Rattle.runs.proofs.Everywhere.{le-or-lt}
 use Rattle.note.specs.declared.NormalizedByte.{NormalizedByte}
-use Rattle.pattern.specs.declared.Place.{Place}
 use Rattle.pattern.specs.declared.Place.the-variants.{Unmatched, Matched, Broken}
-use Rattle.pattern.specs.Places.{offsetAt, placeOf, placeAt, placesFrom, placesOf}
+use Rattle.pattern.specs.Places.{offsetAt, placeAt, placesFrom, placesOf}
 
 pub place-cut : (l : List ℕ) (at : ℕ) → length l < at + 5 → Broken ≡ placeAt l at
 unfolding placeAt

@@ -1,9 +1,8 @@
 -- What `replace` answers, by the checks that were made, and what an accepted note brings for the writing.
-use Prim.Native.Nat.{ℕ, _≤_}
+use Prim.Native.Nat.{ℕ}
 use mathlib.Core.Path.{_≡_, _∙_, ap, refl, sym}
 use mathlib.Core.Bool.{Bool, true, false, cond, not, _&&_}
 use mathlib.Core.List.{List}
-use native.Mathlib.Omega.{arith}
 use lib.Dec.{leb, eqb}
 use lib.ListN.{length, length-replicate}
 use borrow.Author.Tests.{eqb-true, leb-true, not-false}
@@ -14,10 +13,10 @@ use Rattle.note.specs.declared.Refusal.the-variants.{LengthMismatch, BadMatches
 use Rattle.note.specs.declared.Verdict.{Verdict}
 use Rattle.note.specs.declared.Verdict.the-variants.{Accepted, Refused}
 use Rattle.note.specs.Refusals.{verdict}
-use Rattle.note.specs.Notes.{Note, limit, fits, paired, textsFormed, aligned, besideFaults}
+use Rattle.note.specs.Notes.{Note, limit, paired, besideFaults}
 use Rattle.note.proofs.Verdicts.{accepted-meets}
 use Rattle.pattern.specs.Places.{placesOf, covers}
-use Rattle.replace.specs.Replacing.{laid, carried, replaced, hasRoom, replaceFaults, Replacing}
+use Rattle.replace.specs.Replacing.{carried, replaced, hasRoom, replaceFaults, Replacing}
 use Rattle.replace.specs.Writing.{sizes, sizeFits, listVerdict, Ready, AllLaid}
 use Rattle.replace.specs.Blanking.{Taken, accepted-taken}
 use Rattle.replace.proofs.Sizes.{length-laid}

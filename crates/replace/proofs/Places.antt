@@ -1,8 +1,8 @@
 -- Places laid down: what one needs and gives, and a list that has been laid down up to a place.
 use Prim.Native.Nat.{ℕ, _+_, _-_, _≤_, _<_}
-use mathlib.Core.Path.{_≡_, _∙_, ap, refl, sym}
+use mathlib.Core.Path.{_≡_, refl}
 use mathlib.Core.Bool.{true}
-use mathlib.Core.List.{List, [], _∷_, _++_}
+use mathlib.Core.List.{List, _++_}
 use native.Mathlib.Omega.{arith}
 use borrow.Author.Tests.{ne-eqb}
 use lib.ListN.{length, getD, replicate, drop, length-append, length-replicate}
@@ -16,7 +16,7 @@ use Rattle.pattern.proofs.Reading.{places-none, places-step}
 use Rattle.pattern.proofs.Covering.{Span, fits-unmatched, fits-matched, fits-broken, covers-first, covers-rest}
 use Rattle.pattern.proofs.Judging.{fits-whole}
 use Rattle.replace.specs.Replacing.{piece, laid, beforeEnd, carried}
-use Rattle.replace.specs.Writing.{sizeOf, sizes, Keeping, Kept, Filling, Filled, Fitting, PlaceLaid, Ready, AllLaid}
+use Rattle.replace.specs.Writing.{sizeOf, Keeping, Kept, Filling, Filled, Fitting, PlaceLaid, Ready, AllLaid}
 use Rattle.replace.proofs.Sizes.{length-piece, length-laid}
 
 pub before-zero : (xs : List ℕ) (end : ℕ) → end ≡ 0 → 0 ≡ beforeEnd xs end

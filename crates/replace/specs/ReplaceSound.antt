@@ -1,16 +1,16 @@
 -- An accepted replacement leaves a sound note, within the limits, of the same transcript and shift. The claim, `replaced-sound`, stands at the end.
 -- The result is taken in stretches, each of which can stand between the alignment before one place's start and that before another's end.
 use Prim.Native.Nat.{ℕ, zero, suc, _+_, _-_, _≤_, _<_}
-use mathlib.Core.Path.{_≡_, _∙_, ap, refl, sym}
+use mathlib.Core.Path.{_≡_, _∙_, refl, sym}
 use mathlib.Core.Bool.{Bool, true, false, not, _&&_, _||_}
 use mathlib.Core.List.{List, [], _∷_, _++_}
 use native.Mathlib.Omega.{arith}
-use lib.Dec.{leb, eqb}
-use lib.ListN.{length, getD, take, drop, replicate, length-append, length-replicate, getD-replicate, List·getD-append}
+use lib.Dec.{leb}
+use lib.ListN.{length, getD, drop, length-append, length-replicate, getD-replicate, List·getD-append}
 use lib.Seq.{getD-take, getD-drop, getD-append-add}
-use borrow.Author.Tests.{ne-eqb, eq-eqb, le-leb, leb-true, not-false}
+use borrow.Author.Tests.{eq-eqb, not-false}
 use Rattle.runs.specs.Splice.{part}
-use Rattle.runs.proofs.Everywhere.{and-true, and-left, and-right, le-or-lt, true-or-false, clash}
+use Rattle.runs.proofs.Everywhere.{and-true, and-left, and-right, le-or-lt, clash}
 use Rattle.utf8.specs.Formed.{wellFormed, formed, continues, boundary}
 use Rattle.utf8.proofs.Boundaries.{boundary-zero, boundary-begins, formed-part, formed-append}
 use Rattle.note.specs.declared.Refusal.{Refusal}
@@ -19,14 +19,14 @@ use Rattle.note.specs.declared.Verdict.the-variants.{Accepted}
 use Rattle.note.specs.Notes.{Note, limit, fits, paired, textsFormed, aligned, startAt, endAt, Sound}
 use Rattle.note.proofs.Verdicts.{accepted-meets}
 use Rattle.note.proofs.SoundAt.{length-starts, length-ends, original-formed, normalized-formed, inside-at, boundaries-at, shared-at, forward-at}
-use Rattle.note.proofs.SoundFrom.{AlignedAt, aligned-from}
+use Rattle.note.proofs.SoundFrom.{aligned-from}
 use Rattle.pattern.specs.declared.Place.{Place}
 use Rattle.pattern.specs.declared.Place.the-variants.{Unmatched, Matched, Broken}
-use Rattle.pattern.specs.Places.{placesOf, coversFrom, covers}
-use Rattle.pattern.proofs.Covering.{Step, covers-unmatched, covers-matched, covers-broken, covers-none}
+use Rattle.pattern.specs.Places.{placesOf, coversFrom}
+use Rattle.pattern.proofs.Covering.{Step, covers-unmatched, covers-matched, covers-broken}
 use Rattle.replace.specs.Replacing.{piece, laid, beforeEnd, carried, Published, replaced, hasRoom, replaceFaults, Replacing}
 use Rattle.replace.specs.Columns.{length-part}
-use Rattle.replace.specs.Blanking.{Taken, taken, before-some}
+use Rattle.replace.specs.Blanking.{taken, before-some}
 
 -- an alignment that can stand between those before lo and before hi
 record Fit (n : Note) (lo hi x y : ℕ) : Type 0 where
