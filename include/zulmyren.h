@@ -104,6 +104,16 @@ zulmyren_count zulmyren_replace(
     const uint8_t *list, size_t list_len, const uint8_t *filler, size_t filler_len, uint8_t *out, size_t out_len,
     uint16_t *out_starts, size_t out_starts_len, uint16_t *out_ends, size_t out_ends_len);
 
+/* Whether two notes, with the same places blanked by the same filler, are published alike, byte for byte and alignment for alignment: count is 1 or 0. That is so exactly
+ * when they agree outside the matched places and, where the filler is not empty, on the alignment of the byte before each matched place's end. Refusals: those
+ * of replacing the first note, then the second, with buffers of 65,535. */
+zulmyren_count zulmyren_published_alike(
+    const uint8_t *original, size_t original_len, const uint8_t *normalized, size_t normalized_len,
+    const uint16_t *starts, size_t starts_len, const uint16_t *ends, size_t ends_len, uint32_t original_shift,
+    const uint8_t *other_original, size_t other_original_len, const uint8_t *other, size_t other_len,
+    const uint16_t *other_starts, size_t other_starts_len, const uint16_t *other_ends, size_t other_ends_len, uint32_t other_shift,
+    const uint8_t *list, size_t list_len, const uint8_t *filler, size_t filler_len);
+
 #ifdef __cplusplus
 }
 #endif

@@ -34,9 +34,12 @@ use Rattle.replace.specs.Replacing.{laid, replaced, hasRoom, replaceFaults, Rep
 use Rattle.replace.specs.Writing.{sizes}
 use Rattle.replace.specs.Blanking.{taken}
 use Rattle.replace.proofs.Sizes.{length-laid}
+use mir.Val.{boolByte}
+use Rattle.alike.specs.declared.Comparison.{Comparison}
+use Rattle.alike.specs.declared.Comparison.the-variants.{Compared, Uncompared}
 use Rattle.zulmyren.specs.declared.Count.{Count}
 use Rattle.zulmyren.specs.declared.Offsets.{Offsets}
-use Rattle.zulmyren.specs.Calls.{countOf, charsOf, sideOf, offsetsOf, lengthIn, StartedCall, ConvertedCall, BatchCall, ReplaceCall}
+use Rattle.zulmyren.specs.Calls.{countOf, charsOf, comparedOf, sideOf, offsetsOf, lengthIn, StartedCall, ConvertedCall, BatchCall, ReplaceCall}
 
 pub started-call : (text starts₀ ends₀ : List ℕ) (v : Verdict) (r : ℕ) (starts₁ ends₁ : List ℕ) → Started text starts₀ ends₀ v starts₁ ends₁ → r ≡ answerOf v → StartedCall text starts₀ ends₀ r starts₁ ends₁
 started-call text starts₀ ends₀ v r starts₁ ends₁ s e = record { number = e ∙ ap answerOf (s .answer); buffers = rw (s .answer) at s }
@@ -106,3 +109,9 @@ replace-refused n list filler out₀ starts₀ ends₀ v out starts ends k r cal
       size = ap (λ (w : Verdict). lengthIn w (length (replaced (placesOf list) filler n .text))) (no .answer);
       buffers = rw (no .answer) at no;
     }
+
+pub compared-told : (v w : Comparison) (b : Bool) → v ≡ w → v ≡ Compared b → record { refusal = 0; count = boolByte b } ≡ comparedOf w
+compared-told v w b e l = sym (ap comparedOf (sym e ∙ l))
+
+pub compared-refused : (v w : Comparison) (k : Refusal) (r : ℕ) → v ≡ w → v ≡ Uncompared k → r ≡ numberOf k → record { refusal = r; count = 0 } ≡ comparedOf w
+compared-refused v w k r e l q = rw q (sym (ap comparedOf (sym e ∙ l)))

@@ -20,6 +20,9 @@ use Rattle.note.specs.declared.Verdict.{Verdict}
 use Rattle.note.specs.declared.Verdict.the-variants.{Accepted, Refused as Rejected}
 use Rattle.pattern.specs.Places.{placesOf}
 use Rattle.replace.specs.Replacing.{replaced, replaceFaults, Replacing}
+use mir.Val.{boolByte}
+use Rattle.alike.specs.declared.Comparison.{Comparison}
+use Rattle.alike.specs.declared.Comparison.the-variants.{Compared, Uncompared}
 use Rattle.zulmyren.specs.declared.Count.{Count}
 use Rattle.zulmyren.specs.declared.Offsets.{Offsets}
 
@@ -62,3 +65,8 @@ pub record ReplaceCall (n : Note) (list filler out₀ starts₀ ends₀ : List �
   pub number : r .refusal ≡ answerOf (verdict (replaceFaults n list filler (length out₀) (length starts₀) (length ends₀)))
   pub size : r .count ≡ lengthIn (verdict (replaceFaults n list filler (length out₀) (length starts₀) (length ends₀))) (length (replaced (placesOf list) filler n .text))
   pub buffers : Replacing n list filler out₀ starts₀ ends₀ (verdict (replaceFaults n list filler (length out₀) (length starts₀) (length ends₀))) out starts ends
+
+-- 1 for alike and 0 for not, or the refusal's number
+abbrev pub comparedOf : Comparison → Count
+comparedOf (Compared same) = record { refusal = 0; count = boolByte same }
+comparedOf (Uncompared k) = record { refusal = numberOf k; count = 0 }

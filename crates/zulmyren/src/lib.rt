@@ -1,4 +1,5 @@
 // The exported calls, for C and Rust: include/zulmyren.h says what each means. Nothing else is exported.
+use alike::Comparison;
 use batch::OffsetReferential;
 use batch::range_of;
 use convert::Converted;
@@ -14,8 +15,9 @@ ghost use Rattle.note.specs.Refusals.{answerOf, verdict};
 ghost use Rattle.positions.specs.Positions.{converted};
 ghost use Rattle.convert.specs.Converting.{convertOffsets};
 ghost use Rattle.reading.specs.Reading.{getRange, getRangeOriginal, partFaults};
+ghost use Rattle.alike.specs.Alike.{says};
 ghost use Rattle.batch.specs.Ranges.{rangeOf};
-ghost use Rattle.zulmyren.specs.Calls.{countOf, charsOf, sideOf, offsetsOf, BatchCall, ConvertedCall, ReplaceCall, StartedCall};
+ghost use Rattle.zulmyren.specs.Calls.{countOf, charsOf, comparedOf, sideOf, offsetsOf, BatchCall, ConvertedCall, ReplaceCall, StartedCall};
 
 #[no_mangle]
 pub extern "C" fn zulmyren_well_formed(text: &[u8]) -> bool
@@ -267,6 +269,48 @@ pub extern "C" fn zulmyren_replace(
             count: replace::measure(list, filler.len()) as u32,
         },
         Verdict::Refused(k) => Count {
+            refusal: note::number(k),
+            count: 0,
+        },
+    }
+}
+
+#[no_mangle]
+pub extern "C" fn zulmyren_published_alike(
+    original: &[u8],
+    normalized: &[u8],
+    starts: &[u16],
+    ends: &[u16],
+    original_shift: u32,
+    other_original: &[u8],
+    other: &[u8],
+    other_starts: &[u16],
+    other_ends: &[u16],
+    other_shift: u32,
+    list: &[u8],
+    filler: &[u8],
+) -> Count
+    ensures { λ r. ⌜ r ≡ comparedOf (says (record { original = now (original .entry); normalized = now (normalized .entry); starts = now (starts .entry); ends = now (ends .entry); original-shift = «original_shift» }) (record { original = now («other_original» .entry); normalized = now (other .entry); starts = now («other_starts» .entry); ends = now («other_ends» .entry); original-shift = «other_shift» }) (now (list .entry)) (now (filler .entry))) ⌝ }
+{
+    match alike::published_alike(
+        original,
+        normalized,
+        starts,
+        ends,
+        original_shift,
+        other_original,
+        other,
+        other_starts,
+        other_ends,
+        other_shift,
+        list,
+        filler,
+    ) {
+        Comparison::Compared(same) => Count {
+            refusal: 0,
+            count: same as u32,
+        },
+        Comparison::Uncompared(k) => Count {
             refusal: note::number(k),
             count: 0,
         },
