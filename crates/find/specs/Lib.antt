@@ -1,0 +1,7 @@
+-- Finding a literal (document 01, Finding).
+pub mod Matching
+pub mod Encoding
+pub mod Leftmost
+pub mod Searching
+pub mod Covered
+pub mod ReadBack

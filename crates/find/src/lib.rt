@@ -1,0 +1,125 @@
+// Finding a literal (document 01; Rust: `Pattern for &str`): leftmost, non-overlapping matches as a covering match list.
+// The list is measured by one search through the text, and written by a second one once there is room for it.
+pub mod search;
+
+use note::LIMIT;
+use note::Refusal;
+use search::next_match;
+use validity::well_formed;
+ghost use mathlib.Core.Path.{_≡_};
+ghost use Prim.Native.Nat.{_+_, _≤_};
+ghost use lib.ListN.{length};
+ghost use Rattle.runs.specs.Splice.{overlay, splice};
+ghost use Rattle.note.specs.Notes.{limit};
+ghost use Rattle.find.specs.Encoding.{encodedPlaces, placeBytes};
+ghost use Rattle.find.specs.Matching.{Finding, between, foundBytes};
+ghost use Rattle.find.specs.Searching.{Room, Laid};
+
+// What finding says: how many bytes of the list were written.
+pub enum Matches {
+    Written(usize),
+    Refused(Refusal),
+}
+
+// How many bytes of a list what stands between two matches has.
+fn between_size(start: usize, end: usize) -> usize
+    ensures { λ r. ⌜ r ≡ length (encodedPlaces (between start end)) ⌝ }
+{
+    if start < end {
+        return 5;
+    }
+    0
+}
+
+// How many bytes the list of a literal's matches has.
+fn measure(text: &[u8], literal: &[u8]) -> usize
+    requires { ⌜ length (now text) ≤ limit ⌝ }
+    ensures { λ r. ⌜ r ≡ length (foundBytes (now (text .entry)) (now (literal .entry))) ⌝ }
+{
+    if text.len() == 0 {
+        return 5;
+    }
+    if literal.len() == 0 {
+        return 5;
+    }
+    let mut size = 0;
+    let mut at = 0;
+    let mut p = next_match(text, literal, 0);
+    while p < text.len() {
+        size += between_size(at, p) + 5;
+        at = p + literal.len();
+        p = next_match(text, literal, at);
+    }
+    size + between_size(at, p)
+}
+
+// A place with its command, in the list from `i` on.
+fn write_place(command: u8, start: usize, end: usize, out: &mut [u8], i: usize)
+    requires { ⌜ Room start end (length (now out)) (i + 5) ⌝ }
+    ensures { λ _. ⌜ now (out .exit) ≡ splice (now (out .entry)) i (placeBytes command start end) ⌝ }
+{
+    out[i] = command;
+    out[i + 1] = (start % 256) as u8;
+    out[i + 2] = (start / 256) as u8;
+    out[i + 3] = (end % 256) as u8;
+    out[i + 4] = (end / 256) as u8;
+}
+
+// What stands between two matches, in the list from `i` on; where the list reaches then.
+fn write_between(start: usize, end: usize, out: &mut [u8], i: usize) -> usize
+    requires { ⌜ Room start end (length (now out)) (i + length (encodedPlaces (between start end))) ⌝ }
+    ensures { λ r. ⌜ Laid (encodedPlaces (between start end)) (now (out .entry)) i r (now (out .exit)) ⌝ }
+{
+    if start < end {
+        write_place(11, start, end, out, i);
+        return i + 5;
+    }
+    i
+}
+
+// The list of a literal's matches, for which there is room.
+fn write_list(text: &[u8], literal: &[u8], out: &mut [u8])
+    requires { ⌜ (length (now text) ≤ limit) × (length (foundBytes (now text) (now literal)) ≤ length (now out)) ⌝ }
+    ensures { λ _. ⌜ now (out .exit) ≡ overlay (foundBytes (now (text .entry)) (now (literal .entry))) (now (out .entry)) ⌝ }
+{
+    if text.len() == 0 {
+        write_place(11, 0, 0, out, 0);
+        return;
+    }
+    if literal.len() == 0 {
+        write_place(11, 0, text.len(), out, 0);
+        return;
+    }
+    let mut i = 0;
+    let mut at = 0;
+    let mut p = next_match(text, literal, 0);
+    while p < text.len() {
+        i = write_between(at, p, out, i);
+        at = p + literal.len();
+        write_place(12, p, at, out, i);
+        i += 5;
+        p = next_match(text, literal, at);
+    }
+    write_between(at, p, out, i);
+}
+
+// The literal's matches in the text, and what stands between them, as a match list in `out`. Refusals, in this order: 2, 1, 9.
+pub fn find_matches(text: &[u8], literal: &[u8], out: &mut [u8]) -> Matches
+    ensures { λ r. ⌜ Finding (now (text .entry)) (now (literal .entry)) (now (out .entry)) r (now (out .exit)) ⌝ }
+{
+    if LIMIT < text.len() {
+        return Matches::Refused(Refusal::TooLong);
+    }
+    if !well_formed(text) {
+        return Matches::Refused(Refusal::IllFormed);
+    }
+    if !well_formed(literal) {
+        return Matches::Refused(Refusal::IllFormed);
+    }
+    let size = measure(text, literal);
+    if out.len() < size {
+        return Matches::Refused(Refusal::NoRoom);
+    }
+    write_list(text, literal, out);
+    Matches::Written(size)
+}
