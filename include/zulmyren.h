@@ -95,6 +95,14 @@ uint32_t zulmyren_convert_all(
 /* A place list is bytes: for each place 11 (unmatched) or 12 (matched), its start and its end in the cleaned text, two bytes each, little-endian. It is refused
  * (8) where a command is unknown or cut, a place ends before it starts, the places do not cover the text in order, or one stands inside a character. */
 
+/* The places of a literal in a text (Rust: find_matches of &str): leftmost, non-overlapping, as a list that covers the text. The first len bytes of out are written.
+ * An empty literal matches nothing. Refusals: 2, 1 (text or literal), 9 (five bytes a place). len is 0 where it refuses. */
+typedef struct {
+    uint32_t refusal;
+    size_t len;
+} zulmyren_listed;
+zulmyren_listed zulmyren_find_matches(const uint8_t *text, size_t text_len, const uint8_t *literal, size_t literal_len, uint8_t *out, size_t out_len);
+
 /* A note with every matched place replaced by the filler (Rust: replace). The first count bytes of out, and as many of out_starts and out_ends, are the published
  * note: unmatched places keep their bytes and alignments, each filler byte carries the alignment of the byte before its place's end, (0, 0) if that end is 0.
  * Refusals: 2, 3, 1 (also of the filler), 4, 8, 9. count is 0 where it refuses. */

@@ -1,8 +1,7 @@
 -- Sound alignments, from what holds of the alignment at each byte: the converse of what `SoundAt` says.
 use Prim.Native.Nat.{ℕ, zero, suc, _≤_, _<_}
 use mathlib.Core.Path.{_≡_, refl}
-use mathlib.Core.Bool.{true, false, not, _&&_, _||_}
-use native.Mathlib.Omega.{arith}
+use mathlib.Core.Bool.{true}
 use lib.ListN.{length, getD}
 use borrow.Author.Tests.{le-leb, eq-eqb}
 use Rattle.runs.proofs.Everywhere.{and-true, every-all, true-or-false}

@@ -37,9 +37,12 @@ use Rattle.replace.proofs.Sizes.{length-laid}
 use mir.Val.{boolByte}
 use Rattle.alike.specs.declared.Comparison.{Comparison}
 use Rattle.alike.specs.declared.Comparison.the-variants.{Compared, Uncompared}
+use Rattle.find.specs.declared.Matches.{Matches}
+use Rattle.find.specs.declared.Matches.the-variants.{Written, Refused as Unlisted}
+use Rattle.find.specs.Matching.{Finding}
 use Rattle.zulmyren.specs.declared.Count.{Count}
 use Rattle.zulmyren.specs.declared.Offsets.{Offsets}
-use Rattle.zulmyren.specs.Calls.{countOf, charsOf, comparedOf, sideOf, offsetsOf, lengthIn, StartedCall, ConvertedCall, BatchCall, ReplaceCall}
+use Rattle.zulmyren.specs.Calls.{countOf, charsOf, comparedOf, sideOf, offsetsOf, lengthIn, StartedCall, ConvertedCall, BatchCall, FindCall, ReplaceCall, listedOf}
 
 pub started-call : (text starts₀ ends₀ : List ℕ) (v : Verdict) (r : ℕ) (starts₁ ends₁ : List ℕ) → Started text starts₀ ends₀ v starts₁ ends₁ → r ≡ answerOf v → StartedCall text starts₀ ends₀ r starts₁ ends₁
 started-call text starts₀ ends₀ v r starts₁ ends₁ s e = record { number = e ∙ ap answerOf (s .answer); buffers = rw (s .answer) at s }
@@ -115,3 +118,9 @@ compared-told v w b e l = sym (ap comparedOf (sym e ∙ l))
 
 pub compared-refused : (v w : Comparison) (k : Refusal) (r : ℕ) → v ≡ w → v ≡ Uncompared k → r ≡ numberOf k → record { refusal = r; count = 0 } ≡ comparedOf w
 compared-refused v w k r e l q = rw q (sym (ap comparedOf (sym e ∙ l)))
+
+pub find-told : (text literal o₀ o₁ : List ℕ) (v : Matches) (n : ℕ) → Finding text literal o₀ v o₁ → v ≡ Written n → FindCall text literal o₀ (record { refusal = 0; len = n }) o₁
+find-told text literal o₀ o₁ v n f l = record { numbers = sym (ap listedOf (sym (f .answer) ∙ l)); list = f .list }
+
+pub find-refused : (text literal o₀ o₁ : List ℕ) (v : Matches) (k : Refusal) (r : ℕ) → Finding text literal o₀ v o₁ → v ≡ Unlisted k → r ≡ numberOf k → FindCall text literal o₀ (record { refusal = r; len = 0 }) o₁
+find-refused text literal o₀ o₁ v k r f l q = record { numbers = rw q (sym (ap listedOf (sym (f .answer) ∙ l))); list = f .list }

@@ -6,7 +6,7 @@ use mathlib.Core.List.{List}
 use lib.ListN.{length}
 use Rattle.note.specs.declared.LetterCount.{LetterCount}
 use Rattle.note.specs.declared.LetterCount.the-variants.{Letters, Unread}
-use Rattle.note.specs.Refusals.{numberOf, answerOf, verdict}
+use Rattle.note.specs.Refusals.{numberOf, answerOf, verdict, left}
 use Rattle.note.specs.Starting.{startingFaults, Started}
 use Rattle.positions.specs.declared.CharOffsets.{CharOffsets}
 use Rattle.positions.specs.declared.CharOffsets.the-variants.{Chars, Refused}
@@ -23,7 +23,11 @@ use Rattle.replace.specs.Replacing.{replaced, replaceFaults, Replacing}
 use mir.Val.{boolByte}
 use Rattle.alike.specs.declared.Comparison.{Comparison}
 use Rattle.alike.specs.declared.Comparison.the-variants.{Compared, Uncompared}
+use Rattle.find.specs.declared.Matches.{Matches}
+use Rattle.find.specs.declared.Matches.the-variants.{Written, Refused as Unlisted}
+use Rattle.find.specs.Matching.{findFaults, foundBytes, answered as found}
 use Rattle.zulmyren.specs.declared.Count.{Count}
+use Rattle.zulmyren.specs.declared.Listed.{Listed}
 use Rattle.zulmyren.specs.declared.Offsets.{Offsets}
 
 -- the count, or the refusal's number beside 0
@@ -70,3 +74,11 @@ pub record ReplaceCall (n : Note) (list filler out₀ starts₀ ends₀ : List �
 abbrev pub comparedOf : Comparison → Count
 comparedOf (Compared same) = record { refusal = 0; count = boolByte same }
 comparedOf (Uncompared k) = record { refusal = numberOf k; count = 0 }
+
+abbrev pub listedOf : Matches → Listed
+listedOf (Written n) = record { refusal = 0; len = n }
+listedOf (Unlisted k) = record { refusal = numberOf k; len = 0 }
+
+pub record FindCall (text literal o₀ : List ℕ) (r : Listed) (o₁ : List ℕ) : Type 0 where
+  pub numbers : r ≡ listedOf (found (verdict (findFaults text literal (length o₀))) (length (foundBytes text literal)))
+  pub list : o₁ ≡ left (verdict (findFaults text literal (length o₀))) (foundBytes text literal) o₀

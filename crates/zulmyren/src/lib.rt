@@ -3,6 +3,7 @@ use alike::Comparison;
 use batch::OffsetReferential;
 use batch::range_of;
 use convert::Converted;
+use find::Matches;
 use note::LetterCount;
 use note::OriginalByte;
 use note::Verdict;
@@ -17,7 +18,7 @@ ghost use Rattle.convert.specs.Converting.{convertOffsets};
 ghost use Rattle.reading.specs.Reading.{getRange, getRangeOriginal, partFaults};
 ghost use Rattle.alike.specs.Alike.{says};
 ghost use Rattle.batch.specs.Ranges.{rangeOf};
-ghost use Rattle.zulmyren.specs.Calls.{countOf, charsOf, comparedOf, sideOf, offsetsOf, BatchCall, ConvertedCall, ReplaceCall, StartedCall};
+ghost use Rattle.zulmyren.specs.Calls.{countOf, charsOf, comparedOf, sideOf, offsetsOf, BatchCall, ConvertedCall, FindCall, ReplaceCall, StartedCall};
 
 #[no_mangle]
 pub extern "C" fn zulmyren_well_formed(text: &[u8]) -> bool
@@ -313,6 +314,26 @@ pub extern "C" fn zulmyren_published_alike(
         Comparison::Uncompared(k) => Count {
             refusal: note::number(k),
             count: 0,
+        },
+    }
+}
+
+// The answer of finding: the refusal's number, or 0 and how many bytes the list has.
+#[repr(C)]
+pub struct Listed {
+    pub refusal: u32,
+    pub len: usize,
+}
+
+#[no_mangle]
+pub extern "C" fn zulmyren_find_matches(text: &[u8], literal: &[u8], out: &mut [u8]) -> Listed
+    ensures { λ r. ⌜ FindCall (now (text .entry)) (now (literal .entry)) (now (out .entry)) r (now (out .exit)) ⌝ }
+{
+    match find::find_matches(text, literal, out) {
+        Matches::Written(len) => Listed { refusal: 0, len },
+        Matches::Refused(k) => Listed {
+            refusal: note::number(k),
+            len: 0,
         },
     }
 }

@@ -1,5 +1,5 @@
-use Prim.Native.Nat.{_+_}
 -- The operand's two bytes make at most 65,535.
+use Prim.Native.Nat.{_+_}
 use mathlib.Core.Path.{refl}
 use Rattle.pattern.specs.Places.{offsetAt}
 use native.Mathlib.Omega.{arith}

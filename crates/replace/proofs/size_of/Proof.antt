@@ -1,6 +1,6 @@
 -- Each arm is the definition's case.
 use mathlib.Core.Path.{refl}
-use Rattle.replace.proofs.Sizes.{size-unmatched, size-matched, size-broken}
+use Rattle.replace.proofs.Sizes.{size-unmatched}
 use native.Mathlib.Omega.{arith}
 use borrow.Author.Needs.{needs}
 use Rattle.replace.proofs.size_of.Statement.{statement}
