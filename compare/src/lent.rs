@@ -8,9 +8,21 @@ pub trait Number: Copy + PartialEq {
     fn lowest_bits(of: u64) -> Self;
 }
 
+impl Number for u8 {
+    fn lowest_bits(of: u64) -> u8 {
+        of as u8
+    }
+}
+
 impl Number for u16 {
     fn lowest_bits(of: u64) -> u16 {
         of as u16
+    }
+}
+
+impl Number for u32 {
+    fn lowest_bits(of: u64) -> u32 {
+        of as u32
     }
 }
 

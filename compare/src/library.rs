@@ -63,3 +63,228 @@ pub fn from_text(text: &[u8], starts: &mut [u16], ends: &mut [u16]) -> u32 {
         zulmyren_from_text(text.as_ptr(), text.len(), starts.as_mut_ptr(), starts.len(), ends.as_mut_ptr(), ends.len())
     }
 }
+
+#[repr(C)]
+#[derive(Clone, Copy, Debug, PartialEq, Eq)]
+pub struct Offsets {
+    pub refusal: u32,
+    pub start: u32,
+    pub end: u32,
+}
+
+impl Offsets {
+    pub fn refused(refusal: u32) -> Self {
+        Offsets { refusal, start: 0, end: 0 }
+    }
+
+    /// 0 beside the two numbers, or 10 where there are none.
+    pub fn of<T: TryInto<u32>>(numbers: Option<(T, T)>) -> Self {
+        let narrow = |number: T| number.try_into().ok().expect("a number of 32 bits");
+        match numbers {
+            Some((start, end)) => Offsets { refusal: 0, start: narrow(start), end: narrow(end) },
+            None => Offsets::refused(10),
+        }
+    }
+}
+
+/// A call on a note and a range start..end of one of its texts.
+pub type RangeCall = unsafe extern "C" fn(
+    original: *const u8,
+    original_len: usize,
+    normalized: *const u8,
+    normalized_len: usize,
+    starts: *const u16,
+    starts_len: usize,
+    ends: *const u16,
+    ends_len: usize,
+    original_shift: u32,
+    of_original: bool,
+    start: u32,
+    end: u32,
+) -> Offsets;
+
+#[link(name = "zulmyren", kind = "static")]
+extern "C" {
+    pub fn zulmyren_convert_offsets(
+        original: *const u8,
+        original_len: usize,
+        normalized: *const u8,
+        normalized_len: usize,
+        starts: *const u16,
+        starts_len: usize,
+        ends: *const u16,
+        ends_len: usize,
+        original_shift: u32,
+        of_original: bool,
+        start: u32,
+        end: u32,
+    ) -> Offsets;
+    pub fn zulmyren_get_range(
+        original: *const u8,
+        original_len: usize,
+        normalized: *const u8,
+        normalized_len: usize,
+        starts: *const u16,
+        starts_len: usize,
+        ends: *const u16,
+        ends_len: usize,
+        original_shift: u32,
+        of_original: bool,
+        start: u32,
+        end: u32,
+    ) -> Offsets;
+    pub fn zulmyren_get_range_original(
+        original: *const u8,
+        original_len: usize,
+        normalized: *const u8,
+        normalized_len: usize,
+        starts: *const u16,
+        starts_len: usize,
+        ends: *const u16,
+        ends_len: usize,
+        original_shift: u32,
+        of_original: bool,
+        start: u32,
+        end: u32,
+    ) -> Offsets;
+    pub fn zulmyren_part_verdict(
+        original: *const u8,
+        original_len: usize,
+        normalized: *const u8,
+        normalized_len: usize,
+        of_original: bool,
+        start: u32,
+        end: u32,
+    ) -> u32;
+    pub fn zulmyren_convert_all(
+        original: *const u8,
+        original_len: usize,
+        normalized: *const u8,
+        normalized_len: usize,
+        starts: *const u16,
+        starts_len: usize,
+        ends: *const u16,
+        ends_len: usize,
+        original_shift: u32,
+        of_original: bool,
+        from: *const u32,
+        from_len: usize,
+        to: *const u32,
+        to_len: usize,
+        numbers: *mut u8,
+        numbers_len: usize,
+        out_starts: *mut u32,
+        out_starts_len: usize,
+        out_ends: *mut u32,
+        out_ends_len: usize,
+    ) -> u32;
+    pub fn zulmyren_char_offsets(text: *const u8, text_len: usize, start: u32, end: u32) -> Offsets;
+    pub fn zulmyren_char_offsets_all(
+        text: *const u8,
+        text_len: usize,
+        starts: *const u32,
+        starts_len: usize,
+        ends: *const u32,
+        ends_len: usize,
+        numbers: *mut u8,
+        numbers_len: usize,
+        char_starts: *mut u32,
+        char_starts_len: usize,
+        char_ends: *mut u32,
+        char_ends_len: usize,
+    ) -> u32;
+}
+
+/// The buffers lent for the answers to a list: one of each per pair.
+pub struct Columns<'a> {
+    pub numbers: &'a mut [u8],
+    pub starts: &'a mut [u32],
+    pub ends: &'a mut [u32],
+}
+
+pub fn convert_offsets(note: &Note, of_original: bool, start: u32, end: u32) -> Offsets {
+    on_range(zulmyren_convert_offsets, note, of_original, start, end)
+}
+
+pub fn on_range(call: RangeCall, note: &Note, of_original: bool, start: u32, end: u32) -> Offsets {
+    unsafe {
+        call(
+            note.original.as_ptr(),
+            note.original.len(),
+            note.normalized.as_ptr(),
+            note.normalized.len(),
+            note.starts.as_ptr(),
+            note.starts.len(),
+            note.ends.as_ptr(),
+            note.ends.len(),
+            note.original_shift,
+            of_original,
+            start,
+            end,
+        )
+    }
+}
+
+pub fn part_verdict(original: &[u8], normalized: &[u8], of_original: bool, start: u32, end: u32) -> u32 {
+    unsafe {
+        zulmyren_part_verdict(
+            original.as_ptr(),
+            original.len(),
+            normalized.as_ptr(),
+            normalized.len(),
+            of_original,
+            start,
+            end,
+        )
+    }
+}
+
+pub fn convert_all(note: &Note, of_original: bool, from: &[u32], to: &[u32], out: Columns) -> u32 {
+    unsafe {
+        zulmyren_convert_all(
+            note.original.as_ptr(),
+            note.original.len(),
+            note.normalized.as_ptr(),
+            note.normalized.len(),
+            note.starts.as_ptr(),
+            note.starts.len(),
+            note.ends.as_ptr(),
+            note.ends.len(),
+            note.original_shift,
+            of_original,
+            from.as_ptr(),
+            from.len(),
+            to.as_ptr(),
+            to.len(),
+            out.numbers.as_mut_ptr(),
+            out.numbers.len(),
+            out.starts.as_mut_ptr(),
+            out.starts.len(),
+            out.ends.as_mut_ptr(),
+            out.ends.len(),
+        )
+    }
+}
+
+pub fn char_offsets(text: &[u8], start: u32, end: u32) -> Offsets {
+    unsafe { zulmyren_char_offsets(text.as_ptr(), text.len(), start, end) }
+}
+
+pub fn char_offsets_all(text: &[u8], starts: &[u32], ends: &[u32], out: Columns) -> u32 {
+    unsafe {
+        zulmyren_char_offsets_all(
+            text.as_ptr(),
+            text.len(),
+            starts.as_ptr(),
+            starts.len(),
+            ends.as_ptr(),
+            ends.len(),
+            out.numbers.as_mut_ptr(),
+            out.numbers.len(),
+            out.starts.as_mut_ptr(),
+            out.starts.len(),
+            out.ends.as_mut_ptr(),
+            out.ends.len(),
+        )
+    }
+}

@@ -6,12 +6,15 @@ mod answers;
 mod bench;
 mod characters;
 mod comments;
+mod convert;
 mod every;
 mod lent;
 mod library;
 mod list;
+mod lists;
 mod note;
 mod notes;
+mod positions;
 mod random;
 mod samples;
 mod tally;
@@ -35,6 +38,8 @@ fn compare() -> ExitCode {
     let mut report = tally::Report::default();
     characters::compare(&mut report);
     notes::compare(&mut report);
+    convert::compare(&mut report);
+    positions::compare(&mut report);
     comments::compare(&mut report);
     report.finish()
 }
@@ -43,5 +48,7 @@ fn measure() -> ExitCode {
     bench::heading();
     characters::bench();
     notes::bench();
+    convert::bench();
+    positions::bench();
     ExitCode::SUCCESS
 }

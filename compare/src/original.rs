@@ -54,6 +54,26 @@ pub mod normalizer {
 
 pub mod pre_tokenizer {
     include!(concat!(env!("TOKENIZERS_SRC"), "/src/tokenizer/pre_tokenizer.rs"));
+
+    pub use converter::Converter;
+
+    /// A child module, since only such a one reaches the private struct.
+    mod converter {
+        use super::BytesToCharOffsetConverter;
+        use crate::Offsets;
+
+        pub struct Converter(BytesToCharOffsetConverter);
+
+        impl Converter {
+            pub fn new(sequence: &str) -> Self {
+                Converter(BytesToCharOffsetConverter::new(sequence))
+            }
+
+            pub fn convert(&self, offsets: Offsets) -> Option<Offsets> {
+                self.0.convert(offsets)
+            }
+        }
+    }
 }
 
 pub mod utils {

@@ -1,0 +1,692 @@
+//! Converting and reading: ranges of one text of a note in the other, beside `NormalizedString`, and parts of a text,
+//! beside `str::get`.
+
+use crate::bench::{self, timed};
+use crate::every;
+use crate::library::{self, Columns, Offsets, RangeCall};
+use crate::lists::{self, List};
+use crate::note::Note;
+use crate::random::Random;
+use crate::samples::{self, DAMAGES, DAMAGES_AT};
+use crate::tally::{self, hex, Report, Tally};
+use crate::texts::{self, KINDS, LIMIT};
+use std::hint::black_box;
+use std::iter::repeat_n;
+use std::str::from_utf8;
+use tokenizers::normalizer::Range;
+use tokenizers::NormalizedString;
+
+/// Far past every text.
+const FAR: [u32; 4] = [65_535, 65_536, 1 << 31, u32::MAX];
+
+type Bytes = std::ops::Range<usize>;
+
+/// What the Rust original found: a range, and where it hands out a part of a text, that part.
+type Found<'a> = Option<(Bytes, Option<&'a str>)>;
+
+/// A call on a note and a range.
+struct Call {
+    name: &'static str,
+    beside: &'static str,
+    ours: RangeCall,
+    theirs: fn(&NormalizedString, Range<Bytes>) -> Found<'_>,
+    /// The text that it hands out parts of.
+    reads: fn(&Note) -> &[u8],
+}
+
+const CONVERT_OFFSETS: Call = Call {
+    name: "zulmyren_convert_offsets",
+    beside: "NormalizedString::convert_offsets",
+    ours: library::zulmyren_convert_offsets,
+    theirs: |note, range| note.convert_offsets(range).map(|range| (range, None)),
+    reads: |_| &[],
+};
+
+const GET_RANGE: Call = Call {
+    name: "zulmyren_get_range",
+    beside: "NormalizedString::get_range",
+    ours: library::zulmyren_get_range,
+    theirs: |note, range| note.get_range(range).map(|part| (place(note.get(), part), Some(part))),
+    reads: |note| &note.normalized,
+};
+
+const GET_RANGE_ORIGINAL: Call = Call {
+    name: "zulmyren_get_range_original",
+    beside: "NormalizedString::get_range_original",
+    ours: library::zulmyren_get_range_original,
+    theirs: |note, range| note.get_range_original(range).map(|part| (place(note.get_original(), part), Some(part))),
+    reads: |note| &note.original,
+};
+
+/// Where the part stands in the text that it is a part of.
+fn place(text: &str, part: &str) -> Bytes {
+    let start = part.as_ptr() as usize - text.as_ptr() as usize;
+    start..start + part.len()
+}
+
+pub fn compare(report: &mut Report) {
+    for call in [CONVERT_OFFSETS, GET_RANGE, GET_RANGE_ORIGINAL] {
+        report.call(call.name, call.beside, |tally| {
+            every_sound_note(tally, &call);
+            every_range(tally, &call);
+            every_set_of_faults(tally, &call);
+            sizes_around_the_limit(tally, &call);
+            edited_notes(tally, &call);
+            any_notes(tally, &call);
+            long_notes(tally, &call);
+            nothing_anywhere(tally, &call);
+        });
+    }
+    report.call("zulmyren_part_verdict", "str::get", |tally| {
+        parts_of_two_bytes(tally);
+        parts_of_four_characters(tally);
+        parts_around_the_limit(tally);
+        parts_of_any_texts(tally);
+    });
+    report.call("zulmyren_convert_all", "convert_offsets, ours and theirs", |tally| {
+        lists_on_every_sound_note(tally);
+        lists_in_every_room(tally);
+        lists_on_any_notes(tally);
+        lists_on_long_notes(tally);
+        long_lists(tally);
+        no_list_anywhere(tally);
+    });
+}
+
+/// A note as the library is lent it and as the Rust original holds it, or the refusal that the second check gives it.
+struct Sample {
+    lent: Note,
+    theirs: Result<NormalizedString, u32>,
+}
+
+impl From<NormalizedString> for Sample {
+    fn from(note: NormalizedString) -> Self {
+        Sample::from(Note::from(&note))
+    }
+}
+
+impl From<Note> for Sample {
+    fn from(lent: Note) -> Self {
+        let theirs = match lent.refusal() {
+            0 => Ok(normalized_string(&lent)),
+            refusal => Err(refusal),
+        };
+        Sample { lent, theirs }
+    }
+}
+
+fn normalized_string(note: &Note) -> NormalizedString {
+    let text = |bytes: &[u8]| String::from_utf8(bytes.into()).expect("a sound note has well-formed texts");
+    let alignments = note.starts.iter().zip(&note.ends).map(|(&start, &end)| (start.into(), end.into())).collect();
+    NormalizedString::of_fields(text(&note.original), text(&note.normalized), alignments, note.original_shift as usize)
+}
+
+impl Sample {
+    fn text(&self, of_original: bool) -> &[u8] {
+        if of_original {
+            &self.lent.original
+        } else {
+            &self.lent.normalized
+        }
+    }
+
+    fn refusal(&self) -> u32 {
+        self.theirs.as_ref().err().copied().unwrap_or(0)
+    }
+
+    /// Our answer as it has to be, and the part that the Rust original hands out.
+    fn expected(&self, call: &Call, of_original: bool, start: u32, end: u32) -> (Offsets, Option<&str>) {
+        let range = start as usize..end as usize;
+        match &self.theirs {
+            Err(refusal) => (Offsets::refused(*refusal), None),
+            Ok(note) => {
+                let range = if of_original { Range::Original(range) } else { Range::Normalized(range) };
+                let (found, part) = (call.theirs)(note, range).unzip();
+                (Offsets::of(found.map(|found| (found.start, found.end))), part.flatten())
+            }
+        }
+    }
+
+    /// An end of a range of one of the texts: anywhere, near what the alignments name, or past it.
+    fn any_end(&self, of_original: bool, random: &mut Random) -> u32 {
+        let len = self.text(of_original).len();
+        let columns = [&self.lent.starts, &self.lent.ends];
+        let near = match *random.choose(&columns) {
+            column if of_original && !column.is_empty() => usize::from(*random.choose(column)),
+            _ => random.below(len + 1),
+        };
+        match random.below(10) {
+            0 => *random.choose(&FAR),
+            1 | 2 => (len + random.below(3)) as u32,
+            3 => 0,
+            4 | 5 => random.below(len + 1) as u32,
+            _ => (near + random.below(3)).saturating_sub(1) as u32,
+        }
+    }
+
+    /// Mostly from the lower end to the higher.
+    fn any_range(&self, of_original: bool, random: &mut Random) -> (u32, u32) {
+        let one = self.any_end(of_original, random);
+        let other = match random.below(3) {
+            0 => one.saturating_add(random.below(5) as u32),
+            _ => self.any_end(of_original, random),
+        };
+        match random.below(8) {
+            0 => (one, other),
+            _ => (one.min(other), one.max(other)),
+        }
+    }
+}
+
+fn convert(tally: &mut Tally, call: &Call, sample: &Sample, of_original: bool, (start, end): (u32, u32)) {
+    let ours = library::on_range(call.ours, &sample.lent, of_original, start, end);
+    let (theirs, part) = sample.expected(call, of_original, start, end);
+    let our_part = (call.reads)(&sample.lent).get(ours.start as usize..ours.end as usize);
+    let parts_differ = part.is_some_and(|part| our_part != Some(part.as_bytes()));
+    tally.case(tally::refusal(ours.refusal), ours != theirs || parts_differ, || {
+        let text = if of_original { "original" } else { "normalized" };
+        let note = &sample.lent;
+        format!(
+            "ours {ours:?}, theirs {theirs:?} with the part {part:?}, on {start}..{end} of the {text} text of {note}"
+        )
+    });
+}
+
+/// Every range of both texts with ends up to two past the text, or far past it.
+fn convert_every_range(tally: &mut Tally, call: &Call, sample: &Sample) {
+    for of_original in [false, true] {
+        for range in ranges_to(sample.text(of_original).len() + 2) {
+            convert(tally, call, sample, of_original, range);
+        }
+    }
+}
+
+fn convert_any_ranges(tally: &mut Tally, call: &Call, sample: &Sample, count: usize, random: &mut Random) {
+    for of_original in [false, true] {
+        for _ in 0..count {
+            convert(tally, call, sample, of_original, sample.any_range(of_original, random));
+        }
+    }
+}
+
+/// Every pair of ends up to `last`, and of these and far ones.
+fn ranges_to(last: usize) -> Vec<(u32, u32)> {
+    let ends: Vec<u32> = (0..=last as u32).chain(FAR).collect();
+    ends.iter().flat_map(|&start| ends.iter().map(move |&end| (start, end))).collect()
+}
+
+/// Every sound note with texts of up to 4 bytes in characters of one and two bytes, by turns without a shift and with
+/// the largest.
+fn sound_notes() -> impl Iterator<Item = Sample> {
+    let texts = |one, two| {
+        let mut texts: Vec<String> = every::list(&["", one, two], 4).map(|characters| characters.concat()).collect();
+        texts.retain(|text: &String| text.len() <= 4);
+        texts.sort();
+        texts.dedup();
+        texts
+    };
+    let normalized = texts("b", "ů");
+    let pairs = texts("a", "é")
+        .into_iter()
+        .flat_map(move |original| normalized.clone().into_iter().map(move |normalized| (original.clone(), normalized)));
+    let notes = pairs.flat_map(|(original, normalized)| {
+        sound_alignments(&original, &normalized)
+            .into_iter()
+            .map(move |alignments| (original.clone(), normalized.clone(), alignments))
+    });
+    notes.enumerate().map(|(i, (original, normalized, alignments))| {
+        let shift = if i % 2 == 0 { 0 } else { LIMIT - original.len() };
+        Sample::from(NormalizedString::of_fields(original, normalized, alignments, shift))
+    })
+}
+
+/// All that document 01 calls sound: boundaries in order, neither starts nor ends going back, one pair a character.
+fn sound_alignments(original: &str, normalized: &str) -> Vec<Vec<(usize, usize)>> {
+    let boundaries = || (0..=original.len()).filter(|&at| original.is_char_boundary(at));
+    let mut all: Vec<Vec<(usize, usize)>> = vec![vec![]];
+    for character in normalized.chars() {
+        let mut longer = vec![];
+        for alignments in &all {
+            let (last_start, last_end) = alignments.last().copied().unwrap_or((0, 0));
+            for start in boundaries().filter(|&start| start >= last_start) {
+                for end in boundaries().filter(|&end| end >= last_end.max(start)) {
+                    let mut alignments = alignments.clone();
+                    alignments.extend(repeat_n((start, end), character.len_utf8()));
+                    longer.push(alignments);
+                }
+            }
+        }
+        all = longer;
+    }
+    all
+}
+
+fn every_sound_note(tally: &mut Tally, call: &Call) {
+    tally.family("every sound note with texts of up to 4 bytes, every range to two past each text and far ones");
+    for sample in sound_notes() {
+        assert_eq!(sample.refusal(), 0, "{}", sample.lent);
+        convert_every_range(tally, call, &sample);
+    }
+}
+
+fn every_range(tally: &mut Tally, call: &Call) {
+    tally.family("every range of notes of any make to 40 bytes");
+    let mut random = Random::new(10);
+    for _ in 0..200 {
+        let len = random.below(40);
+        let sample = Sample::from(samples::any(len, &mut random));
+        convert_every_range(tally, call, &sample);
+    }
+}
+
+/// Faults of the note, and ranges that convert to nothing: 10 comes after them all.
+fn every_set_of_faults(tally: &mut Tally, call: &Call) {
+    tally.family("every set of faults out of eight, with ranges that convert and that do not");
+    for sample in samples_with_faults() {
+        for of_original in [false, true] {
+            for range in [(0, 1), (1, 1), (0, 3), (3, 0), (2, 900), (900, 900), (0, u32::MAX), (u32::MAX, 0)] {
+                convert(tally, call, &sample, of_original, range);
+            }
+        }
+    }
+}
+
+fn samples_with_faults() -> impl Iterator<Item = Sample> {
+    let faults: [fn(&mut Note); 8] = [
+        |note| note.original.resize(LIMIT + 1, b'o'),
+        |note| note.normalized.resize(LIMIT + 1, b'n'),
+        |note| note.original_shift = u32::MAX,
+        |note| note.starts.push(4),
+        |note| note.ends.truncate(1),
+        |note| note.original[0] = 0xFF,
+        |note| note.normalized[0] = 0xFF,
+        |note| note.ends[0] = 2,
+    ];
+    (0..1_u32 << faults.len()).map(move |set| {
+        let mut note = Note::from(&NormalizedString::from("aéb"));
+        for (_, fault) in faults.iter().enumerate().filter(|(i, _)| set >> i & 1 == 1) {
+            fault(&mut note);
+        }
+        Sample::from(note)
+    })
+}
+
+fn sizes_around_the_limit(tally: &mut Tally, call: &Call) {
+    tally.family("texts of 65534 to 65537 bytes, shifts to the limit, ranges at their ends");
+    const LAST: u16 = u16::MAX - 1;
+    for (original, normalized) in every::pair(3) {
+        let (original, normalized) = (LIMIT - 1 + original, LIMIT - 1 + normalized);
+        for (start, end) in [(0, 0), (9, LAST), (LAST, LAST)] {
+            let note = Note {
+                original: vec![b'o'; original],
+                normalized: vec![b'n'; normalized],
+                starts: vec![start; normalized],
+                ends: vec![end; normalized],
+                original_shift: 0,
+            };
+            for shift in [0, (LIMIT + 1).saturating_sub(original), usize::MAX] {
+                let sample = Sample::from(Note { original_shift: shift as u32, ..note.clone() });
+                for range in [(0, 65_533), (9, 65_534), (65_534, 65_535), (9, 65_536), (65_536, 65_536), (0, u32::MAX)]
+                {
+                    convert(tally, call, &sample, false, range);
+                    convert(tally, call, &sample, true, range);
+                }
+            }
+        }
+    }
+}
+
+fn edited_notes(tally: &mut Tally, call: &Call) {
+    tally.family("any ranges of notes that the Rust original edited, to 300 bytes");
+    let mut random = Random::new(11);
+    for _ in 0..4_000 {
+        let len = random.below(300);
+        let sample = Sample::from(samples::edited(len, &mut random));
+        convert_any_ranges(tally, call, &sample, 20, &mut random);
+    }
+}
+
+fn any_notes(tally: &mut Tally, call: &Call) {
+    tally.family("any ranges of notes of any make to 300 bytes, whole and with each damage, or with two");
+    let mut random = Random::new(12);
+    for _ in 0..1_500 {
+        let len = random.below(300);
+        let note = Note::from(&samples::any(len, &mut random));
+        convert_any_ranges(tally, call, &Sample::from(note.clone()), 10, &mut random);
+        for (_, damage) in DAMAGES {
+            let mut damaged = note.clone();
+            damage(&mut damaged);
+            convert_any_ranges(tally, call, &Sample::from(damaged), 2, &mut random);
+        }
+        if note.normalized.is_empty() {
+            continue;
+        }
+        let offset = random.below(note.normalized.len());
+        for (_, damage_at) in DAMAGES_AT {
+            let mut damaged = note.clone();
+            damage_at(&mut damaged, offset);
+            convert_any_ranges(tally, call, &Sample::from(damaged.clone()), 2, &mut random);
+            random.choose(&DAMAGES).1(&mut damaged);
+            convert_any_ranges(tally, call, &Sample::from(damaged), 1, &mut random);
+        }
+    }
+}
+
+fn long_notes(tally: &mut Tally, call: &Call) {
+    tally.family("any ranges of notes of any make up to the limit, whole and damaged");
+    let mut random = Random::new(13);
+    for turn in 0..150 {
+        let len = if turn % 2 == 0 { LIMIT } else { 300 + random.below(LIMIT - 300) };
+        let mut note = Note::from(&samples::any(len, &mut random));
+        convert_any_ranges(tally, call, &Sample::from(note.clone()), 40, &mut random);
+        if !note.normalized.is_empty() {
+            let offset = random.below(note.normalized.len());
+            random.choose(&DAMAGES_AT).1(&mut note, offset);
+            convert_any_ranges(tally, call, &Sample::from(note), 4, &mut random);
+        }
+    }
+}
+
+fn nothing_anywhere(tally: &mut Tally, call: &Call) {
+    tally.family("nothing lent, at any pointer");
+    let nothing = Sample::from(NormalizedString::from(""));
+    for address in [0_usize, 2, 8, usize::MAX - 1] {
+        let (text, column) = (address as *const u8, address as *const u16);
+        for of_original in [false, true] {
+            for (start, end) in ranges_to(2) {
+                let ours = unsafe { (call.ours)(text, 0, text, 0, column, 0, column, 0, 0, of_original, start, end) };
+                let (theirs, _) = nothing.expected(call, of_original, start, end);
+                tally.case(tally::refusal(ours.refusal), ours != theirs, || {
+                    format!("ours {ours:?}, theirs {theirs:?}, on {start}..{end} of nothing at {address:#x}")
+                });
+            }
+        }
+    }
+}
+
+fn expected_part(original: &[u8], normalized: &[u8], of_original: bool, start: u32, end: u32) -> u32 {
+    if original.len().max(normalized.len()) > LIMIT {
+        return 2;
+    }
+    let (Ok(original), Ok(normalized)) = (from_utf8(original), from_utf8(normalized)) else {
+        return 1;
+    };
+    let text = if of_original { original } else { normalized };
+    if text.get(start as usize..end as usize).is_some() {
+        0
+    } else {
+        10
+    }
+}
+
+fn part(tally: &mut Tally, original: &[u8], normalized: &[u8], of_original: bool, (start, end): (u32, u32)) {
+    let ours = library::part_verdict(original, normalized, of_original, start, end);
+    let core = expected_part(original, normalized, of_original, start, end);
+    tally.case(tally::refusal(ours), ours != core, || {
+        let text = if of_original { "first" } else { "second" };
+        let (original, normalized) = (hex(original), hex(normalized));
+        format!("ours {ours}, core {core} on {start}..{end} of the {text} text of {original} and {normalized}")
+    });
+}
+
+/// Every range of either text.
+fn parts(tally: &mut Tally, original: &[u8], normalized: &[u8]) {
+    for (of_original, text) in [(true, original), (false, normalized)] {
+        for range in ranges_to(text.len() + 2) {
+            part(tally, original, normalized, of_original, range);
+        }
+    }
+}
+
+fn parts_of_two_bytes(tally: &mut Tally) {
+    tally.family("every two texts of up to 2 of 6 bytes, every range to two past each text and far ones");
+    let texts: Vec<Vec<u8>> = (0..=2).flat_map(|len| every::list(b"a\xC3\xA9\xE6\xF0\xFF", len)).collect();
+    for original in &texts {
+        for normalized in &texts {
+            parts(tally, original, normalized);
+        }
+    }
+}
+
+fn parts_of_four_characters(tally: &mut Tally) {
+    tally.family("every text of up to 4 characters of 1 to 4 bytes beside another, every range and far ones");
+    for characters in every::list(&["", "a", "é", "漢", "😀"], 4) {
+        let text = characters.concat().into_bytes();
+        for other in ["", "a", "aé漢😀a"] {
+            parts(tally, &text, other.as_bytes());
+            parts(tally, other.as_bytes(), &text);
+        }
+    }
+}
+
+fn parts_around_the_limit(tally: &mut Tally) {
+    tally.family("texts of 65533 to 65538 bytes, whole and with the last byte damaged, ranges at their ends");
+    let mut random = Random::new(14);
+    for (one, other) in every::pair(5) {
+        for kind in KINDS {
+            let len = LIMIT - 2 + one;
+            let original = texts::text(kind, len, &mut random).into_bytes();
+            let normalized = texts::text(kind, LIMIT - 2 + other, &mut random).into_bytes();
+            let mut damaged = original.clone();
+            damaged[len - 1] = 0xC3;
+            for of_original in [false, true] {
+                for range in [(0, 0), (0, len), (len, len), (len, len + 1), (len + 1, len + 1), (len, 0), (0, len - 1)]
+                {
+                    let range = (range.0 as u32, range.1 as u32);
+                    part(tally, &original, &normalized, of_original, range);
+                    part(tally, &normalized, &original, of_original, range);
+                    part(tally, &damaged, &normalized, of_original, range);
+                    part(tally, &normalized, &damaged, of_original, range);
+                }
+            }
+        }
+    }
+}
+
+fn parts_of_any_texts(tally: &mut Tally) {
+    tally.family("any range of texts of any length, whole and with one byte damaged");
+    let mut random = Random::new(15);
+    for turn in 0..1_000 {
+        let longest = if turn % 10 == 0 { LIMIT } else { 300 };
+        let mut any = || texts::text(*random.choose(&KINDS), random.below(longest), &mut random);
+        let (original, normalized) = (any(), any());
+        let mut damaged = original.clone().into_bytes();
+        if !damaged.is_empty() {
+            damaged[random.below(original.len())] = random.byte();
+        }
+        for _ in 0..20 {
+            let (start, end) = any_part(&original, &mut random);
+            part(tally, original.as_bytes(), normalized.as_bytes(), true, (start, end));
+            part(tally, &damaged, normalized.as_bytes(), true, (start, end));
+            let (start, end) = any_part(&normalized, &mut random);
+            part(tally, original.as_bytes(), normalized.as_bytes(), false, (start, end));
+            part(tally, &damaged, normalized.as_bytes(), false, (start, end));
+        }
+    }
+}
+
+fn any_part(text: &str, random: &mut Random) -> (u32, u32) {
+    let mut end = || match random.below(5) {
+        0 => random.below(text.len() + 3),
+        1 => texts::any_boundary(text, random) + 1,
+        _ => texts::any_boundary(text, random),
+    } as u32;
+    let (one, other) = (end(), end());
+    match random.below(8) {
+        0 => (one, other),
+        1 => (one, *random.choose(&FAR)),
+        _ => (one.min(other), one.max(other)),
+    }
+}
+
+fn convert_list(tally: &mut Tally, sample: &Sample, of_original: bool, list: &List) {
+    let text = if of_original { "original" } else { "normalized" };
+    lists::case(
+        tally,
+        list,
+        sample.refusal(),
+        |from, to, out| library::convert_all(&sample.lent, of_original, from, to, out),
+        |from, to| library::convert_offsets(&sample.lent, of_original, from, to),
+        |from, to| sample.expected(&CONVERT_OFFSETS, of_original, from, to).0,
+        || format!("the {text} text of {}", sample.lent),
+    );
+}
+
+fn lists_on_every_sound_note(tally: &mut Tally) {
+    tally.family("every sound note with texts of up to 4 bytes, the list of every range of each text");
+    for sample in sound_notes() {
+        for of_original in [false, true] {
+            let ranges = ranges_to(sample.text(of_original).len() + 2);
+            convert_list(tally, &sample, of_original, &List::of(&ranges));
+        }
+    }
+}
+
+fn lists_in_every_room(tally: &mut Tally) {
+    tally.family("every set of faults out of eight, lists of every two lengths to 3 in every three rooms to 4");
+    for sample in samples_with_faults() {
+        // Overlong texts once more with each list would only take time.
+        let long = sample.lent.original.len().max(sample.lent.normalized.len()) > LIMIT;
+        for list in lists::every_size([(0, 3), (5, 4), (900, 900)]).step_by(if long { 97 } else { 1 }) {
+            convert_list(tally, &sample, false, &list);
+            convert_list(tally, &sample, true, &list);
+        }
+    }
+}
+
+fn lists_on_any_notes(tally: &mut Tally) {
+    tally.family("lists of up to 60 ranges on notes of any make to 300 bytes, whole and damaged, in any room");
+    let mut random = Random::new(16);
+    for _ in 0..6_000 {
+        let len = random.below(300);
+        let mut note = Note::from(&samples::any(len, &mut random));
+        convert_any_list(tally, &Sample::from(note.clone()), 60, &mut random);
+        if !note.normalized.is_empty() {
+            let offset = random.below(note.normalized.len());
+            random.choose(&DAMAGES_AT).1(&mut note, offset);
+            convert_any_list(tally, &Sample::from(note.clone()), 60, &mut random);
+        }
+        random.choose(&DAMAGES).1(&mut note);
+        convert_any_list(tally, &Sample::from(note), 60, &mut random);
+    }
+}
+
+fn convert_any_list(tally: &mut Tally, sample: &Sample, longest: usize, random: &mut Random) {
+    for of_original in [false, true] {
+        let count = random.below(longest + 1);
+        let ranges: Vec<(u32, u32)> = (0..count).map(|_| sample.any_range(of_original, random)).collect();
+        convert_list(tally, sample, of_original, &List::any(&ranges, random));
+    }
+}
+
+fn lists_on_long_notes(tally: &mut Tally) {
+    tally.family("lists of up to 100 ranges on notes of any make up to the limit, in any room");
+    let mut random = Random::new(17);
+    for turn in 0..60 {
+        let len = if turn % 2 == 0 { LIMIT } else { 300 + random.below(LIMIT - 300) };
+        let sample = Sample::from(samples::any(len, &mut random));
+        convert_any_list(tally, &sample, 100, &mut random);
+    }
+}
+
+fn long_lists(tally: &mut Tally) {
+    tally.family("lists of up to 100000 ranges on notes of any make to 100 bytes, in any room");
+    let mut random = Random::new(18);
+    for _ in 0..20 {
+        let len = random.below(100);
+        let sample = Sample::from(samples::any(len, &mut random));
+        convert_any_list(tally, &sample, 100_000, &mut random);
+    }
+}
+
+fn no_list_anywhere(tally: &mut Tally) {
+    tally.family("no list, at any pointer");
+    let sample = Sample::from(NormalizedString::from("aéb"));
+    let Note { original, normalized, starts, ends, original_shift } = &sample.lent;
+    for address in [0_usize, 4, 8, usize::MAX - 3] {
+        let (list, numbers, column) = (address as *const u32, address as *mut u8, address as *mut u32);
+        for of_original in [false, true] {
+            let ours = unsafe {
+                library::zulmyren_convert_all(
+                    original.as_ptr(),
+                    original.len(),
+                    normalized.as_ptr(),
+                    normalized.len(),
+                    starts.as_ptr(),
+                    starts.len(),
+                    ends.as_ptr(),
+                    ends.len(),
+                    *original_shift,
+                    of_original,
+                    list,
+                    0,
+                    list,
+                    0,
+                    numbers,
+                    0,
+                    column,
+                    0,
+                    column,
+                    0,
+                )
+            };
+            tally.case(tally::refusal(ours), ours != 0, || format!("ours {ours} on no list at {address:#x}"));
+        }
+    }
+}
+
+pub fn bench() {
+    bench::title_beyond("convert_offsets, 51 bytes near the original's end to normalized (ours to be at most 1.00)");
+    bench_walk(|text| text.len() - 60);
+    bench::title_beyond("convert_offsets, from the original's beginning to near its end");
+    bench_walk(|_| 0);
+    bench_list();
+}
+
+/// Wherever the range begins, the alignments are walked from the first to its end.
+fn bench_walk(begin: fn(&str) -> usize) {
+    for (name, text) in bench::texts() {
+        let theirs = NormalizedString::from(text.as_str());
+        let note = Note::from(&theirs);
+        let cut = |at| texts::boundary_before(&text, at);
+        let (start, end) = (cut(begin(&text)), cut(text.len() - 9));
+        bench::row_beyond(
+            name,
+            || timed(|| library::convert_offsets(black_box(&note), true, start as u32, end as u32)),
+            || timed(|| library::check_note(black_box(&note))),
+            || timed(|| black_box(&theirs).convert_offsets(Range::Original(start..end))),
+        );
+    }
+}
+
+fn bench_list() {
+    bench::title_beyond(
+        "convert_all, 8000 ranges normalized to original, beside 8000 calls (beyond to be at most 1.00)",
+    );
+    for (name, text) in bench::texts() {
+        let theirs = NormalizedString::from(text.as_str());
+        let note = Note::from(&theirs);
+        let ranges = bench::ranges(&text);
+        let list = List::of(&ranges.iter().map(|range| (range.start as u32, range.end as u32)).collect::<Vec<_>>());
+        let mut numbers = vec![0; ranges.len()];
+        let (mut starts, mut ends) = (vec![0; ranges.len()], vec![0; ranges.len()]);
+        let mut answers = vec![None; ranges.len()];
+        bench::row_beyond(
+            name,
+            || {
+                let out = Columns { numbers: &mut numbers, starts: &mut starts, ends: &mut ends };
+                let (from, to) = (black_box(&list.from), black_box(&list.to));
+                timed(|| library::convert_all(black_box(&note), false, from, to, out))
+            },
+            || timed(|| library::check_note(black_box(&note))),
+            || {
+                timed(|| {
+                    for (range, answer) in black_box(&ranges).iter().zip(&mut answers) {
+                        *answer = theirs.convert_offsets(Range::Normalized(range.clone()));
+                    }
+                    black_box(&answers).len()
+                })
+            },
+        );
+    }
+}
