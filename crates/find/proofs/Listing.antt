@@ -1,14 +1,13 @@
 -- The bytes of a list of matches: of one place, of what stands between two matches, and of all from a place on.
-use Prim.Native.Nat.{ℕ, suc, _+_, _*_, _≤_, _<_}
+use Prim.Native.Nat.{ℕ, suc, _+_, _≤_, _<_}
 use mathlib.Core.Path.{_≡_, _∙_, ap, refl, sym}
-use mathlib.Core.Bool.{Bool, true, false, cond, _&&_, not}
 use mathlib.Core.List.{List, [], _∷_, _++_, append-assoc, append-nil}
 use native.Mathlib.Omega.{arith}
 use lib.Dec.{eqb}
-use lib.ListN.{length, set, take, drop, length-append, take-append-drop}
+use lib.ListN.{length, set, take, take-append-drop}
 use lib.Seq.{sets-eq}
-use borrow.Author.Tests.{lt-ltb, le-ltb, le-leb, lt-leb, eq-eqb, ne-eqb}
-use Rattle.runs.specs.Splice.{splice, overlay}
+use borrow.Author.Tests.{lt-ltb, le-ltb, eq-eqb, ne-eqb}
+use Rattle.runs.specs.Splice.{splice}
 use Rattle.runs.proofs.Everywhere.{le-or-lt, true-or-false}
 use Rattle.pattern.specs.declared.Place.{Place}
 use Rattle.find.specs.Encoding.{placeBytes, encoded, encodedPlaces}

@@ -1,6 +1,6 @@
 -- Places at which a literal does not occur: told by two of its bytes, one by one and 64 at once, up to the first at which it does.
 use Prim.Native.Nat.{ℕ, _+_, _-_, _≤_, _<_}
-use mathlib.Core.Path.{_≡_, _∙_, ap, refl, sym}
+use mathlib.Core.Path.{_≡_, _∙_, refl, sym}
 use mathlib.Core.Bool.{Bool, true, false, _&&_, _||_, not}
 use mathlib.Core.List.{List}
 use native.Mathlib.Omega.{arith}
@@ -12,9 +12,9 @@ use Rattle.runs.specs.Every.{everyBelow}
 use Rattle.runs.specs.Splice.{part}
 use Rattle.runs.proofs.Everywhere.{le-or-lt, true-or-false, clash, every-suc, every-at}
 use Rattle.find.specs.Matching.{occursAt, firstFrom}
-use Rattle.find.specs.Leftmost.{First, first-unique, occurs-inside}
+use Rattle.find.specs.Leftmost.{first-unique, occurs-inside}
 use Rattle.find.specs.Covered.{occurs-byte}
-use Rattle.find.specs.Searching.{apart, Places, Passed, Scanned}
+use Rattle.find.specs.Searching.{apart, Passed, Scanned}
 
 pub occurs-not : (text literal : List ℕ) (p : ℕ) → 0 < length literal → (getD text p 0 ≡ getD literal 0 0 → ⊥) → false ≡ occursAt text literal p
 occurs-not text literal p some h =

@@ -1,6 +1,6 @@
 -- How far a list of matches has been measured, and written: none yet, one match more, all.
-use Prim.Native.Nat.{ℕ, zero, suc, _+_, _*_, _≤_, _<_}
-use mathlib.Core.Path.{_≡_, _∙_, ap, refl, sym}
+use Prim.Native.Nat.{ℕ, _+_, _*_, _≤_, _<_}
+use mathlib.Core.Path.{_≡_, _∙_, ap, sym}
 use mathlib.Core.List.{List, [], _++_, append-nil}
 use native.Mathlib.Omega.{arith}
 use lib.ListN.{length, length-append}
@@ -11,7 +11,8 @@ use Rattle.note.specs.Notes.{limit}
 use Rattle.find.specs.Encoding.{placeBytes, encodedPlaces}
 use Rattle.find.specs.Matching.{firstFrom, between, matchesFrom, foundBytes}
 use Rattle.find.specs.Searching.{Room, Laid}
-use Rattle.find.specs.Leftmost.{First, first-from, occurs-inside}
+use Rattle.find.specs.Leftmost.{First, first-from}
+use Rattle.find.specs.Covered.{positive}
 use Rattle.find.proofs.Listing.{length-place, size-most, match-inside, bytes-match, bytes-end, found-matches, found-no-text, found-no-literal}
 
 -- the search goes on from `at`, and p is the first match from there, or the end
@@ -19,10 +20,6 @@ pub record Searched (text literal : List ℕ) (at p : ℕ) : Type 0 where
   pub some : 0 < length literal
   pub most : at ≤ length text
   pub next : p ≡ firstFrom text literal at
-
-positive : (n : ℕ) → (n ≡ 0 → ⊥) → 0 < n
-positive zero h = absurd (h refl)
-positive (suc n) h = omega arith
 
 searched-none : (text literal : List ℕ) (p : ℕ) → (length literal ≡ 0 → ⊥) → p ≡ firstFrom text literal 0 → Searched text literal 0 p
 searched-none text literal p l e = record { some = positive (length literal) l; most = omega arith; next = e }
@@ -56,11 +53,11 @@ module _ (text literal : List ℕ) where
   measured-none p t l e =
       record { stands = searched-none text literal p l e; total = omega (arith, ap length (found-matches text literal t l)); small = omega arith }
 
-  pub measured-more : (size at p b q : ℕ) → Measured text literal size at p → p < length text → b ≡ length (encodedPlaces (between at p)) → q ≡ firstFrom text literal (p + length literal) → Measured text literal (size + (b + 5)) (p + length literal) q
-  measured-more size at p b q m h is e =
+  pub measured-more : (size at p b at₁ q : ℕ) → Measured text literal size at p → p < length text → b ≡ length (encodedPlaces (between at p)) → at₁ ≡ p + length literal → q ≡ firstFrom text literal at₁ → Measured text literal (size + (b + 5)) at₁ q
+  measured-more size at p b at₁ q m h is on e =
       record {
-        stands = searched-more text literal at p (m .stands) q h e;
-        total = omega (arith, m .total, size-match text literal at p (m .stands) h);
+        stands = rw on (searched-more text literal at p (m .stands) q h (rw on at e));
+        total = rw on (omega (arith, m .total, size-match text literal at p (m .stands) h));
         small = omega (arith, m .small, m .stands .some, match-fits text literal at p (m .stands) h .0, size-most at p);
       }
 

@@ -2,15 +2,15 @@
 -- A well-formed literal that occurs in a well-formed text stands on boundaries.
 use Prim.Native.Nat.{ℕ, zero, suc, _+_, _-_, _≤_, _<_}
 use mathlib.Core.Path.{_≡_, _∙_, ap, refl, sym}
-use mathlib.Core.Bool.{Bool, true, false, cond, _||_}
+use mathlib.Core.Bool.{Bool, true, false, _||_}
 use mathlib.Core.List.{List, [], _∷_, _++_}
 use native.Mathlib.Omega.{arith}
-use lib.Dec.{eqb, leb, ltb}
+use lib.Dec.{eqb}
 use lib.ListN.{length, getD, take, drop, length-drop}
 use lib.Seq.{getD-take, getD-drop}
 use borrow.Author.Tests.{eq-eqb, eqb-false, le-leb, lt-ltb, le-ltb}
 use Rattle.runs.proofs.Everywhere.{le-or-lt, true-or-false}
-use Rattle.utf8.specs.Formed.{wellFormed, continues, boundary}
+use Rattle.utf8.specs.Formed.{wellFormed, boundary}
 use Rattle.utf8.proofs.Boundaries.{boundary-at, boundary-begins, boundary-zero, boundary-length, boundary-of-take, formed-drop}
 use Rattle.pattern.specs.declared.Place.{Place}
 use Rattle.pattern.specs.declared.Place.the-variants.{Unmatched, Matched}
@@ -25,13 +25,17 @@ occurs-byte text literal p k h e =
     ∙ sym (getD-take (p + length literal - p) (drop p text) k 0 (omega arith))
     ∙ ap (λ (l : List ℕ). getD l k 0) (occurs-is text literal p e)
 
-pub or-false : (a b : Bool) → (a || b) ≡ false → (a ≡ false) × (b ≡ false)
+or-false : (a b : Bool) → (a || b) ≡ false → (a ≡ false) × (b ≡ false)
 or-false true b e = let z : _≡_ {A = ℕ} 0 1 = cc in absurd (omega arith)
 or-false false b e = (refl, e)
 
 covers-end : (text : List ℕ) (p : ℕ) → p ≡ length text → coversFrom text p [] ≡ true
 unfolding coversFrom
 covers-end text p end = eq-eqb p (length text) end
+
+pub positive : (n : ℕ) → (n ≡ 0 → ⊥) → 0 < n
+positive zero h = absurd (h refl)
+positive (suc n) h = omega arith
 
 module _ (text literal : List ℕ) (some : 0 < length literal) (t : wellFormed text ≡ true) (l : wellFormed literal ≡ true) where
   starts-on : (p : ℕ) → occursAt text literal p ≡ true → boundary text p ≡ true
@@ -91,7 +95,3 @@ found-covers text literal t l =
     (λ e.
     let some : length literal ≡ 0 → ⊥ = eqb-false (length literal) 0 (or-false (eqb (length text) 0) (eqb (length literal) 0) e .1) in
     rw e (covers-within text literal (positive (length literal) some) t l (suc (length text - 0)) 0 (omega arith) (omega arith)))
-  where
-    positive : (n : ℕ) → (n ≡ 0 → ⊥) → 0 < n
-    positive zero h = absurd (h refl)
-    positive (suc n) h = omega arith

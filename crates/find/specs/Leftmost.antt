@@ -1,16 +1,15 @@
 -- The first place at which a literal occurs is the least one, and a list of matches goes on from the end of each.
 use Prim.Native.Nat.{ℕ, zero, suc, _+_, _-_, _≤_, _<_}
-use mathlib.Core.Path.{_≡_, _∙_, ap, refl, sym}
-use mathlib.Core.Bool.{Bool, true, false, cond}
+use mathlib.Core.Path.{_≡_, ap}
+use mathlib.Core.Bool.{true, false, cond}
 use mathlib.Core.List.{List, [], _∷_, _++_}
 use native.Mathlib.Omega.{arith}
 use lib.Dec.{ltb}
-use lib.ListN.{length, drop, length-take, length-drop}
-use borrow.Author.Tests.{lt-ltb, le-ltb}
+use lib.ListN.{length, length-take, length-drop}
+use borrow.Author.Tests.{le-ltb}
 use Rattle.runs.specs.Splice.{part}
 use Rattle.runs.proofs.Everywhere.{le-or-lt, true-or-false, clash}
 use Rattle.runs.proofs.Sameness.{same-equal}
-use Rattle.pattern.specs.declared.Place.{Place}
 use Rattle.pattern.specs.declared.Place.the-variants.{Matched}
 use Rattle.find.specs.Matching.{occursAt, firstOf, firstFrom, byte, between, matchesWithin, matchesFrom}
 

@@ -22,10 +22,10 @@ pub enum Matches {
 }
 
 // How many bytes of a list what stands between two matches has.
-fn between_size(start: usize, end: usize) -> usize
-    ensures { λ r. ⌜ r ≡ length (encodedPlaces (between start end)) ⌝ }
+fn between_size(from: usize, to: usize) -> usize
+    ensures { λ r. ⌜ r ≡ length (encodedPlaces (between from to)) ⌝ }
 {
-    if start < end {
+    if from < to {
         return 5;
     }
     0
@@ -92,15 +92,15 @@ fn write_list(text: &[u8], literal: &[u8], out: &mut [u8])
     }
     let mut i = 0;
     let mut at = 0;
-    let mut p = next_match(text, literal, 0);
-    while p < text.len() {
-        i = write_between(at, p, out, i);
-        at = p + literal.len();
-        write_place(12, p, at, out, i);
+    let mut start = next_match(text, literal, 0);
+    while start < text.len() {
+        i = write_between(at, start, out, i);
+        at = start + literal.len();
+        write_place(12, start, at, out, i);
         i += 5;
-        p = next_match(text, literal, at);
+        start = next_match(text, literal, at);
     }
-    write_between(at, p, out, i);
+    write_between(at, start, out, i);
 }
 
 // The literal's matches in the text, and what stands between them, as a match list in `out`. Refusals, in this order: 2, 1, 9.

@@ -79,7 +79,7 @@ fn scan(text: &[u8], literal: &[u8], from: usize, stop: usize) -> usize
     i
 }
 
-// The first place from `from` on at which the literal stands; the text's length where there is none.
+// The first place from `from` on at which the literal stands; the text's length where there is none. An inner function: the literal has a byte.
 pub fn next_match(text: &[u8], literal: &[u8], from: usize) -> usize
     requires { ⌜ (0 < length (now literal)) × (from ≤ length (now text)) ⌝ }
     ensures { λ r. ⌜ r ≡ firstFrom (now (text .entry)) (now (literal .entry)) from ⌝ }

@@ -1,7 +1,4 @@
 -- A place has five bytes.
-use mathlib.Core.Path.{_∙_, ap, sym}
-use lib.ListN.{length}
-use Prim.Native.Nat.{ℕ}
 use Rattle.find.proofs.Listing.{size-some, size-none}
 use Rattle.find.proofs.between_size.Statement.{statement}
 use Rattle.find.proofs.between_size.Tie as tie

@@ -38,13 +38,13 @@ add-at : tie.Need-add-at Inv-loop μ-loop
 add-at c = omega (arith, match-fits _ _ _ _ (c .before .before .loop .inv .stands) (c .before .loop-test .taken))
 
 next-match-requires-2 : tie.Need-next-match-requires-2 Inv-loop μ-loop
-next-match-requires-2 c κs = (omega arith, match-fits _ _ _ _ (c .before .before .loop .inv .stands) (c .before .loop-test .taken) .1)
+next-match-requires-2 c κs = (omega arith, omega (arith, match-fits _ _ _ _ (c .before .before .loop .inv .stands) (c .before .loop-test .taken)))
 
 loop-less : tie.Need-loop-less Inv-loop μ-loop
 loop-less c = omega (arith, match-fits _ _ _ _ (c .before .before .before .loop .inv .stands) (c .before .before .loop-test .taken))
 
 loop-again : tie.Need-loop-again Inv-loop μ-loop
-loop-again c = measured-more _ _ _ _ _ _ _ (c .before .before .before .loop .inv) (c .before .before .loop-test .taken) (c .before .between-size .ensures) (c .next-match2 .ensures)
+loop-again c = measured-more _ _ _ _ _ _ _ _ (c .before .before .before .loop .inv) (c .before .before .loop-test .taken) (c .before .between-size .ensures) (omega arith) (c .next-match2 .ensures)
 
 between-size-requires-2 : tie.Need-between-size-requires-2 Inv-loop μ-loop
 between-size-requires-2 c κs = omega arith
