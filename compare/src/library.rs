@@ -32,6 +32,35 @@ extern "C" {
         ends: *mut u16,
         ends_len: usize,
     ) -> u32;
+    pub fn zulmyren_replace(
+        original: *const u8,
+        original_len: usize,
+        normalized: *const u8,
+        normalized_len: usize,
+        starts: *const u16,
+        starts_len: usize,
+        ends: *const u16,
+        ends_len: usize,
+        original_shift: u32,
+        list: *const u8,
+        list_len: usize,
+        filler: *const u8,
+        filler_len: usize,
+        out: *mut u8,
+        out_len: usize,
+        out_starts: *mut u16,
+        out_starts_len: usize,
+        out_ends: *mut u16,
+        out_ends_len: usize,
+    ) -> Count;
+    pub fn zulmyren_find_matches(
+        text: *const u8,
+        text_len: usize,
+        literal: *const u8,
+        literal_len: usize,
+        out: *mut u8,
+        out_len: usize,
+    ) -> Listed;
 }
 
 pub fn well_formed(text: &[u8]) -> bool {
@@ -287,4 +316,56 @@ pub fn char_offsets_all(text: &[u8], starts: &[u32], ends: &[u32], out: Columns)
             out.ends.len(),
         )
     }
+}
+
+pub fn replace(
+    note: &Note,
+    list: &[u8],
+    filler: &[u8],
+    out: &mut [u8],
+    out_starts: &mut [u16],
+    out_ends: &mut [u16],
+) -> Count {
+    unsafe {
+        zulmyren_replace(
+            note.original.as_ptr(),
+            note.original.len(),
+            note.normalized.as_ptr(),
+            note.normalized.len(),
+            note.starts.as_ptr(),
+            note.starts.len(),
+            note.ends.as_ptr(),
+            note.ends.len(),
+            note.original_shift,
+            list.as_ptr(),
+            list.len(),
+            filler.as_ptr(),
+            filler.len(),
+            out.as_mut_ptr(),
+            out.len(),
+            out_starts.as_mut_ptr(),
+            out_starts.len(),
+            out_ends.as_mut_ptr(),
+            out_ends.len(),
+        )
+    }
+}
+
+/// The answer of finding: a refusal, or how many bytes the list has.
+#[repr(C)]
+pub struct Listed {
+    pub refusal: u32,
+    pub len: usize,
+}
+
+impl From<Listed> for Count {
+    fn from(listed: Listed) -> Count {
+        Count { refusal: listed.refusal, count: listed.len as u32 }
+    }
+}
+
+pub fn find_matches(text: &[u8], literal: &[u8], out: &mut [u8]) -> Count {
+    Count::from(unsafe {
+        zulmyren_find_matches(text.as_ptr(), text.len(), literal.as_ptr(), literal.len(), out.as_mut_ptr(), out.len())
+    })
 }

@@ -4,18 +4,22 @@
 
 mod answers;
 mod bench;
+mod blanking;
 mod characters;
 mod comments;
 mod convert;
 mod every;
+mod find;
 mod lent;
 mod library;
 mod list;
 mod lists;
 mod note;
 mod notes;
+mod places;
 mod positions;
 mod random;
+mod replace;
 mod samples;
 mod tally;
 mod texts;
@@ -40,6 +44,8 @@ fn compare() -> ExitCode {
     notes::compare(&mut report);
     convert::compare(&mut report);
     positions::compare(&mut report);
+    find::compare(&mut report);
+    replace::compare(&mut report);
     comments::compare(&mut report);
     report.finish()
 }
@@ -50,5 +56,7 @@ fn measure() -> ExitCode {
     notes::bench();
     convert::bench();
     positions::bench();
+    find::bench();
+    replace::bench();
     ExitCode::SUCCESS
 }

@@ -1,0 +1,143 @@
+//! What can still be told about the text under a matched place: document 01's claim about two calls of `replace`, both
+//! ways, on pairs of notes.
+
+use crate::library;
+use crate::note::Note;
+use crate::places::{self, Place};
+use crate::random::Random;
+use crate::replace::{sound_notes, FILLERS};
+use crate::samples;
+use crate::tally::Tally;
+use crate::texts;
+
+/// The result's cleaned text and alignments.
+type Published = (Vec<u8>, Vec<u16>, Vec<u16>);
+
+/// What our call publishes, where it accepts.
+fn published(note: &Note, list: &[u8], filler: &[u8]) -> Option<Published> {
+    let room = note.normalized.len() + filler.len() * list.len() / 5;
+    let (mut text, mut starts, mut ends) = (vec![0; room], vec![0; room], vec![0; room]);
+    let answer = library::replace(note, list, filler, &mut text, &mut starts, &mut ends);
+    text.truncate(answer.count as usize);
+    starts.truncate(answer.count as usize);
+    ends.truncate(answer.count as usize);
+    (answer.refusal == 0).then_some((text, starts, ends))
+}
+
+/// Whether two notes that the list covers agree outside its matched places and, where the filler is not empty, on the
+/// alignment of the byte before each matched place's end.
+fn agree(one: &Note, other: &Note, places: &[Place], filler: &str) -> bool {
+    let matched = || places.iter().filter(|&&(_, matched)| matched).map(|&(offsets, _)| offsets);
+    let outside = |p: usize| !matched().any(|(start, end)| start <= p && p < end);
+    let one_alignment = |p: usize| (one.starts[p], one.ends[p]) == (other.starts[p], other.ends[p]);
+    let one_byte = |p: usize| one.normalized[p] == other.normalized[p];
+    let outsides = (0..one.normalized.len()).filter(|&p| outside(p)).all(|p| one_byte(p) && one_alignment(p));
+    outsides && (filler.is_empty() || matched().all(|(_, end)| end == 0 || one_alignment(end - 1)))
+}
+
+fn pair(tally: &mut Tally, notes: [&Note; 2], results: [&Published; 2], places: &[Place], filler: &str) {
+    let alike = results[0] == results[1];
+    let claimed = agree(notes[0], notes[1], places, filler);
+    tally.case(if alike { "alike" } else { "told apart" }, alike != claimed, || {
+        let [one, other] = notes;
+        format!("alike {alike}, by the claim {claimed}, places {places:?}, filler {filler:?}, {one}; {other}")
+    });
+}
+
+pub fn every_two_notes(tally: &mut Tally) {
+    tally.family("every two sound notes of five texts of 2 bytes, every list with up to 2 empty places, 3 fillers");
+    let notes: Vec<Note> = ["ab", "ac", "xb", "é", "è"]
+        .iter()
+        .flat_map(|text| ["", "q", "ů", "qů"].iter().flat_map(|transcript| sound_notes(transcript, text)))
+        .collect();
+    for places in places::every("ab", 2) {
+        let list = places::bytes(&places);
+        for filler in ["", "x", "é*"] {
+            let accepted: Vec<(&Note, Published)> =
+                notes.iter().filter_map(|note| Some((note, published(note, &list, filler.as_bytes())?))).collect();
+            for (one, result) in &accepted {
+                for (other, other_result) in &accepted {
+                    pair(tally, [one, other], [result, other_result], &places, filler);
+                }
+            }
+        }
+    }
+}
+
+pub fn any_two_notes(tally: &mut Tally) {
+    tally.family(
+        "any note to 200 bytes and the same with its matched places altered, and often one thing more, any list",
+    );
+    let mut random = Random::new(45);
+    for _ in 0..30_000 {
+        let len = 1 + random.below(200);
+        let note = samples::any(len, &mut random);
+        let cuts = random.below(12);
+        let places = places::any(note.get(), cuts, &mut random);
+        let list = places::bytes(&places);
+        let filler = random.choose(&FILLERS);
+        let one = Note::from(&note);
+        let other = altered(note.get(), &one, &places, &mut random);
+        assert_eq!((one.refusal(), other.refusal()), (0, 0), "{one}; {other}");
+        let results = [&one, &other].map(|note| published(note, &list, filler.as_bytes()));
+        match results {
+            [Some(result), Some(other_result)] => {
+                pair(tally, [&one, &other], [&result, &other_result], &places, filler);
+            }
+            _ => tally.case("refused", true, || format!("a covering list is refused: {places:?}, {one}; {other}")),
+        }
+    }
+}
+
+/// Another sound note: characters under matched places are others, and alignments there too except each place's last;
+/// in three of four notes one thing more is altered, which the claim counts or not.
+fn altered(text: &str, note: &Note, places: &[Place], random: &mut Random) -> Note {
+    let mut other = note.clone();
+    for &((start, end), _) in places.iter().filter(|&&((start, end), matched)| matched && start < end) {
+        for (at, character) in text[start..end].char_indices() {
+            put_another(&mut other.normalized, start + at, character, random);
+        }
+        let last = texts::boundary_before(text, end - 1);
+        // All up to a boundary are aligned as the character before the place, the rest as the place's last.
+        let middle = start + texts::any_boundary(&text[start..last], random);
+        if start > 0 {
+            align(&mut other, start..middle, start - 1);
+        }
+        align(&mut other, middle..last, last);
+    }
+    let characters: Vec<(usize, char)> = text.char_indices().collect();
+    if characters.is_empty() {
+        return other;
+    }
+    let &(at, character) = random.choose(&characters);
+    match random.below(8) {
+        0 => put_another(&mut other.normalized, at, character, random),
+        1 if at > 0 => align(&mut other, at..at + character.len_utf8(), at - 1),
+        2 if at + character.len_utf8() < text.len() => {
+            align(&mut other, at..at + character.len_utf8(), at + character.len_utf8());
+        }
+        3 => other.original_shift = random.below(65_536 - other.original.len()) as u32,
+        4 => other.original.extend("漢".bytes().take(if other.original_shift < 60_000 { 3 } else { 0 })),
+        5 => {
+            let original = String::from_utf8(note.original.clone()).expect("a sound note");
+            for (at, character) in original.char_indices() {
+                put_another(&mut other.original, at, character, random);
+            }
+        }
+        _ => (),
+    }
+    other
+}
+
+/// Another character of as many bytes.
+fn put_another(text: &mut [u8], at: usize, character: char, random: &mut Random) {
+    let of_len = [&["a", "b", "7"], &["é", "ž", "ů"], &["漢", "日", "。"], &["😀", "🔔", "🪶"]];
+    let len = character.len_utf8();
+    text[at..at + len].copy_from_slice(random.choose(of_len[len - 1]).as_bytes());
+}
+
+fn align(note: &mut Note, bytes: std::ops::Range<usize>, like: usize) {
+    let (start, end) = (note.starts[like], note.ends[like]);
+    note.starts[bytes.clone()].fill(start);
+    note.ends[bytes].fill(end);
+}

@@ -1,0 +1,254 @@
+//! Finding a literal beside `&str`'s `find_matches`, with `core::str`'s `match_indices` as the second implementation.
+
+use crate::bench::{self, timed};
+use crate::every;
+use crate::lent::Lent;
+use crate::library::{self, Count};
+use crate::note::Note;
+use crate::places::{self, Place};
+use crate::random::Random;
+use crate::replace::{bench_texts, time_of_from_and_replace, Buffers, LITERAL};
+use crate::tally::{self, hex, Report, Tally};
+use crate::texts::{self, KINDS, LIMIT};
+use std::hint::black_box;
+use std::str::from_utf8;
+use tokenizers::pattern::Pattern;
+use tokenizers::NormalizedString;
+
+pub fn compare(report: &mut Report) {
+    report.call("zulmyren_find_matches", "find_matches of a &str, and match_indices", |tally| {
+        every_short_text(tally);
+        every_room(tally);
+        every_two_byte_strings(tally);
+        literal_at_every_offset(tally);
+        nearly_everywhere(tally);
+        any_texts(tally);
+        around_the_limit(tally);
+        long_literals(tally);
+        nothing_anywhere(tally);
+    });
+}
+
+/// The list by `match_indices`, which is leftmost and non-overlapping. An empty literal is found nowhere.
+fn second(text: &str, literal: &str) -> Vec<Place> {
+    if text.is_empty() || literal.is_empty() {
+        return vec![((0, text.len()), false)];
+    }
+    let mut places = vec![];
+    let mut at = 0;
+    for (start, _) in text.match_indices(literal) {
+        places.extend((at < start).then_some(((at, start), false)));
+        at = start + literal.len();
+        places.push(((start, at), true));
+    }
+    places.extend((at < text.len()).then_some(((at, text.len()), false)));
+    places
+}
+
+/// The Rust original's list where it has one: it ends an empty literal's place at the character count, and its regular
+/// expressions refuse literals over some 327,656 bytes.
+fn theirs(text: &str, literal: &str) -> Option<Vec<Place>> {
+    if literal.is_empty() {
+        return None;
+    }
+    let list = literal.find_matches(text);
+    let too_long = list.is_err() && literal.len() > 300_000;
+    (!too_long).then(|| list.expect("a literal is a regular expression"))
+}
+
+/// The list's bytes, or the refusal that document 01 gives in any room.
+pub fn expected(text: &[u8], literal: &[u8]) -> Result<Vec<u8>, u32> {
+    if text.len() > LIMIT {
+        return Err(2);
+    }
+    match (from_utf8(text), from_utf8(literal)) {
+        (Ok(text), Ok(literal)) => Ok(places::bytes(&second(text, literal))),
+        _ => Err(1),
+    }
+}
+
+/// Just large enough, larger, and short by one, by a place and by far.
+fn rooms(len: usize) -> Vec<usize> {
+    vec![len, len + 7, len.saturating_sub(1), len.saturating_sub(5), 0]
+}
+
+fn find(tally: &mut Tally, text: &[u8], literal: &[u8], rooms: impl FnOnce(usize) -> Vec<usize>) {
+    let list = expected(text, literal);
+    let both = from_utf8(text).ok().zip(from_utf8(literal).ok()).filter(|_| text.len() <= LIMIT);
+    let their_list = both.and_then(|(text, literal)| theirs(text, literal)).map(|places| places::bytes(&places));
+    let agree = their_list.is_none_or(|theirs| list.as_ref() == Ok(&theirs));
+    for room in rooms(list.as_ref().map_or(text.len().min(300), Vec::len)) {
+        let mut out = Lent::new(room);
+        let ours = library::find_matches(text, literal, out.part());
+        let (refusal, bytes): (u32, &[u8]) = match &list {
+            Err(refusal) => (*refusal, &[]),
+            Ok(list) if room < list.len() => (9, &[]),
+            Ok(list) => (0, list),
+        };
+        let wanted = Count { refusal, count: bytes.len() as u32 };
+        let held = out.holds(bytes);
+        tally.case(tally::refusal(ours.refusal), ours != wanted || !held || !agree, || {
+            let (text, literal) = (hex(text), hex(literal));
+            format!(
+                "ours {ours:?}, wanted {wanted:?}, list equal {held}, match_indices and the original agree {agree}, \
+                 in room {room}, literal {literal} in {text}"
+            )
+        });
+    }
+}
+
+fn strings(most: usize) -> Vec<String> {
+    (0..=most)
+        .flat_map(|len| every::list(&['a', 'b', 'é'], len))
+        .map(|characters| characters.iter().collect())
+        .collect()
+}
+
+fn every_short_text(tally: &mut Tally) {
+    tally.family("every text of up to 6 characters out of a, b and é, every literal of up to 3");
+    for literal in strings(3) {
+        for text in strings(6) {
+            find(tally, text.as_bytes(), literal.as_bytes(), |len| vec![len + 3]);
+        }
+    }
+}
+
+fn every_room(tally: &mut Tally) {
+    tally.family("every text of up to 3 characters, every literal of up to 2, in every room");
+    for literal in strings(2) {
+        for text in strings(3) {
+            find(tally, text.as_bytes(), literal.as_bytes(), |len| (0..=len + 6).collect());
+        }
+    }
+}
+
+fn every_two_byte_strings(tally: &mut Tally) {
+    tally.family("texts and literals of up to 3 of 5 bytes, well-formed or not");
+    let all: Vec<Vec<u8>> = (0..=3).flat_map(|len| every::list(b"a\xC3\xA9\x80\xFF", len)).collect();
+    for text in &all {
+        for literal in &all {
+            find(tally, text, literal, |len| vec![len, 0]);
+        }
+    }
+}
+
+fn literal_at_every_offset(tally: &mut Tally) {
+    tally.family("a literal of 1 to 130 bytes at every offset to 200, once or twice");
+    for literal in ["a", "é", "漢", "ab", "aab", "Nest 12", &"a".repeat(33), &"ab漢".repeat(26)] {
+        for offset in 0..=texts::OFFSETS {
+            let text = [&"a".repeat(offset), literal, &"b".repeat(70)].concat();
+            find(tally, text.as_bytes(), literal.as_bytes(), rooms);
+            find(tally, (text.clone() + &text).as_bytes(), literal.as_bytes(), rooms);
+            find(tally, &text.as_bytes()[..offset], literal.as_bytes(), rooms);
+        }
+    }
+}
+
+/// Literals that overlap themselves, and literals that nearly match at every byte.
+fn nearly_everywhere(tally: &mut Tally) {
+    tally.family("literals that overlap themselves or nearly match everywhere, texts to the limit");
+    for len in [1, 2, 3, 4, 5, 63, 64, 65, 200, 5_000, LIMIT] {
+        for unit in ["a", "ab", "aab", "é", "éa", "aaaaaaaab"] {
+            let text = texts::repeated(unit, len);
+            for times in [1, 2, 3, 7, 50] {
+                for tail in ["", "a", "b", "é", "x"] {
+                    let literal = unit.repeat(times) + tail;
+                    find(tally, text.as_bytes(), literal.as_bytes(), |len| vec![len, len.saturating_sub(1)]);
+                }
+            }
+        }
+    }
+}
+
+fn any_texts(tally: &mut Tally) {
+    tally.family("any text up to the limit, literals out of it, whole and with one byte damaged");
+    let mut random = Random::new(46);
+    for turn in 0..2_000 {
+        let len = 1 + random.below(if turn % 20 == 0 { LIMIT } else { 400 });
+        let text = texts::text(*random.choose(&KINDS), len, &mut random);
+        let at = texts::any_boundary(&text, &mut random);
+        let literal: String = text[at..].chars().take(random.below(6)).collect();
+        find(tally, text.as_bytes(), literal.as_bytes(), rooms);
+        let (mut torn, mut torn_literal) = (text.into_bytes(), literal.into_bytes());
+        torn[random.below(len)] = random.byte();
+        find(tally, &torn, &torn_literal, rooms);
+        if let Some(last) = torn_literal.last_mut() {
+            *last = random.byte();
+            find(tally, &torn, &torn_literal, rooms);
+        }
+    }
+}
+
+fn around_the_limit(tally: &mut Tally) {
+    tally.family("texts of 65533 to 65538 bytes: a match at the end, at every byte, nowhere; beside a torn literal");
+    for len in LIMIT - 2..=LIMIT + 3 {
+        let mut text = vec![b'a'; len];
+        for literal in [&b"a"[..], b"aa", b"b", b"", b"\xFF"] {
+            find(tally, &text, literal, rooms);
+        }
+        text[len - 1] = b'z';
+        find(tally, &text, b"az", rooms);
+        text[len - 1] = 0xC3;
+        find(tally, &text, b"az", rooms);
+    }
+}
+
+fn long_literals(tally: &mut Tally) {
+    tally.family("literals as long as the text, longer, and past what the original's regular expressions take");
+    for len in [1, 10, 300, LIMIT] {
+        let text = texts::repeated("kůň ", len);
+        for longer in [0, 1, 5, 70_000, 400_000] {
+            find(tally, text.as_bytes(), texts::repeated("kůň ", len + longer).as_bytes(), rooms);
+        }
+        find(tally, text.as_bytes(), &[text.as_bytes(), &[0xC3; 400_000]].concat(), rooms);
+    }
+}
+
+/// The list of an empty text has one place: there is always something to write.
+fn nothing_anywhere(tally: &mut Tally) {
+    tally.family("nothing lent, at any pointer");
+    for address in [0_usize, 2, 8, usize::MAX - 1] {
+        let (text, out) = (address as *const u8, address as *mut u8);
+        let ours = Count::from(unsafe { library::zulmyren_find_matches(text, 0, text, 0, out, 0) });
+        let no_room = Count { refusal: 9, count: 0 };
+        tally.case(tally::refusal(ours.refusal), ours != no_room, || format!("ours {ours:?} at {address:#x}"));
+    }
+}
+
+pub fn bench() {
+    bench::title("find_matches of a literal that stands every 45 bytes beside find_matches");
+    for (name, text, places) in &bench_texts() {
+        let mut list = vec![0; 5 * places.len()];
+        let ours =
+            || timed(|| library::find_matches(black_box(text.as_bytes()), black_box(LITERAL.as_bytes()), &mut list));
+        bench::row(name, ours, || timed(|| black_box(LITERAL).find_matches(black_box(text))));
+    }
+    bench::title("find_matches of a literal that is nowhere beside find_matches");
+    for (name, text, _) in &bench_texts() {
+        let mut list = [0; 5];
+        let ours = || timed(|| library::find_matches(black_box(text.as_bytes()), black_box(b"QQQ"), &mut list));
+        bench::row(name, ours, || timed(|| black_box("QQQ").find_matches(black_box(text))));
+    }
+    bench::title("find_matches of a literal that nearly matches at every byte beside find_matches");
+    for len in [2, 20, 200] {
+        let (text, literal) = ("a".repeat(60_000), "a".repeat(len - 1) + "b");
+        let mut list = [0; 5];
+        let ours =
+            || timed(|| library::find_matches(black_box(text.as_bytes()), black_box(literal.as_bytes()), &mut list));
+        bench::row(&len.to_string(), ours, || timed(|| black_box(literal.as_str()).find_matches(black_box(&text))));
+    }
+    bench::title("from_text, find_matches and replace beside from and replace of a literal (to be at most 0.20)");
+    for (name, text, places) in &bench_texts() {
+        let mut list = vec![0; 5 * places.len()];
+        let mut note = Note::from(&NormalizedString::from(text.as_str()));
+        let mut buffers = Buffers::new(text.len());
+        let ours = || {
+            timed(|| {
+                let fresh = library::from_text(black_box(text.as_bytes()), &mut note.starts, &mut note.ends);
+                let found = library::find_matches(black_box(text.as_bytes()), black_box(LITERAL.as_bytes()), &mut list);
+                (fresh, found, buffers.replace(&note, &list[..found.count as usize]))
+            })
+        };
+        bench::row(name, ours, || time_of_from_and_replace(text, LITERAL));
+    }
+}

@@ -1,0 +1,588 @@
+//! Replacing beside `NormalizedString::replace`, on lists from outside, and refusals beside a second judge.
+
+use crate::bench::{self, timed};
+use crate::blanking;
+use crate::characters::sequences;
+use crate::every;
+use crate::lent::Lent;
+use crate::library::{self, Count};
+use crate::note::Note;
+use crate::notes::FAULTS;
+use crate::places::{self, Given, Handed, Place};
+use crate::random::Random;
+use crate::samples::{self, DAMAGES, DAMAGES_AT};
+use crate::tally::{self, hex, Report, Tally};
+use crate::texts::{self, Kind, LIMIT};
+use std::hint::black_box;
+use std::str::from_utf8;
+use tokenizers::NormalizedString;
+
+pub fn compare(report: &mut Report) {
+    report.call("zulmyren_replace", "NormalizedString::replace and a second judge", |tally| {
+        worked_notes(tally);
+        every_list(tally);
+        every_room(tally);
+        any_lists(tally);
+        long_lists(tally);
+        results_around_the_limit(tally);
+        fillers_and_lists_past_the_limit(tally);
+        damaged_lists(tally);
+        torn_fillers(tally);
+        every_set_of_faults(tally);
+        damaged_notes(tally);
+        nothing_anywhere(tally);
+    });
+    report.call("two calls of zulmyren_replace", "document 01's claim about them", |tally| {
+        blanking::every_two_notes(tally);
+        blanking::any_two_notes(tally);
+    });
+}
+
+pub const FILLERS: [&str; 5] = ["", "x", "é", "**", "日x"];
+
+/// The note that the Rust original makes, or the refusal that document 01 gives in any room.
+pub fn expected(note: &Note, list: &[u8], filler: &[u8]) -> Result<Note, u32> {
+    let refusal = note.refusal();
+    if [2, 3, 1].contains(&refusal) {
+        return Err(refusal);
+    }
+    let filler = from_utf8(filler).map_err(|_| 1_u32)?;
+    if refusal == 4 {
+        return Err(4);
+    }
+    let mut theirs = of_the_original(note);
+    let places = places::read(list).filter(|places| places::cover(theirs.get(), places)).ok_or(8_u32)?;
+    // The original has no limit: far past it, it would make gigabytes.
+    if places::size(&places, filler.len()) > 4 * LIMIT as u64 {
+        return Err(9);
+    }
+    theirs.replace(Given(places), filler).expect("the places are given");
+    if theirs.len() > LIMIT {
+        return Err(9);
+    }
+    Ok(Note::from(&theirs))
+}
+
+/// A note of two well-formed texts.
+pub fn of_the_original(note: &Note) -> NormalizedString {
+    let text = |bytes: &[u8]| from_utf8(bytes).expect("a checked text").to_owned();
+    let alignments = note.starts.iter().zip(&note.ends).map(|(&start, &end)| (start.into(), end.into())).collect();
+    NormalizedString::of_fields(text(&note.original), text(&note.normalized), alignments, note.original_shift as usize)
+}
+
+/// The lengths of the three lent buffers.
+type Rooms = Vec<[usize; 3]>;
+
+/// Just large enough, or larger.
+fn ample(len: usize) -> Rooms {
+    vec![[len, len + 1, len + 2]]
+}
+
+/// As above, and none at all.
+fn ample_or_none(len: usize) -> Rooms {
+    vec![[len, len + 1, len + 2], [0; 3]]
+}
+
+/// Just large enough, larger, and short in each in turn, in all, and by far.
+fn rooms(len: usize) -> Rooms {
+    let short = len.saturating_sub(1);
+    vec![
+        [len, len, len],
+        [len + 7, len, len],
+        [len, len + 100, len + 1],
+        [short, len, len],
+        [len, short, len],
+        [len, len, short],
+        [short, short, short],
+        [len, len, 0],
+        [0, 0, 0],
+    ]
+}
+
+/// A note, a list and a filler in the rooms that belong to the result's length.
+fn replace(
+    tally: &mut Tally,
+    (note, list, filler): (&Note, &[u8], &[u8]),
+    rooms: impl FnOnce(usize) -> Rooms,
+    made: impl Fn() -> String,
+) {
+    let published = expected(note, list, filler);
+    let len = match &published {
+        Ok(published) => published.normalized.len(),
+        Err(9) => LIMIT + 9,
+        Err(_) => note.normalized.len().min(300),
+    };
+    for room in rooms(len) {
+        let (mut out, mut starts, mut ends) = (Lent::new(room[0]), Lent::new(room[1]), Lent::new(room[2]));
+        let ours = library::replace(note, list, filler, out.part(), starts.part(), ends.part());
+        let (refusal, text, their_starts, their_ends): (u32, &[u8], &[u16], &[u16]) = match &published {
+            Err(refusal) => (*refusal, &[], &[], &[]),
+            Ok(_) if room.iter().any(|&room| room < len) => (9, &[], &[], &[]),
+            Ok(published) => (0, &published.normalized, &published.starts, &published.ends),
+        };
+        let theirs = Count { refusal, count: text.len() as u32 };
+        let held = [out.holds(text), starts.holds(their_starts), ends.holds(their_ends)];
+        tally.case(tally::refusal(ours.refusal), ours != theirs || held != [true; 3], || {
+            let (list, filler, made) = (hex(list), hex(filler), made());
+            format!(
+                "ours {ours:?}, theirs {theirs:?}, text, starts, ends equal {held:?}, in rooms {room:?}, {made}: \
+                 list {list}, filler {filler}, {note}"
+            )
+        });
+    }
+}
+
+fn plainly(tally: &mut Tally, note: &Note, places: &[Place], filler: &str, rooms: impl FnOnce(usize) -> Rooms) {
+    replace(tally, (note, &places::bytes(places), filler.as_bytes()), rooms, || "whole".into());
+}
+
+/// Text, places, filler; the result's text and alignments.
+type Worked<'a> = (&'a str, &'a [Place], &'a str, &'a str, &'a [(u16, u16)]);
+
+/// The answers are document 01's own, and both sides give them.
+fn worked_notes(tally: &mut Tally) {
+    tally.family("document 01's worked notes");
+    let stars = [(0, 1), (1, 2), (2, 3), (3, 4), (4, 5), (6, 7), (6, 7)];
+    let digits: &[Place] = &[((0, 5), false), ((5, 7), true)];
+    let before: &[Place] = &[((0, 0), true), ((0, 2), false)];
+    let worked: [Worked; 3] = [
+        ("nest 12", digits, "**", "nest **", &stars),
+        ("nest 47", digits, "**", "nest **", &stars),
+        ("ab", before, "x", "xab", &[(0, 0), (0, 1), (1, 2)]),
+    ];
+    for (text, places, filler, result, alignments) in worked {
+        let note = Note::from(&NormalizedString::from(text));
+        plainly(tally, &note, places, filler, rooms);
+        let theirs = expected(&note, &places::bytes(places), filler.as_bytes()).expect("a worked note is accepted");
+        let columns: Vec<(u16, u16)> = theirs.starts.iter().copied().zip(theirs.ends.iter().copied()).collect();
+        let differs = theirs.normalized != result.as_bytes() || columns != alignments;
+        tally.case("accepted", differs, || format!("document 01 {result} at {alignments:?}, theirs {theirs}"));
+    }
+}
+
+/// Every sound note of the two texts.
+pub fn sound_notes(original: &str, normalized: &str) -> Vec<Note> {
+    let boundaries: Vec<u16> = (0..=original.len() as u16).filter(|&at| original.is_char_boundary(at.into())).collect();
+    let mut columns: Vec<Vec<(u16, u16)>> = vec![vec![]];
+    for character in normalized.chars() {
+        let mut longer = vec![];
+        for alignments in &columns {
+            let &(least_start, least_end) = alignments.last().unwrap_or(&(0, 0));
+            for &start in boundaries.iter().filter(|&&start| start >= least_start) {
+                for &end in boundaries.iter().filter(|&&end| end >= least_end.max(start)) {
+                    longer.push([&alignments[..], &vec![(start, end); character.len_utf8()]].concat());
+                }
+            }
+        }
+        columns = longer;
+    }
+    let note = |alignments: Vec<(u16, u16)>| {
+        let (starts, ends) = alignments.into_iter().unzip();
+        Note { original: original.into(), normalized: normalized.into(), starts, ends, original_shift: 0 }
+    };
+    columns.into_iter().map(note).collect()
+}
+
+fn every_list(tally: &mut Tally) {
+    tally.family("every sound note of up to 4 bytes, every list with up to 2 empty places, 5 fillers");
+    for text in ["", "a", "é", "漢", "😀", "ab", "aé", "éa", "éž", "漢a", "abc", "aéb", "éab", "abé", "abcd"]
+    {
+        // Boundaries of the transcript: 1 to 3. Four characters on three boundaries are too many.
+        let transcripts = if text == "abcd" { &["q", "ů"][..] } else { &["", "q", "ů", "qů"] };
+        let notes: Vec<Note> = transcripts.iter().flat_map(|transcript| sound_notes(transcript, text)).collect();
+        for places in places::every(text, 2) {
+            for note in &notes {
+                for filler in FILLERS {
+                    plainly(tally, note, &places, filler, ample);
+                }
+            }
+        }
+    }
+}
+
+fn every_room(tally: &mut Tally) {
+    tally.family("starting notes of up to 3 bytes, every list with up to 1 empty place, in every three rooms to 6");
+    for text in ["", "a", "é", "ab", "aé", "漢"] {
+        let note = Note::from(&NormalizedString::from(text));
+        for places in places::every(text, 1) {
+            for filler in FILLERS {
+                let every = |_| every::list(&[0, 1, 2, 3, 4, 5, 6], 3).map(|r| [r[0], r[1], r[2]]).collect();
+                plainly(tally, &note, &places, filler, every);
+            }
+        }
+    }
+}
+
+fn any_filler(random: &mut Random) -> String {
+    (0..random.below(6)).map(|_| texts::any_scalar(random)).collect()
+}
+
+fn any_lists(tally: &mut Tally) {
+    tally.family("notes of any make to 300 bytes, any list to 60 places, any filler to 5 characters, in 9 rooms");
+    let mut random = Random::new(41);
+    for _ in 0..20_000 {
+        let len = random.below(300);
+        let note = samples::any(len, &mut random);
+        let cuts = random.below(60);
+        let places = places::any(note.get(), cuts, &mut random);
+        plainly(tally, &Note::from(&note), &places, &any_filler(&mut random), rooms);
+    }
+}
+
+fn long_lists(tally: &mut Tally) {
+    tally.family("notes of any make up to the limit, any list to 65536 places, in 9 rooms");
+    let mut random = Random::new(42);
+    for turn in 0..240 {
+        let len = if turn % 3 == 0 { LIMIT } else { 300 + random.below(LIMIT - 300) };
+        let note = samples::any(len, &mut random);
+        let most = [100, 3_000, LIMIT + 1][turn % 3];
+        let cuts = random.below(most);
+        let places = places::any(note.get(), cuts, &mut random);
+        plainly(tally, &Note::from(&note), &places, &any_filler(&mut random), rooms);
+    }
+}
+
+fn results_around_the_limit(tally: &mut Tally) {
+    tally.family("results of 65533 to 65538 bytes in 9 rooms: one filler or many, in the place of bytes or of nothing");
+    for size in LIMIT - 2..=LIMIT + 3 {
+        let mut made = |text: String, places: Vec<Place>, filler: String| {
+            assert_eq!(places::size(&places, filler.len()), size as u64);
+            plainly(tally, &Note::from(&NormalizedString::from(text)), &places, &filler, rooms);
+        };
+        for unit in ["a", "é", "漢", "😀"] {
+            let text = texts::repeated(unit, 1_200);
+            let kept = vec![((0, 600), false), ((600, 600), true), ((600, 1_200), false)];
+            made(text.clone(), kept, texts::repeated(unit, size - 1_200));
+            made(text, vec![((0, 1_200), true)], texts::repeated(unit, size));
+        }
+        // The filler is 1 byte longer than what it stands for, `grown` times.
+        let grown = size - 50_000;
+        let every_third = (0..grown).flat_map(|i| [((3 * i, 3 * i + 2), false), ((3 * i + 2, 3 * i + 3), true)]);
+        let rest = ((3 * grown, 50_000), false);
+        made("a".repeat(50_000), every_third.chain([rest]).collect(), "é".into());
+        let first = (0..grown).map(|i| ((i, i + 1), true));
+        made("a".repeat(50_000), first.chain([((grown, 50_000), false)]).collect(), "é".into());
+        // Many in the place of nothing, and one in the place of the last byte.
+        let nothing = vec![((0, 0), true); size - 3];
+        made("漢".into(), nothing.into_iter().chain([((0, 3), false)]).collect(), "x".into());
+        if size >= LIMIT {
+            let last = vec![((0, LIMIT - 1), false), ((LIMIT - 1, LIMIT), true)];
+            made("a".repeat(LIMIT), last, "x".repeat(1 + size - LIMIT));
+        }
+    }
+}
+
+fn fillers_and_lists_past_the_limit(tally: &mut Tally) {
+    tally.family("fillers of up to 200000 bytes and lists of up to 1000000, sums past 16 and 32 bits");
+    let note = Note::from(&NormalizedString::from("aéb"));
+    let nothing = Note::from(&NormalizedString::from(""));
+    for len in [LIMIT, LIMIT + 1, LIMIT + 5, 70_000, 131_072, 200_000] {
+        for unit in ["x", "é", "漢"] {
+            let filler = texts::repeated(unit, len);
+            plainly(tally, &note, &[((0, 4), false)], &filler, rooms);
+            plainly(tally, &note, &[((0, 3), false), ((3, 3), false), ((3, 4), false)], &filler, rooms);
+            plainly(tally, &note, &[((0, 4), true)], &filler, rooms);
+            plainly(tally, &note, &[((0, 4), false), ((4, 4), true)], &filler, rooms);
+            plainly(tally, &nothing, &[], &filler, rooms);
+            plainly(tally, &nothing, &[((0, 0), false)], &filler, rooms);
+            plainly(tally, &nothing, &[((0, 0), true)], &filler, rooms);
+            let torn = [filler.as_bytes(), &[0xC3]].concat();
+            replace(tally, (&note, &places::bytes(&[((0, 4), false)]), &torn), ample, || "torn filler".into());
+        }
+    }
+    for (places, filler) in [(65_536, 65_536), (65_536, 65_537), (32_768, 131_072), (200_000, 0), (200_000, 1)] {
+        let list = [vec![((0, 0), true); places], vec![((0, 4), false)]].concat();
+        plainly(tally, &note, &list, &"x".repeat(filler), rooms);
+    }
+    let unmatched = [vec![((0, 4), false)], vec![((4, 4), false); 200_000]].concat();
+    plainly(tally, &note, &unmatched, "x", rooms);
+}
+
+/// Notes and lists whose bytes are damaged.
+fn lists_to_damage() -> Vec<(Note, Vec<u8>)> {
+    let mut lists = vec![];
+    for text in ["", "a", "ab", "aéb"] {
+        for places in places::every(text, 1) {
+            lists.push((NormalizedString::from(text), places));
+        }
+    }
+    let mut random = Random::new(43);
+    let long = [(20_000, 3, Kind::Mixed), (LIMIT, 4, Kind::Ascii), (LIMIT, 3, Kind::Any)];
+    let short = texts::KINDS.into_iter().flat_map(|kind| [(200, 9, kind), (600, 14, kind)]);
+    for (len, cuts, kind) in short.chain(long) {
+        let text = texts::text(kind, len, &mut random);
+        let places = places::any(&text, cuts, &mut random);
+        lists.push((NormalizedString::from(text), places));
+    }
+    lists.iter().map(|(note, places)| (Note::from(note), places::bytes(places))).collect()
+}
+
+const BYTES: [u8; 12] = [0, 1, 2, 4, 10, 11, 12, 13, 0x7F, 0x80, 0xFE, 0xFF];
+
+fn damaged_lists(tally: &mut Tally) {
+    tally.family("every byte of a list changed, cut off, added, left out; every place left out, doubled, swapped");
+    for (note, list) in lists_to_damage() {
+        let rooms = if list.len() > 15 { ample } else { ample_or_none };
+        let mut damaged = |made: &str, i: usize, list: Vec<u8>| {
+            replace(tally, (&note, &list, b"x"), rooms, || format!("{made} at {i}"));
+        };
+        let every: Vec<u8> = (0..=255).collect();
+        let values = if list.len() > 15 { &BYTES[..] } else { &every };
+        damaged("whole", 0, list.clone());
+        for i in 0..list.len() {
+            let near = [list[i].wrapping_sub(1), list[i].wrapping_add(1), list[i] ^ 0x80, list[i] ^ 1];
+            for &value in values.iter().chain(&near) {
+                let mut changed = list.clone();
+                changed[i] = value;
+                damaged("changed", i, changed);
+            }
+            damaged("cut", i, list[..i].to_vec());
+            damaged("left out", i, [&list[..i], &list[i + 1..]].concat());
+        }
+        for i in 0..=list.len() {
+            let values = if i == list.len() { &every[..] } else { &BYTES };
+            for &value in values {
+                damaged("added", i, [&list[..i], &[value], &list[i..]].concat());
+            }
+        }
+        for i in (0..list.len()).step_by(5) {
+            let (before, place, behind) = (&list[..i], &list[i..i + 5], &list[i + 5..]);
+            damaged("place left out", i, [before, behind].concat());
+            damaged("place doubled", i, [before, place, place, behind].concat());
+            if let Some((next, behind)) = behind.split_at_checked(5) {
+                damaged("places swapped", i, [before, next, place, behind].concat());
+            }
+        }
+    }
+}
+
+/// A sound note, an uneven one and a stray one.
+fn sound_uneven_stray() -> [Note; 3] {
+    let [sound, mut uneven, mut stray] = [(); 3].map(|()| Note::from(&NormalizedString::from("aéb")));
+    uneven.starts.push(4);
+    stray.starts[0] = 3;
+    [sound, uneven, stray]
+}
+
+fn torn_fillers(tally: &mut Tally) {
+    tally.family(
+        "fillers with a character, or a wrong or cut one, anywhere, beside notes and lists that are whole or not",
+    );
+    let lists: [&[u8]; 4] = [
+        &places::bytes(&[((0, 1), false), ((1, 3), true), ((3, 4), false)]),
+        &places::bytes(&[((0, 4), false)]),
+        &places::bytes(&[((0, 3), true)]),
+        &[12],
+    ];
+    for note in sound_uneven_stray() {
+        for list in lists {
+            for sequence in sequences() {
+                for (before, behind) in [(0, 0), (1, 1), (63, 70), (126, 0), (128, 131)] {
+                    let filler = [&b"a".repeat(before), &sequence[..], &b"a".repeat(behind)].concat();
+                    replace(tally, (&note, list, &filler), ample_or_none, || "whole or not".into());
+                }
+            }
+        }
+    }
+}
+
+fn every_set_of_faults(tally: &mut Tally) {
+    tally.family("every set of faults out of nine of the note, a torn filler, a broken list and each short room");
+    let sound = Note::from(&NormalizedString::from("aéb"));
+    let whole = places::bytes(&[((0, 1), false), ((1, 3), true), ((3, 4), false)]);
+    for set in 0..1_u32 << FAULTS.len() {
+        let mut note = sound.clone();
+        for (_, fault) in FAULTS.iter().enumerate().filter(|(i, _)| set >> i & 1 == 1) {
+            fault(&mut note);
+        }
+        for filler in [&b"**"[..], b"*\xFF"] {
+            for list in [&whole[..], &whole[1..]] {
+                let in_every_room = |_| every::list(&[3, 4], 3).map(|r| [r[0], r[1], r[2]]).collect();
+                replace(tally, (&note, list, filler), in_every_room, || format!("faults {set:09b}"));
+            }
+        }
+    }
+}
+
+fn damaged_notes(tally: &mut Tally) {
+    tally.family("notes of any make, with every damage, beside lists and fillers that are whole or not");
+    let mut random = Random::new(44);
+    for turn in 0..600 {
+        let len = 1 + random.below([10, 40, 300][turn % 3]);
+        let note = samples::any(len, &mut random);
+        let places = places::any(note.get(), 5, &mut random);
+        let note = Note::from(&note);
+        let list = places::bytes(&places);
+        let mut beside = |note: &Note, made: &str| {
+            replace(tally, (note, &list, "é".as_bytes()), ample_or_none, || made.into());
+            replace(tally, (note, &list[1..], b"x"), ample, || made.into());
+            replace(tally, (note, &list, b"\xC3"), ample, || made.into());
+        };
+        for (name, damage) in DAMAGES {
+            let mut damaged = note.clone();
+            damage(&mut damaged);
+            beside(&damaged, name);
+        }
+        let offsets: Vec<usize> = match note.normalized.len() {
+            0 => vec![],
+            bytes @ 1..=10 => (0..bytes).collect(),
+            bytes => vec![0, random.below(bytes), random.below(bytes), bytes - 1],
+        };
+        for (name, damage) in DAMAGES_AT {
+            for &offset in &offsets {
+                let mut damaged = note.clone();
+                damage(&mut damaged, offset);
+                beside(&damaged, name);
+            }
+        }
+    }
+}
+
+fn nothing_anywhere(tally: &mut Tally) {
+    tally.family("nothing lent, at any pointer");
+    for address in [0_usize, 2, 8, usize::MAX - 1] {
+        let (text, column) = (address as *const u8, address as *const u16);
+        let (out, written) = (address as *mut u8, address as *mut u16);
+        let ours = unsafe {
+            library::zulmyren_replace(
+                text, 0, text, 0, column, 0, column, 0, 0, text, 0, text, 0, out, 0, written, 0, written, 0,
+            )
+        };
+        let accepted = Count { refusal: 0, count: 0 };
+        tally.case(tally::refusal(ours.refusal), ours != accepted, || format!("ours {ours:?} at {address:#x}"));
+    }
+}
+
+pub const LITERAL: &str = "Nest 12";
+const FILLER: &str = "*****";
+
+/// The bench's texts with `LITERAL` every 45 bytes, and their places.
+pub fn bench_texts() -> Vec<(&'static str, String, Vec<Place>)> {
+    let of = |(name, text): (&'static str, String)| {
+        let mut marked = String::with_capacity(text.len());
+        let mut places = vec![];
+        while text.len() - marked.len() >= 45 {
+            let start = marked.len();
+            let end = texts::boundary_before(&text, start + 45 - LITERAL.len());
+            let begin = (start..=end).find(|&at| text.is_char_boundary(at)).expect("`end` is a boundary");
+            marked.push_str(&text[begin..end]);
+            marked.push_str(&"-".repeat(start + 45 - LITERAL.len() - marked.len()));
+            places.extend([((start, marked.len()), false), ((marked.len(), start + 45), true)]);
+            marked.push_str(LITERAL);
+        }
+        assert_eq!(marked.matches(LITERAL).count(), marked.len() / 45);
+        (name, marked, places)
+    };
+    bench::texts().map(of).into()
+}
+
+/// Lent buffers for results of up to `len` bytes.
+pub struct Buffers {
+    out: Vec<u8>,
+    starts: Vec<u16>,
+    ends: Vec<u16>,
+}
+
+impl Buffers {
+    pub fn new(len: usize) -> Self {
+        Buffers { out: vec![0; len], starts: vec![0; len], ends: vec![0; len] }
+    }
+
+    pub fn replace(&mut self, note: &Note, list: &[u8]) -> Count {
+        let (note, list, filler) = (black_box(note), black_box(list), black_box(FILLER.as_bytes()));
+        library::replace(note, list, filler, &mut self.out, &mut self.starts, &mut self.ends)
+    }
+
+    /// As many bytes and numbers as a result has.
+    fn copy(&mut self, result: &Note) {
+        let len = result.normalized.len();
+        self.out[..len].copy_from_slice(&result.normalized);
+        self.starts[..len].copy_from_slice(&result.starts);
+        self.ends[..len].copy_from_slice(&result.ends);
+    }
+}
+
+/// glibc's `mallopt`.
+mod heap {
+    extern "C" {
+        fn mallopt(parameter: i32, value: i32) -> i32;
+    }
+
+    /// From here on what is freed stays with the process, up to 32 MiB.
+    pub fn keep_what_is_freed() {
+        let (trim_threshold, mmap_threshold) = (-1, -3);
+        let kept = unsafe { [mallopt(trim_threshold, i32::MAX), mallopt(mmap_threshold, 32 << 20)] };
+        assert_eq!(kept, [1, 1], "mallopt takes both");
+    }
+}
+
+pub fn bench() {
+    // The original's alignments are 960 KB before and after, more than glibc keeps by default: each run takes fresh pages
+    // from the system, at more than half of its time. With a heap that keeps them, both sides work in warm memory.
+    bench::title(
+        "from_text and replace of a list, a match every 45 bytes, beside from and replace; theirs in fresh pages",
+    );
+    from_text_and_replace();
+    heap::keep_what_is_freed();
+    bench::title("the same, all in warm memory, as are the next ones (to be at most 0.20)");
+    from_text_and_replace();
+    replace_alone();
+}
+
+fn from_text_and_replace() {
+    for (name, text, places) in &bench_texts() {
+        let list = places::bytes(places);
+        let mut note = Note::from(&NormalizedString::from(text.as_str()));
+        let mut buffers = Buffers::new(text.len());
+        let ours = || {
+            timed(|| {
+                let fresh = library::from_text(black_box(text.as_bytes()), &mut note.starts, &mut note.ends);
+                (fresh, buffers.replace(&note, &list))
+            })
+        };
+        bench::row(name, ours, || time_of_from_and_replace(text, Handed::new(places)));
+    }
+}
+
+fn replace_alone() {
+    let texts = bench_texts();
+    bench::title("replace of a list on a ready note beside replace (to be at most 0.20)");
+    for (name, text, places) in &texts {
+        let list = places::bytes(places);
+        let ready = NormalizedString::from(text.as_str());
+        let note = Note::from(&ready);
+        let mut buffers = Buffers::new(text.len());
+        bench::row(
+            name,
+            || timed(|| buffers.replace(&note, &list)),
+            || {
+                let (mut theirs, places) = (ready.clone(), Handed::new(places));
+                timed(|| {
+                    theirs.replace(places, black_box(FILLER)).expect("the places are given");
+                    theirs
+                })
+            },
+        );
+    }
+    bench::title("the same beside copying the result's bytes and columns");
+    for (name, text, places) in &texts {
+        let list = places::bytes(places);
+        let note = Note::from(&NormalizedString::from(text.as_str()));
+        let result = expected(&note, &list, FILLER.as_bytes()).expect("the bench's lists are accepted");
+        let (mut buffers, mut copies) = (Buffers::new(text.len()), Buffers::new(text.len()));
+        bench::row(
+            name,
+            || timed(|| buffers.replace(&note, &list)),
+            || timed(|| black_box(&mut copies).copy(black_box(&result))),
+        );
+    }
+}
+
+pub fn time_of_from_and_replace(text: &str, pattern: impl tokenizers::pattern::Pattern) -> std::time::Duration {
+    let owned = text.to_owned();
+    timed(|| {
+        let mut note = NormalizedString::from(black_box(owned));
+        note.replace(pattern, black_box(FILLER)).expect("a literal is a regular expression");
+        note
+    })
+}
