@@ -76,10 +76,14 @@ pub faulty-four : (b3 b2 b1 b0 : ℕ) → (xor (pending b3 b2 b1) (within trail 
 unfolding faulty
 faulty-four b3 b2 b1 b0 = rw (second-odd b1 b0) (odd-apart _ _ _ _ (λ e. pending-1 b3 b2 b1 (odd-lead b1 b0 e)))
 
-pub faulty-three : (b2 b1 b0 : ℕ) → b1 < 0xF0 → b0 < 0xF0 → (xor (leb 0xC0 b1 || leb 0xE0 b2) (within trail b0) || (leb 0xC0 b0 && ltb b0 0xC2) || ((eqb b1 0xE0 && ltb b0 0xA0) || (eqb b1 0xED && ltb 0x9F b0))) ≡ faulty 0 b2 b1 b0
+high-low : (b : ℕ) → ltb 0x9F b ≡ not (ltb b 0xA0)
+high-low b = le-or-lt 0xA0 b (λ high. rw (le-ltb b 0xA0 high, lt-ltb 0x9F b (omega arith))) (λ low. rw (lt-ltb b 0xA0 low, le-ltb 0x9F b (omega arith)))
+
+pub faulty-three : (b2 b1 b0 : ℕ) → b1 < 0xF0 → b0 < 0xF0 → (xor (leb 0xC0 b1 || leb 0xE0 b2) (within trail b0) || (leb 0xC0 b0 && ltb b0 0xC2) || ((eqb b1 0xE0 && ltb b0 0xA0) || (eqb b1 0xED && not (ltb b0 0xA0)))) ≡ faulty 0 b2 b1 b0
 unfolding pending never odd
 faulty-three b2 b1 b0 h1 h0 =
-    simp (or-none, lt-leb 0xF5 b0 (omega arith), ne-eqb b1 0xF0 (λ e. omega arith), ne-eqb b1 0xF4 (λ e. omega arith)) at (faulty-four 0 b2 b1 b0)
+    rw (← high-low b0)
+    (simp (or-none, lt-leb 0xF5 b0 (omega arith), ne-eqb b1 0xF0 (λ e. omega arith), ne-eqb b1 0xF4 (λ e. omega arith)) at (faulty-four 0 b2 b1 b0))
 
 pub faulty-two : (b1 b0 : ℕ) → b1 < 0xE0 → b0 < 0xE0 → (xor (leb 0xC0 b1) (within trail b0) || (leb 0xC0 b0 && ltb b0 0xC2)) ≡ faulty 0 0 b1 b0
 faulty-two b1 b0 h1 h0 =

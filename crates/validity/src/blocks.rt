@@ -49,7 +49,8 @@ fn faulty_three(b2: u8, b1: u8, b0: u8) -> bool
     let pending = (0xC0 <= b1) | (0xE0 <= b2);
     let trail = (0x80 <= b0) & (b0 <= 0xBF);
     let never = (0xC0 <= b0) & (b0 < 0xC2);
-    let odd = ((b1 == 0xE0) & (b0 < 0xA0)) | ((b1 == 0xED) & (0x9F < b0));
+    let low = b0 < 0xA0;
+    let odd = ((b1 == 0xE0) & low) | ((b1 == 0xED) & !low);
     (pending != trail) | never | odd
 }
 
