@@ -1,11 +1,11 @@
 -- What a call on a lent note answers, by what the check of the note says; and what an accepted note's columns are.
-use Prim.Native.Nat.{ℕ, _+_, _≤_}
+use Prim.Native.Nat.{_+_, _≤_}
 use mathlib.Core.Path.{_≡_, _∙_, refl, sym}
 use mathlib.Core.Bool.{Bool, true, false, cond, not}
 use native.Mathlib.Omega.{arith}
-use lib.Dec.{leb, eqb}
+use lib.Dec.{leb}
 use lib.ListN.{length}
-use borrow.Author.Tests.{leb-true, eqb-true}
+use borrow.Author.Tests.{leb-true, not-false}
 use Rattle.runs.proofs.Everywhere.{and-left, and-right}
 use Rattle.note.specs.declared.Refusal.{Refusal}
 use Rattle.note.specs.declared.Refusal.the-variants.{IllFormed, TooLong, LengthMismatch, Misaligned, NotBoundary, BadScript, Exhausted, BadMatches, NoRoom, Missing, CountMismatch}
@@ -13,6 +13,8 @@ use Rattle.note.specs.declared.Verdict.{Verdict}
 use Rattle.note.specs.declared.Verdict.the-variants.{Accepted, Refused as Rejected}
 use Rattle.note.specs.Refusals.{meets, verdict}
 use Rattle.note.specs.Notes.{Note, limit, fits, paired, textsFormed, aligned, Sound, noteFaults}
+use Rattle.note.proofs.Verdicts.{accepted-meets}
+use Rattle.note.proofs.SoundAt.{length-starts, length-ends, forward-at}
 use Rattle.convert.specs.declared.Converted.{Converted}
 use Rattle.convert.specs.declared.Converted.the-variants.{Found, Refused}
 use Rattle.convert.specs.Converting.{Columns, missing, said, answered}
@@ -65,23 +67,23 @@ pub record Checked (n : Note) : Type 0 where
   pub within : fits n ≡ true
   pub sound : Sound n
 
-noted-accepted : (f p t a : Bool) → noted (not f) (not p) (not t) (not a) Accepted ≡ Accepted → (f ≡ true) × (p ≡ true) × (t ≡ true) × (a ≡ true)
-noted-accepted true true true true e = (refl, refl, refl, refl)
-noted-accepted true true true false e = let z : _≡_ {A = ℕ} 0 1 = cc in absurd (omega arith)
-noted-accepted true true false a e = let z : _≡_ {A = ℕ} 0 1 = cc in absurd (omega arith)
-noted-accepted true false t a e = let z : _≡_ {A = ℕ} 0 1 = cc in absurd (omega arith)
-noted-accepted false p t a e = let z : _≡_ {A = ℕ} 0 1 = cc in absurd (omega arith)
-
 pub checked : (n : Note) (v : Verdict) → v ≡ verdict (noteFaults n) → v ≡ Accepted → Checked n
-unfolding verdict
 checked n v e is =
-    let k : (fits n ≡ true) × (paired n ≡ true) × (textsFormed n ≡ true) × (aligned n ≡ true) = noted-accepted (fits n) (paired n) (textsFormed n) (aligned n) (sym e ∙ is) in
-    record { within = k .0; sound = record { has-pairs = k .1; has-texts = k .2; has-alignments = k .3 } }
+    let faults : (k : Refusal) → noteFaults n k ≡ false = accepted-meets (noteFaults n) (sym e ∙ is) in
+    record {
+      within = not-false (fits n) (faults TooLong);
+      sound = record { has-pairs = not-false (paired n) (faults LengthMismatch); has-texts = not-false (textsFormed n) (faults IllFormed); has-alignments = not-false (aligned n) (faults Misaligned) };
+    }
 
 pub checked-columns : (n : Note) → Checked n → Columns (n .starts) (n .ends)
-unfolding paired fits
+unfolding fits
 checked-columns n k =
-    let s : length (n .starts) ≡ length (n .normalized) = eqb-true _ _ (and-left _ (eqb (length (n .ends)) (length (n .normalized))) (k .sound .has-pairs)) in
-    let e : length (n .ends) ≡ length (n .normalized) = eqb-true _ _ (and-right (eqb (length (n .starts)) (length (n .normalized))) _ (k .sound .has-pairs)) in
+    let s : length (n .starts) ≡ length (n .normalized) = length-starts n (k .sound) in
+    let e : length (n .ends) ≡ length (n .normalized) = length-ends n (k .sound) in
     let f : length (n .normalized) ≤ limit = leb-true _ _ (and-right (leb (length (n .original)) limit) _ (and-left _ (leb (n .original-shift + length (n .original)) limit) (k .within))) in
-    record { paired = omega arith; few = omega arith }
+    record {
+      paired = omega arith;
+      few = omega arith;
+      starts-forward = λ i h. forward-at n (k .sound) i (omega arith) .0;
+      ends-forward = λ i h. forward-at n (k .sound) i (omega arith) .1;
+    }

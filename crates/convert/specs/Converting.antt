@@ -1,6 +1,6 @@
 -- Document 01, 'Converting' (Rust: `convert_offsets`, `expand_alignments`): a range of one text as a range of the other.
 -- The definitions go over the two columns of alignments; what the texts hold plays no part in them.
-use Prim.Native.Nat.{ℕ, _+_, _-_, _≤_}
+use Prim.Native.Nat.{ℕ, suc, _+_, _-_, _≤_, _<_}
 use mathlib.Core.Path.{_≡_}
 use mathlib.Core.Bool.{Bool, false, cond, _&&_, not}
 use mathlib.Core.List.{List, [], _∷_}
@@ -104,7 +104,9 @@ answered n answer = said (verdict (meets Missing (missing answer) (noteFaults n)
 unfoldable pub convertOffsets : Note → Range → Converted
 convertOffsets n range = answered n (converted (n .starts) (n .ends) range)
 
--- what the inner calls ask: one start for each end, and no more than a text has bytes
+-- what the inner calls ask: one start for each end, no more than a text has bytes, and "neither starts nor ends ever go back"
 pub record Columns (starts ends : List ℕ) : Type 0 where
   pub paired : length starts ≡ length ends
   pub few : length ends ≤ limit
+  pub starts-forward : (i : ℕ) → suc i < length ends → getD starts i 0 ≤ getD starts (suc i) 0
+  pub ends-forward : (i : ℕ) → suc i < length ends → getD ends i 0 ≤ getD ends (suc i) 0

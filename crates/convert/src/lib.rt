@@ -7,9 +7,11 @@ use note::check_note;
 use note::rewrap::same_in_normalized;
 use note::rewrap::same_in_original;
 ghost use mathlib.Core.Path.{_≡_};
-ghost use Prim.Native.Nat.{_<_, _-_};
+ghost use Prim.Native.Nat.{_≤_, _<_, _-_};
+ghost use lib.ListN.{length, getD};
 ghost use Rattle.note.specs.Notes.{limit};
 ghost use Rattle.convert.specs.Converting.{Columns, startOf, endOf, begun, stepped, walked, expanded, toOriginal, toNormalized, converted, convertOffsets};
+ghost use Rattle.convert.specs.Blocks.{settled, Block};
 
 // A range start..end, in the bytes of the one text or of the other (Rust: `Range`).
 pub enum Range {
@@ -76,6 +78,36 @@ fn step(found: Places, i: NormalizedByte, start: u16, end: u16, from: u32) -> Pl
     }
 }
 
+// A first place is found already, or none is at an alignment that starts at `start` or before.
+fn settled(found: Places, start: u16, from: u32) -> bool
+    ensures { λ r. ⌜ r ≡ settled from start found ⌝ }
+{
+    match found {
+        Places::Both(_, _) => true,
+        Places::Last(_) => (start as u32) < from,
+        Places::Neither => (start as u32) < from,
+    }
+}
+
+// The last alignment of a block that one step walks: the block is the next 64, or the one at `i` alone. Neither column ever
+// goes back, so the last of 64 speaks for them all.
+fn block_last(found: Places, starts: &[u16], ends: &[u16], i: usize, from: u32, to: u32) -> usize
+    requires { ⌜ (Columns (now starts) (now ends)) × (i < length (now ends)) × (getD (now ends) i 0 ≤ to) ⌝ }
+    ensures { λ r. ⌜ Block (now (starts .entry)) (now (ends .entry)) from to found i r ⌝ }
+{
+    if ends.len() - i < 64 {
+        return i;
+    }
+    let last = i + 63;
+    if to < ends[last] as u32 {
+        return i;
+    }
+    if !settled(found, starts[last], from) {
+        return i;
+    }
+    last
+}
+
 // The alignments are walked up to the first that ends past the target.
 fn walk(starts: &[u16], ends: &[u16], from: u32, to: u32) -> Places
     requires { ⌜ Columns (now starts) (now ends) ⌝ }
@@ -87,8 +119,15 @@ fn walk(starts: &[u16], ends: &[u16], from: u32, to: u32) -> Places
         if to < ends[i] as u32 {
             break;
         }
-        found = step(found, NormalizedByte(i as u32), starts[i], ends[i], from);
-        i += 1;
+        let last = block_last(found, starts, ends, i, from, to);
+        found = step(
+            found,
+            NormalizedByte(last as u32),
+            starts[last],
+            ends[last],
+            from,
+        );
+        i = last + 1;
     }
     found
 }

@@ -121,6 +121,20 @@ between-fault s from to i r b below e t =
 pub between-done : (s : List ℕ) (from to i : ℕ) → Between s from to i → to ≤ i → calmFrom s from (to - from) ≡ true
 between-done s from to i b past = let all : i ≡ to = omega (arith, b .most) in rw all at (b .calm-so-far)
 
+-- from i to the end of the text: the bytes that are left, judged as one block, and the end
+module _ (s : List ℕ) (i : ℕ) (r : Bool) (low : 3 ≤ i) (most : i ≤ length s) (says : r ≡ calmFirst (part s (i - 3) (length s)) (length (part s (i - 3) (length s)) - 3)) where
+  rest-cut : calmFrom s i (length s + 3 - i) ≡ (r && calmFrom s (length s) (length s + 3 - length s))
+  rest-cut =
+      let whole : length s + 3 - i ≡ (length s - i) + (length s + 3 - length s) = omega arith in
+      let here : i + (length s - i) ≡ length s = omega arith in
+      ap (calmFrom s i) whole ∙ from-add s i (length s - i) (length s + 3 - length s) ∙ rw (here, says, block-calm s i (length s) low (omega arith))
+
+  pub rest-fault : r ≡ false → calmFrom s i (length s + 3 - i) ≡ false
+  rest-fault e = rest-cut ∙ and-false-l _ _ e
+
+  pub rest-end : r ≡ true → calmFrom s i (length s + 3 - i) ≡ calmFrom s (length s) (length s + 3 - length s)
+  rest-end e = rest-cut ∙ rw e
+
 -- the loop over blocks
 pub record Blocks (s : List ℕ) (i : ℕ) : Type 0 where
   pub least : 3 ≤ i

@@ -1,6 +1,6 @@
 -- The tests of a window without branches, shorter where there are no long characters, and the blocks that are judged by them.
 -- A byte too far back to lead a long character counts as 0.
-use Prim.Native.Nat.{ℕ, _+_, _-_, _≤_, _<_}
+use Prim.Native.Nat.{ℕ, _+_, _-_, _≤_, _<_, max}
 use mathlib.Core.Path.{_≡_, _∙_, ap, refl, sym}
 use mathlib.Core.Bool.{Bool, true, false, xor, _&&_, _||_, not}
 use mathlib.Core.List.{List}
@@ -15,9 +15,9 @@ use Rattle.runs.specs.Splice.{part}
 use Rattle.runs.proofs.Everywhere.{and-unit, and-false-r, clash, true-or-false, le-or-lt, every-suc}
 use Rattle.utf8.specs.Table.{bytes, within, trail}
 use Rattle.utf8.specs.Formed.{second}
-use Rattle.validity.specs.Windows.{largest, pending, never, faulty, calm, calmFirst}
+use Rattle.validity.specs.Windows.{largest, fromLead, leastLead, Plain, pending, never, faulty, calm, calmFirst}
 use Rattle.validity.proofs.FastForm.{pending-1}
-use Rattle.validity.proofs.Ascii.{largest-at}
+use Rattle.validity.proofs.Ascii.{largest-at, least-at}
 use Rattle.validity.proofs.Padding.{calm-read}
 
 or-none : (a : Bool) → (a || false) ≡ a
@@ -89,6 +89,31 @@ pub faulty-two : (b1 b0 : ℕ) → b1 < 0xE0 → b0 < 0xE0 → (xor (leb 0xC0 b1
 faulty-two b1 b0 h1 h0 =
     simp (or-none, ne-eqb b1 0xE0 (λ e. omega arith), ne-eqb b1 0xED (λ e. omega arith)) at (faulty-three 0 b1 b0 (omega arith) (omega arith))
 
+-- between C0 and E0 there is no plain byte
+plain-high : (b : ℕ) → Plain b → 0xC0 ≤ b → 0xE1 ≤ b
+unfolding fromLead
+plain-high b p h = omega (arith, p .far, p .low)
+
+plain-pending : (b2 b1 : ℕ) → Plain b2 → leb 0xC0 (max b1 b2) ≡ (leb 0xC0 b1 || leb 0xE0 b2)
+plain-pending b2 b1 p =
+    le-or-lt 0xC0 b1
+    (λ h. rw (le-leb 0xC0 b1 h) (le-leb 0xC0 (max b1 b2) (omega arith)))
+    (λ low. rw (lt-leb 0xC0 b1 low) (le-or-lt 0xC0 b2
+    (λ h. le-leb 0xC0 (max b1 b2) (omega arith) ∙ sym (le-leb 0xE0 b2 (omega (arith, plain-high b2 p h))))
+    (λ low2. lt-leb 0xC0 (max b1 b2) (omega arith) ∙ sym (lt-leb 0xE0 b2 (omega arith)))))
+
+plain-lead : (b : ℕ) → Plain b → (leb 0xC0 b && ltb b 0xC2) ≡ false
+plain-lead b p =
+    le-or-lt 0xC0 b
+    (λ h. and-false-r (leb 0xC0 b) _ (le-ltb b 0xC2 (omega (arith, plain-high b p h))))
+    (λ low. rw (lt-leb 0xC0 b low))
+
+pub faulty-plain : (b2 b1 b0 m : ℕ) → Plain b2 → Plain b1 → Plain b0 → m ≡ max b1 b2 → xor (leb 0xC0 m) (within trail b0) ≡ faulty 0 b2 b1 b0
+unfolding fromLead
+faulty-plain b2 b1 b0 m p2 p1 p0 larger =
+    rw (larger, plain-pending b2 b1 p2)
+    (simp (or-none, plain-lead b0 p0, ne-eqb b1 0xE0 (λ e. omega (arith, p1 .far)), ne-eqb b1 0xED (λ e. omega (arith, p1 .low))) at (faulty-three b2 b1 b0 (omega (arith, p1 .low)) (omega (arith, p0 .low))))
+
 -- a byte that leads no character as far as b0 counts as 0
 no-third : (b3 b2 b1 b0 : ℕ) → b3 < 0xF0 → faulty 0 b2 b1 b0 ≡ faulty b3 b2 b1 b0
 unfolding faulty pending
@@ -105,6 +130,9 @@ part-at w k j = rw (← length-drop k w, take-length (drop k w), getD-drop k w j
 pub part-below : (w : List ℕ) (k j n : ℕ) → largest w < n → getD (part w k (length w)) j 0 < n
 part-below w k j n h = rw (part-at w k j) (omega (arith, largest-at w (j + k)))
 
+pub part-plain : (w : List ℕ) (k j : ℕ) → largest w < 0xED → 0x21 ≤ leastLead w → Plain (getD (part w k (length w)) j 0)
+part-plain w k j low far = record { far = rw (part-at w k j) (omega (arith, least-at w (j + k))); low = part-below w k j 0xED low }
+
 -- a window of a block, read from the block and what is left of it from 1, 2 and 3 on
 module _ (w : List ℕ) (j : ℕ) (f : Bool) where
   pub read-four : f ≡ faulty (getD w j 0) (getD (part w 1 (length w)) j 0) (getD (part w 2 (length w)) j 0) (getD (part w 3 (length w)) j 0) → not f ≡ calm (drop j w)
@@ -112,6 +140,9 @@ module _ (w : List ℕ) (j : ℕ) (f : Bool) where
 
   pub read-three : largest w < 0xF0 → f ≡ faulty 0 (getD (part w 1 (length w)) j 0) (getD (part w 2 (length w)) j 0) (getD (part w 3 (length w)) j 0) → not f ≡ calm (drop j w)
   read-three h e = read-four (e ∙ no-third (getD w j 0) _ _ _ (omega (arith, largest-at w j)))
+
+  pub read-plain : largest w < 0xED → f ≡ faulty 0 (getD (part w 1 (length w)) j 0) (getD (part w 2 (length w)) j 0) (getD (part w 3 (length w)) j 0) → not f ≡ calm (drop j w)
+  read-plain h e = read-three (omega arith) e
 
   pub read-two : largest w < 0xE0 → f ≡ faulty 0 0 (getD (part w 2 (length w)) j 0) (getD (part w 3 (length w)) j 0) → not f ≡ calm (drop j w)
   read-two h e = read-three (omega arith) (e ∙ no-second (getD (part w 1 (length w)) j 0) _ _ (part-below w 1 j 0xE0 h))

@@ -1,9 +1,12 @@
 // Whether a text is well-formed UTF-8, judged in blocks: each byte by itself and the three before it.
 mod blocks;
+mod extremes;
+mod faults;
 
 use blocks::block_formed;
-use blocks::faulty;
-use blocks::largest;
+use blocks::calm_four;
+use extremes::largest;
+use faults::faulty;
 ghost use mathlib.Core.Path.{_≡_};
 ghost use Prim.Native.Nat.{_+_, _-_, _≤_, _<_};
 ghost use lib.ListN.{length};
@@ -14,7 +17,14 @@ ghost use Rattle.validity.specs.Windows.{ascii, paddedAt, calmAt, calmFr
 pub fn is_ascii(s: &[u8]) -> bool
     ensures { λ r. ⌜ r ≡ ascii (now (s .entry)) ⌝ }
 {
-    largest(s) < 0x80
+    let mut i = 0;
+    while 1024 <= s.len() - i {
+        if 0x80 <= largest(&s[i..i + 1024]) {
+            return false;
+        }
+        i += 1024;
+    }
+    largest(&s[i..]) < 0x80
 }
 
 // The byte at `k` of the text after three bytes 0; past its end is 0 too.
@@ -59,15 +69,18 @@ fn calm_between(s: &[u8], from: usize, to: usize) -> bool
     true
 }
 
-// Where the block from `i` on ends: 128 bytes further, or with the text.
-fn block_end(i: usize, len: usize) -> usize
-    requires { ⌜ i < len ⌝ }
-    ensures { λ r. ⌜ (i < r) × (r ≤ len) ⌝ }
+// The same at each place from `i` on: the bytes that are left as one block, then the end.
+fn calm_rest(s: &[u8], i: usize) -> bool
+    requires { ⌜ (3 ≤ i) × (i ≤ length (now s) + 3) ⌝ }
+    ensures { λ r. ⌜ r ≡ calmFrom (now (s .entry)) i (length (now (s .entry)) + 3 - i) ⌝ }
 {
-    if 128 < len - i {
-        return i + 128;
+    if s.len() <= i {
+        return calm_between(s, i, s.len() + 3);
     }
-    len
+    if !calm_four(&s[i - 3..]) {
+        return false;
+    }
+    calm_between(s, s.len(), s.len() + 3)
 }
 
 // Whether the text is well-formed UTF-8 (Table 3-7).
@@ -81,12 +94,11 @@ pub fn well_formed(s: &[u8]) -> bool
         return false;
     }
     let mut i = 3;
-    while i < s.len() {
-        let end = block_end(i, s.len());
-        if !block_formed(&s[i - 3..end]) {
+    while i + 128 <= s.len() {
+        if !block_formed(&s[i - 3..i + 128]) {
             return false;
         }
-        i = end;
+        i += 128;
     }
-    calm_between(s, i, s.len() + 3)
+    calm_rest(s, i)
 }

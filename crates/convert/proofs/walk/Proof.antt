@@ -1,7 +1,7 @@
--- Each turn walks one more alignment; the walk is left at the first that ends past the target, or behind the last.
+-- Each turn walks a block of alignments; the walk is left at the first that ends past the target, or behind the last.
 use Prim.Native.Nat.{_-_}
 use lib.ListN.{length}
-use Rattle.convert.proofs.Walking.{Walk, none-walked, one-walked, walk-left, walk-done}
+use Rattle.convert.proofs.Walking.{Walk, none-walked, block-walked, walk-left, walk-done}
 use native.Mathlib.Omega.{arith}
 use Rattle.convert.proofs.walk.Statement.{statement}
 use Rattle.convert.proofs.walk.Tie as tie
@@ -24,8 +24,11 @@ shared-slice-read-if1 c = omega arith
 cast-if1 : tie.Need-cast-if1 Inv-loop μ-loop
 cast-if1 c = omega (arith, c .shared-slice-known3 .given (c .before .before .loop .i))
 
-cast-t11 : tie.Need-cast-t11 Inv-loop μ-loop
-cast-t11 c = omega arith
+block-last-requires : tie.Need-block-last-requires Inv-loop μ-loop
+block-last-requires c κs = (c .before .before .before .before .before .before .pre, omega arith, omega arith)
+
+cast-t12 : tie.Need-cast-t12 Inv-loop μ-loop
+cast-t12 c = omega arith
 
 mul-step : tie.Need-mul-step Inv-loop μ-loop
 mul-step c = omega arith
@@ -49,15 +52,13 @@ loop-less : tie.Need-loop-less Inv-loop μ-loop
 loop-less c = omega arith
 
 loop-again : tie.Need-loop-again Inv-loop μ-loop
-loop-again c =
-    one-walked _ _ _ _ _ _ _ (c .before .before .before .before .before .before .before .before .before .pre) (c .before .before .before .before .before .before .loop .inv) (c .before .before .before .before .before .loop-test .taken) (omega arith) (c .step .ensures)
+loop-again c = block-walked _ _ _ _ _ _ (c .before .before .before .before .before .before .before .before .before .before .pre) (c .before .before .before .before .before .before .before .loop .inv) _ _ (c .before .before .before .block-last .ensures) (c .step .ensures)
 
 returns : tie.Need-returns Inv-loop μ-loop
 returns c = walk-done _ _ _ _ _ _ (c .before .before .before .before .pre) (c .before .loop .inv) (c .loop-test .left)
 
 returns-2 : tie.Need-returns-2 Inv-loop μ-loop
-returns-2 c =
-    walk-left _ _ _ _ _ _ (c .before .before .before .before .before .before .pre) (c .before .before .before .loop .inv) (c .before .before .loop-test .taken) (omega arith)
+returns-2 c = walk-left _ _ _ _ _ _ (c .before .before .before .before .before .before .pre) (c .before .before .before .loop .inv) (c .before .before .loop-test .taken) (omega arith)
 
 pub walk-spec : {M : Type 1} → statement M
 walk-spec =
@@ -69,7 +70,8 @@ walk-spec =
     mul-if1
     shared-slice-read-if1
     cast-if1
-    cast-t11
+    block-last-requires
+    cast-t12
     mul-step
     shared-slice-read-step
     mul-step-2

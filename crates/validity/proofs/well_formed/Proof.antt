@@ -30,8 +30,11 @@ returns-2 c = sym (stretch-fault _ 3 (omega arith) (sym (c .before .calm-between
 loop-holds : tie.Need-loop-holds Inv-loop μ-loop
 loop-holds c = record { least = omega arith; most = omega arith; calm-so-far = sym (c .before .calm-between .ensures) ∙ not-false _ (c .if2 .left) }
 
-block-end-requires : tie.Need-block-end-requires Inv-loop μ-loop
-block-end-requires c κs = omega arith
+add-loop : tie.Need-add-loop Inv-loop μ-loop
+add-loop c = omega arith
+
+add-block-formed : tie.Need-add-block-formed Inv-loop μ-loop
+add-block-formed c = omega arith
 
 sub-block-formed : tie.Need-sub-block-formed Inv-loop μ-loop
 sub-block-formed c = omega arith
@@ -49,22 +52,22 @@ block-formed-requires : tie.Need-block-formed-requires Inv-loop μ-loop
 block-formed-requires c κs = simp (length-take, length-drop) (omega arith)
 
 returns-3 : tie.Need-returns-3 Inv-loop μ-loop
-returns-3 c = sym (blocks-fault _ _ _ _ (c .before .before .before .before .before .loop .inv) (c .before .before .before .block-end .ensures) (c .before .block-formed .ensures) (not-true _ (c .if3 .taken)))
+returns-3 c = sym (blocks-fault _ (c .before .before .before .before .loop .i) (c .before .before .before .before .loop .i + 128) _ (c .before .before .before .before .loop .inv) (omega arith, c .before .before .before .loop-test .taken) (c .before .block-formed .ensures) (not-true _ (c .if3 .taken)))
+
+add-i : tie.Need-add-i Inv-loop μ-loop
+add-i c = omega arith
 
 loop-less : tie.Need-loop-less Inv-loop μ-loop
 loop-less c = omega arith
 
 loop-again : tie.Need-loop-again Inv-loop μ-loop
-loop-again c = blocks-more _ _ _ _ (c .before .before .before .before .before .loop .inv) (c .before .before .before .block-end .ensures) (c .before .block-formed .ensures) (not-false _ (c .if3 .left))
+loop-again c = blocks-more _ (c .before .before .before .before .loop .i) (c .before .before .before .before .loop .i + 128) _ (c .before .before .before .before .loop .inv) (omega arith, c .before .before .before .loop-test .taken) (c .before .block-formed .ensures) (not-false _ (c .if3 .left))
 
-add-calm-between : tie.Need-add-calm-between Inv-loop μ-loop
-add-calm-between c = omega arith
-
-calm-between-requires-2 : tie.Need-calm-between-requires-2 Inv-loop μ-loop
-calm-between-requires-2 c κs = (omega arith, omega arith)
+calm-rest-requires : tie.Need-calm-rest-requires Inv-loop μ-loop
+calm-rest-requires c κs = (omega arith, omega arith)
 
 returns-4 : tie.Need-returns-4 Inv-loop μ-loop
-returns-4 c = stretch-rest _ _ _ (omega arith) (c .before .before .loop .inv .calm-so-far) (c .calm-between2 .ensures)
+returns-4 c = stretch-rest _ _ _ (omega arith) (c .before .before .loop .inv .calm-so-far) (c .calm-rest .ensures)
 
 pub well-formed-spec : {M : Type 1} → statement M
 well-formed-spec =
@@ -77,15 +80,16 @@ well-formed-spec =
     calm-between-requires
     returns-2
     loop-holds
-    block-end-requires
+    add-loop
     sub-block-formed
+    add-block-formed
     sub-block-formed-2
     part-block-formed-start
     part-block-formed-end
     block-formed-requires
     returns-3
+    add-i
     loop-less
     loop-again
-    add-calm-between
-    calm-between-requires-2
+    calm-rest-requires
     returns-4)

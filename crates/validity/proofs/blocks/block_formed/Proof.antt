@@ -41,17 +41,26 @@ calm-two-requires c κs = (omega arith, omega (arith, whole (c .before .before))
 returns-2 : tie.Need-returns-2
 returns-2 c = search needs
 
-calm-three-requires : tie.Need-calm-three-requires
-calm-three-requires c κs = (omega arith, omega (arith, whole (c .before .before .before)))
+least-lead-requires : tie.Need-least-lead-requires
+least-lead-requires c κs = search needs
+
+calm-plain-requires : tie.Need-calm-plain-requires
+calm-plain-requires c κs = (omega arith, omega (arith, whole (c .before .before .before .before .before)), omega arith)
 
 returns-3 : tie.Need-returns-3
 returns-3 c = search needs
 
-calm-four-requires : tie.Need-calm-four-requires
-calm-four-requires c κs = search needs
+calm-three-requires : tie.Need-calm-three-requires
+calm-three-requires c κs = (omega arith, omega (arith, whole (c .before .before .before .before)))
 
 returns-4 : tie.Need-returns-4
 returns-4 c = search needs
+
+calm-four-requires : tie.Need-calm-four-requires
+calm-four-requires c κs = search needs
+
+returns-5 : tie.Need-returns-5
+returns-5 c = search needs
 
 pub block-formed-spec : {M : Type 1} → statement M
 block-formed-spec =
@@ -67,7 +76,10 @@ block-formed-spec =
     returns
     calm-two-requires
     returns-2
-    calm-three-requires
+    least-lead-requires
+    calm-plain-requires
     returns-3
+    calm-three-requires
+    returns-4
     calm-four-requires
-    returns-4)
+    returns-5)

@@ -2,8 +2,8 @@
 use mathlib.Core.Bool.{xor}
 use Rattle.utf8.specs.Table.{within}
 use Rattle.validity.proofs.Tiers.{faulty-three}
-use Rattle.validity.proofs.blocks.faulty_three.Statement.{statement}
-use Rattle.validity.proofs.blocks.faulty_three.Tie as tie
+use Rattle.validity.proofs.faults.faulty_three.Statement.{statement}
+use Rattle.validity.proofs.faults.faulty_three.Tie as tie
 
 returns : tie.Need-returns
 unfolding within xor

@@ -5,8 +5,8 @@ use lib.ListN.{length, drop}
 use Rattle.validity.specs.Windows.{largest}
 use Rattle.validity.proofs.Ascii.{largest-more, largest-done}
 use native.Mathlib.Omega.{arith}
-use Rattle.validity.proofs.blocks.largest.Statement.{statement}
-use Rattle.validity.proofs.blocks.largest.Tie as tie
+use Rattle.validity.proofs.extremes.largest.Statement.{statement}
+use Rattle.validity.proofs.extremes.largest.Tie as tie
 
 abbrev Inv-loop : tie.InvT-loop
 Inv-loop s most₀ i₀ most i = (i ≤ length s) × (max most (largest (drop i s)) ≡ largest s)

@@ -2,8 +2,8 @@
 use mathlib.Core.Bool.{xor}
 use Rattle.utf8.specs.Table.{within}
 use Rattle.validity.proofs.Tiers.{faulty-two}
-use Rattle.validity.proofs.blocks.faulty_two.Statement.{statement}
-use Rattle.validity.proofs.blocks.faulty_two.Tie as tie
+use Rattle.validity.proofs.faults.faulty_two.Statement.{statement}
+use Rattle.validity.proofs.faults.faulty_two.Tie as tie
 
 returns : tie.Need-returns
 unfolding within xor

@@ -3,8 +3,8 @@ use mathlib.Core.Bool.{xor}
 use Rattle.utf8.specs.Table.{within}
 use Rattle.validity.specs.Windows.{pending, never}
 use Rattle.validity.proofs.Tiers.{odd, faulty-four}
-use Rattle.validity.proofs.blocks.faulty.Statement.{statement}
-use Rattle.validity.proofs.blocks.faulty.Tie as tie
+use Rattle.validity.proofs.faults.faulty.Statement.{statement}
+use Rattle.validity.proofs.faults.faulty.Tie as tie
 
 returns : tie.Need-returns
 unfolding pending never odd within xor
