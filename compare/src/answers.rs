@@ -1,6 +1,8 @@
 //! The answers that crates/replay replays (`compare/run list`): what the Rust original and `core::str` answer, and, where
 //! they refuse nothing, the second check. The same in every run. `list.rs` has the layout; a new call is one function here
-//! and one in crates/replay/src/calls.rt.
+//! or in `answers/calls.rs`, and one in crates/replay.
+
+mod calls;
 
 use crate::characters::{self, sequences};
 use crate::every;
@@ -19,7 +21,8 @@ use tokenizers::NormalizedString;
 const PATH: &str = "crates/replay/data/answers";
 
 pub fn write() -> ExitCode {
-    let sections = [well_formed(), letter_counts(), starting_notes(), checked_notes()].map(Section::distinct);
+    let sections = [well_formed(), letter_counts(), starting_notes(), checked_notes()].into_iter().chain(calls::sections());
+    let sections: Vec<Section> = sections.map(Section::distinct).collect();
     let list = list::of_sections(&sections);
     std::fs::write(PATH, &list).unwrap_or_else(|error| panic!("{PATH}: {error}"));
     for section in &sections {
@@ -96,7 +99,7 @@ fn well_formed() -> Section {
     let bytes = (0..=255).map(|byte| vec![byte]);
     let texts = worked().into_iter().chain(around_the_limit()).chain(bytes).chain(edges_of_rows()).chain(in_blocks());
     for text in texts {
-        section.answer().text(&text).refusal(from_utf8(&text).is_ok().into());
+        section.answer().text(&text).byte(from_utf8(&text).is_ok().into());
     }
     section
 }
@@ -105,7 +108,7 @@ fn well_formed() -> Section {
 fn letter_count(section: &mut Section, text: &[u8], start: usize, end: usize) {
     let (start, end) = (start as u32, end as u32);
     let count = characters::expected_count(text, start, end);
-    section.answer().text(text).number(start).number(end).refusal(count.refusal).number(count.count);
+    section.answer().text(text).number(start).number(end).byte(count.refusal).number(count.count);
 }
 
 fn letter_counts() -> Section {
@@ -136,7 +139,7 @@ fn letter_counts() -> Section {
 
 fn letter_counts_anywhere(section: &mut Section) {
     let mut random = Random::new(11);
-    for turn in 0..20 {
+    for turn in 0..12 {
         let len = 1 + random.below(30);
         let text = texts::text(KINDS[turn % KINDS.len()], len, &mut random);
         let (one, other) = (texts::any_boundary(&text, &mut random), texts::any_boundary(&text, &mut random));
@@ -157,7 +160,7 @@ fn starting_note(section: &mut Section, text: &[u8], room: (usize, usize)) {
         Ok(note) => (0, note.starts, note.ends),
     };
     section.answer().text(text).number(room.0 as u32).number(room.1 as u32);
-    section.refusal(refusal).column(&starts).column(&ends);
+    section.byte(refusal).column(&starts).column(&ends);
 }
 
 fn starting_notes() -> Section {
@@ -187,8 +190,7 @@ fn starting_notes() -> Section {
 
 /// A note: transcript, cleaned text, starts, ends, shift; the refusal.
 fn checked_note(section: &mut Section, note: &Note) {
-    section.answer().text(&note.original).text(&note.normalized).column(&note.starts).column(&note.ends);
-    section.number(note.original_shift).refusal(note.refusal());
+    section.answer().note(note).byte(note.refusal());
 }
 
 fn checked_notes() -> Section {
@@ -197,7 +199,7 @@ fn checked_notes() -> Section {
         checked_note(&mut section, &note);
     }
     let mut random = Random::new(12);
-    for _ in 0..30 {
+    for _ in 0..10 {
         let len = random.below(12);
         checked_note(&mut section, &Note::from(&samples::edited(len, &mut random)));
     }

@@ -1,14 +1,16 @@
 //! What can still be told about the text under a matched place: document 01's claim about two calls of `replace`, both
 //! ways, on pairs of notes.
 
-use crate::library;
+use crate::library::{self, Count};
 use crate::note::Note;
 use crate::places::{self, Place};
 use crate::random::Random;
-use crate::replace::{sound_notes, FILLERS};
+use crate::notes::FAULTS;
+use crate::replace::{self, sound_notes, FILLERS};
 use crate::samples;
 use crate::tally::Tally;
 use crate::texts;
+use tokenizers::NormalizedString;
 
 /// The result's cleaned text and alignments.
 type Published = (Vec<u8>, Vec<u16>, Vec<u16>);
@@ -35,13 +37,51 @@ fn agree(one: &Note, other: &Note, places: &[Place], filler: &str) -> bool {
     outsides && (filler.is_empty() || matched().all(|(_, end)| end == 0 || one_alignment(end - 1)))
 }
 
+/// Equal results of `replace`, the claim, and our call that answers for both.
 fn pair(tally: &mut Tally, notes: [&Note; 2], results: [&Published; 2], places: &[Place], filler: &str) {
+    let [one, other] = notes;
     let alike = results[0] == results[1];
-    let claimed = agree(notes[0], notes[1], places, filler);
-    tally.case(if alike { "alike" } else { "told apart" }, alike != claimed, || {
-        let [one, other] = notes;
-        format!("alike {alike}, by the claim {claimed}, places {places:?}, filler {filler:?}, {one}; {other}")
+    let claimed = agree(one, other, places, filler);
+    let called = library::published_alike(one, other, &places::bytes(places), filler.as_bytes());
+    let differs = alike != claimed || called != Count { refusal: 0, count: alike.into() };
+    tally.case(if alike { "alike" } else { "told apart" }, differs, || {
+        format!("alike {alike}, claimed {claimed}, {called:?}, places {places:?}, filler {filler:?}, {one}; {other}")
     });
+}
+
+/// What `published_alike` answers: a refusal of replacing the first note, or else the second, or whether the Rust
+/// original makes the same of both.
+pub fn expected_alike(one: &Note, other: &Note, list: &[u8], filler: &[u8]) -> Count {
+    let results = [one, other].map(|note| replace::expected(note, list, filler));
+    match results {
+        [Err(refusal), _] | [Ok(_), Err(refusal)] => Count { refusal, count: 0 },
+        [Ok(one), Ok(other)] => {
+            let published = |note: Note| (note.normalized, note.starts, note.ends);
+            Count { refusal: 0, count: (published(one) == published(other)).into() }
+        }
+    }
+}
+
+/// Each fault of either note beside each of the other, lists that cover the text or do not, fillers torn or not.
+pub fn refused_notes(tally: &mut Tally) {
+    tally.family("every two notes out of ten, sound or with a fault, three lists, three fillers");
+    let fresh = Note::from(&NormalizedString::from("aéb"));
+    let mut notes = vec![fresh; 1 + FAULTS.len()];
+    for (note, fault) in notes[1..].iter_mut().zip(FAULTS) {
+        fault(note);
+    }
+    let lists = [vec![((0, 1), false), ((1, 4), true)], vec![((0, 4), true)], vec![((0, 2), true), ((2, 4), false)]];
+    for (one, other) in notes.iter().flat_map(|one| notes.iter().map(move |other| (one, other))) {
+        for list in lists.iter().map(|places| places::bytes(places)) {
+            for filler in [&b"x"[..], b"", b"\xFF"] {
+                let (ours, wanted) =
+                    (library::published_alike(one, other, &list, filler), expected_alike(one, other, &list, filler));
+                tally.case(crate::tally::refusal(ours.refusal), ours != wanted, || {
+                    format!("ours {ours:?}, wanted {wanted:?}, list {list:?}, filler {filler:?}, {one}; {other}")
+                });
+            }
+        }
+    }
 }
 
 pub fn every_two_notes(tally: &mut Tally) {

@@ -25,7 +25,7 @@ type Bytes = std::ops::Range<usize>;
 type Found<'a> = Option<(Bytes, Option<&'a str>)>;
 
 /// A call on a note and a range.
-struct Call {
+pub struct Call {
     name: &'static str,
     beside: &'static str,
     ours: RangeCall,
@@ -34,7 +34,7 @@ struct Call {
     reads: fn(&Note) -> &[u8],
 }
 
-const CONVERT_OFFSETS: Call = Call {
+pub const CONVERT_OFFSETS: Call = Call {
     name: "zulmyren_convert_offsets",
     beside: "NormalizedString::convert_offsets",
     ours: library::zulmyren_convert_offsets,
@@ -42,7 +42,7 @@ const CONVERT_OFFSETS: Call = Call {
     reads: |_| &[],
 };
 
-const GET_RANGE: Call = Call {
+pub const GET_RANGE: Call = Call {
     name: "zulmyren_get_range",
     beside: "NormalizedString::get_range",
     ours: library::zulmyren_get_range,
@@ -50,7 +50,7 @@ const GET_RANGE: Call = Call {
     reads: |note| &note.normalized,
 };
 
-const GET_RANGE_ORIGINAL: Call = Call {
+pub const GET_RANGE_ORIGINAL: Call = Call {
     name: "zulmyren_get_range_original",
     beside: "NormalizedString::get_range_original",
     ours: library::zulmyren_get_range_original,
@@ -94,8 +94,8 @@ pub fn compare(report: &mut Report) {
 }
 
 /// A note as the library is lent it and as the Rust original holds it, or the refusal that the second check gives it.
-struct Sample {
-    lent: Note,
+pub struct Sample {
+    pub lent: Note,
     theirs: Result<NormalizedString, u32>,
 }
 
@@ -130,12 +130,12 @@ impl Sample {
         }
     }
 
-    fn refusal(&self) -> u32 {
+    pub fn refusal(&self) -> u32 {
         self.theirs.as_ref().err().copied().unwrap_or(0)
     }
 
     /// Our answer as it has to be, and the part that the Rust original hands out.
-    fn expected(&self, call: &Call, of_original: bool, start: u32, end: u32) -> (Offsets, Option<&str>) {
+    pub fn expected(&self, call: &Call, of_original: bool, start: u32, end: u32) -> (Offsets, Option<&str>) {
         let range = start as usize..end as usize;
         match &self.theirs {
             Err(refusal) => (Offsets::refused(*refusal), None),
@@ -404,7 +404,7 @@ fn nothing_anywhere(tally: &mut Tally, call: &Call) {
     }
 }
 
-fn expected_part(original: &[u8], normalized: &[u8], of_original: bool, start: u32, end: u32) -> u32 {
+pub fn expected_part(original: &[u8], normalized: &[u8], of_original: bool, start: u32, end: u32) -> u32 {
     if original.len().max(normalized.len()) > LIMIT {
         return 2;
     }

@@ -53,6 +53,30 @@ extern "C" {
         out_ends: *mut u16,
         out_ends_len: usize,
     ) -> Count;
+    pub fn zulmyren_published_alike(
+        original: *const u8,
+        original_len: usize,
+        normalized: *const u8,
+        normalized_len: usize,
+        starts: *const u16,
+        starts_len: usize,
+        ends: *const u16,
+        ends_len: usize,
+        original_shift: u32,
+        other_original: *const u8,
+        other_original_len: usize,
+        other: *const u8,
+        other_len: usize,
+        other_starts: *const u16,
+        other_starts_len: usize,
+        other_ends: *const u16,
+        other_ends_len: usize,
+        other_shift: u32,
+        list: *const u8,
+        list_len: usize,
+        filler: *const u8,
+        filler_len: usize,
+    ) -> Count;
     pub fn zulmyren_find_matches(
         text: *const u8,
         text_len: usize,
@@ -347,6 +371,36 @@ pub fn replace(
             out_starts.len(),
             out_ends.as_mut_ptr(),
             out_ends.len(),
+        )
+    }
+}
+
+/// The count is 1 where what is published of both notes is alike.
+pub fn published_alike(one: &Note, other: &Note, list: &[u8], filler: &[u8]) -> Count {
+    unsafe {
+        zulmyren_published_alike(
+            one.original.as_ptr(),
+            one.original.len(),
+            one.normalized.as_ptr(),
+            one.normalized.len(),
+            one.starts.as_ptr(),
+            one.starts.len(),
+            one.ends.as_ptr(),
+            one.ends.len(),
+            one.original_shift,
+            other.original.as_ptr(),
+            other.original.len(),
+            other.normalized.as_ptr(),
+            other.normalized.len(),
+            other.starts.as_ptr(),
+            other.starts.len(),
+            other.ends.as_ptr(),
+            other.ends.len(),
+            other.original_shift,
+            list.as_ptr(),
+            list.len(),
+            filler.as_ptr(),
+            filler.len(),
         )
     }
 }

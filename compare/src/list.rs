@@ -4,10 +4,12 @@
 //! - section: number of the call (1), length of its name (1), the name, number of answers (2), the answers
 //! - answer: the call's operands, then what the Rust answers, as `answers.rs` writes them
 //! - number: 4 bytes; a refusal's number is 1 byte, 0 where the call accepts
+//! - numbers: how many (1), the numbers
 //! - text: number of parts (1); a part: times (2), length of its unit (1), the unit. The unit stands there that many times
 //! - column: number of parts (1); a part: times (2), length of its unit (1), step (2), the unit, 2 bytes each. Each time
 //!   after the first, its numbers are those of the time before plus the step, modulo 65,536
 
+use crate::note::Note;
 use std::collections::HashSet;
 use std::fmt;
 
@@ -25,6 +27,10 @@ pub struct Section {
 impl Section {
     pub fn new(call: u8, name: &'static str) -> Self {
         Section { call, name, answers: vec![] }
+    }
+
+    pub fn call(&self) -> u8 {
+        self.call
     }
 
     /// Begins an answer, whose operands and expected answer follow.
@@ -49,7 +55,22 @@ impl Section {
         self
     }
 
-    pub fn refusal(&mut self, number: u32) -> &mut Self {
+    pub fn numbers(&mut self, numbers: &[u32]) -> &mut Self {
+        self.byte(numbers.len() as u32);
+        for &number in numbers {
+            self.number(number);
+        }
+        self
+    }
+
+    /// A number of 2 bytes.
+    pub fn short(&mut self, number: usize) -> &mut Self {
+        self.put(u16::try_from(number).expect("a number of two bytes").to_le_bytes());
+        self
+    }
+
+    /// A refusal, or another number of one byte.
+    pub fn byte(&mut self, number: u32) -> &mut Self {
         self.put([narrow(number as usize)]);
         self
     }
@@ -76,6 +97,14 @@ impl Section {
             self.put(part.unit.iter().flat_map(|number| number.to_le_bytes()));
         }
         self
+    }
+}
+
+impl Section {
+    /// Transcript, cleaned text, starts, ends, shift.
+    pub fn note(&mut self, note: &Note) -> &mut Self {
+        self.text(&note.original).text(&note.normalized).column(&note.starts).column(&note.ends);
+        self.number(note.original_shift)
     }
 }
 

@@ -38,7 +38,7 @@ impl List {
     }
 
     /// The refusal of a call that is lent this list, and beside it something that gives `lent` by itself.
-    fn refusal(&self, lent: u32) -> u32 {
+    pub fn refusal(&self, lent: u32) -> u32 {
         let shortest = self.rooms.into_iter().min().expect("three rooms");
         match lent {
             2 | 3 => lent,
@@ -48,7 +48,7 @@ impl List {
         }
     }
 
-    fn pairs(&self) -> impl Iterator<Item = (u32, u32)> + '_ {
+    pub fn pairs(&self) -> impl Iterator<Item = (u32, u32)> + '_ {
         self.from.iter().copied().zip(self.to.iter().copied())
     }
 }

@@ -33,8 +33,8 @@ pub fn compare(report: &mut Report) {
 }
 
 /// A text, and the Rust original's map of it, or the refusal that document 01 gives it.
-struct Sample {
-    text: Vec<u8>,
+pub struct Sample {
+    pub text: Vec<u8>,
     theirs: Result<Converter, u32>,
 }
 
@@ -50,11 +50,11 @@ impl From<Vec<u8>> for Sample {
 }
 
 impl Sample {
-    fn refusal(&self) -> u32 {
+    pub fn refusal(&self) -> u32 {
         self.theirs.as_ref().err().copied().unwrap_or(0)
     }
 
-    fn expected(&self, start: u32, end: u32) -> Offsets {
+    pub fn expected(&self, start: u32, end: u32) -> Offsets {
         match &self.theirs {
             Err(refusal) => Offsets::refused(*refusal),
             Ok(map) => Offsets::of(map.convert((start as usize, end as usize))),

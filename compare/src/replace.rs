@@ -32,10 +32,11 @@ pub fn compare(report: &mut Report) {
         damaged_notes(tally);
         nothing_anywhere(tally);
     });
-    report.call("two calls of zulmyren_replace", "document 01's claim about them", |tally| {
+    report.call("two calls of zulmyren_replace, zulmyren_published_alike", "document 01's claim about them", |tally| {
         blanking::every_two_notes(tally);
         blanking::any_two_notes(tally);
     });
+    report.call("zulmyren_published_alike", "two calls of NormalizedString::replace", blanking::refused_notes);
 }
 
 pub const FILLERS: [&str; 5] = ["", "x", "é", "**", "日x"];

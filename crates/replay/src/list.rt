@@ -135,3 +135,23 @@ pub fn column(list: &[u8], at: usize, dst: &mut [u16]) -> Operand
     }
     done
 }
+
+// Numbers of 4 bytes each, put at the start of the buffer.
+pub fn longs(list: &[u8], at: usize, dst: &mut [u32]) -> Operand
+    ensures { λ r. ⌜ Counts (r .len) (now (dst .exit)) ⌝ }
+{
+    let count = byte(list, at) as usize;
+    if dst.len() < count {
+        return Operand { len: 0, at: PAST };
+    }
+    let from = after(list, at, 1);
+    let mut i = 0;
+    while i < count {
+        dst[i] = long(list, after(list, from, i * 4));
+        i += 1;
+    }
+    Operand {
+        len: count,
+        at: after(list, from, count * 4),
+    }
+}

@@ -9,13 +9,20 @@
 //   section   number of the call (1), length of its name (1), the name, number of answers (2), the answers
 //   answer    the call's operands, then what the Rust answers; calls.rt has the calls and the order of each
 //   number    4 bytes; a refusal's number is 1 byte, 0 where the call accepts
+//   numbers   how many (1), the numbers
 //   text      number of parts (1); a part: times (2), length of its unit (1), the unit. The unit stands there that many times
 //   column    number of parts (1); a part: times (2), length of its unit (1), step (2), the unit, 2 bytes each.
 //             Each time after the first, its numbers are those of the time before plus the step, modulo 65,536
 mod calls;
+mod characters;
 mod lent;
 mod list;
+mod lists;
+mod notes;
+mod ranges;
+mod replacing;
 mod report;
+mod starting;
 
 use libc::STDOUT_FILENO;
 use list::PAST;

@@ -1,10 +1,10 @@
--- `lent::fill` is safe and ends. The measure is what is left of the column.
+-- `lent::fill16` is safe and ends. The measure is what is left of the column.
 use Prim.Native.Nat.{_-_, _≤_}
 use mathlib.Core.Path.{_≡_}
 use native.Mathlib.Omega.{arith}
 use lib.ListN.{length, length-set}
-use Rattle.replay.proofs.lent.fill.Statement.{statement}
-use Rattle.replay.proofs.lent.fill.Tie as tie
+use Rattle.replay.proofs.lent.fill16.Statement.{statement}
+use Rattle.replay.proofs.lent.fill16.Tie as tie
 
 abbrev Inv-loop : tie.InvT-loop
 Inv-loop lent₀ i₀ lent i = (i ≤ length lent) × (length lent ≡ length lent₀)
@@ -39,8 +39,8 @@ same-length c = omega arith
 returns : tie.Need-returns Inv-loop μ-loop
 returns c = tt
 
-pub fill-spec : {M : Type 1} → statement M
-fill-spec =
+pub fill16-spec : {M : Type 1} → statement M
+fill16-spec =
     tie.close
     (tie.spec
     Inv-loop

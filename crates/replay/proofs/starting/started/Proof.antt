@@ -1,10 +1,10 @@
--- `calls::started` is safe: the first of a column are as many as was tested.
+-- `starting::started` is safe: the first of a column are as many as was tested.
 use native.Mathlib.Omega.{arith}
 use lib.ListN.{take}
 use lib.ListN.{length-take}
 use borrow.Author.Needs.{needs}
-use Rattle.replay.proofs.calls.started.Statement.{statement}
-use Rattle.replay.proofs.calls.started.Tie as tie
+use Rattle.replay.proofs.starting.started.Statement.{statement}
+use Rattle.replay.proofs.starting.started.Tie as tie
 
 returns : tie.Need-returns
 returns c = search needs
