@@ -14,7 +14,8 @@ use Rattle.note.specs.declared.Verdict.{Verdict}
 use Rattle.note.specs.declared.Verdict.the-variants.{Accepted, Refused}
 use Rattle.note.specs.Refusals.{numberOf, verdict, left}
 use Rattle.note.specs.Notes.{Note, fits, paired, textsFormed, aligned, noteFaults}
-use Rattle.note.proofs.Columns.{Filled, none-filled, filled-up, all-filled}
+use Rattle.note.specs.Filling.{Filled}
+use Rattle.note.proofs.Filling.{none-filled, filled-up, all-filled}
 use Rattle.convert.specs.declared.Range.{Range}
 use Rattle.convert.specs.declared.Converted.{Converted}
 use Rattle.convert.specs.Converting.{inOriginal, inNormalized, converted, convertOffsets}

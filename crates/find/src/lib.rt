@@ -7,9 +7,11 @@ use note::Refusal;
 use search::next_match;
 use validity::well_formed;
 ghost use mathlib.Core.Path.{_≡_};
+ghost use mathlib.Core.Bool.{true};
 ghost use Prim.Native.Nat.{_+_, _≤_};
 ghost use lib.ListN.{length};
 ghost use Rattle.runs.specs.Splice.{overlay, splice};
+ghost use Rattle.utf8.specs.Formed.{wellFormed};
 ghost use Rattle.note.specs.Notes.{limit};
 ghost use Rattle.find.specs.Encoding.{encodedPlaces, placeBytes};
 ghost use Rattle.find.specs.Matching.{Finding, between, foundBytes};
@@ -103,6 +105,22 @@ fn write_list(text: &[u8], literal: &[u8], out: &mut [u8])
     write_between(at, start, out, i);
 }
 
+// `find_matches` for proved callers that have judged the text.
+pub fn find_formed(text: &[u8], literal: &[u8], out: &mut [u8]) -> Matches
+    requires { ⌜ (length (now text) ≤ limit) × (wellFormed (now text) ≡ true) ⌝ }
+    ensures { λ r. ⌜ Finding (now (text .entry)) (now (literal .entry)) (now (out .entry)) r (now (out .exit)) ⌝ }
+{
+    if !well_formed(literal) {
+        return Matches::Refused(Refusal::IllFormed);
+    }
+    let size = measure(text, literal);
+    if out.len() < size {
+        return Matches::Refused(Refusal::NoRoom);
+    }
+    write_list(text, literal, out);
+    Matches::Written(size)
+}
+
 // The literal's matches in the text, and what stands between them, as a match list in `out`. Refusals, in this order: 2, 1, 9.
 pub fn find_matches(text: &[u8], literal: &[u8], out: &mut [u8]) -> Matches
     ensures { λ r. ⌜ Finding (now (text .entry)) (now (literal .entry)) (now (out .entry)) r (now (out .exit)) ⌝ }
@@ -113,13 +131,5 @@ pub fn find_matches(text: &[u8], literal: &[u8], out: &mut [u8]) -> Matches
     if !well_formed(text) {
         return Matches::Refused(Refusal::IllFormed);
     }
-    if !well_formed(literal) {
-        return Matches::Refused(Refusal::IllFormed);
-    }
-    let size = measure(text, literal);
-    if out.len() < size {
-        return Matches::Refused(Refusal::NoRoom);
-    }
-    write_list(text, literal, out);
-    Matches::Written(size)
+    find_formed(text, literal, out)
 }

@@ -5,11 +5,11 @@ use mathlib.Core.Bool.{true, false}
 use mathlib.Core.List.{List}
 use native.Mathlib.Omega.{arith}
 use lib.ListN.{length, getD, set}
-use Rattle.runs.specs.Splice.{overlay}
 use Rattle.utf8.specs.Formed.{wellFormed, continues}
-use Rattle.note.specs.Starting.{charStart, charEnd, starting}
+use Rattle.note.specs.Starting.{charStart, charEnd}
 use Rattle.note.specs.StartingSound.{Ranged, ranged, charStart-continues, charEnd-continues, charEnd-begins}
-use Rattle.note.proofs.Columns.{Filled, none-filled, filled-up, filled-down, all-filled}
+use Rattle.note.specs.Filling.{Filled}
+use Rattle.note.proofs.Filling.{none-filled, filled-up, filled-down}
 
 -- the starts of the first i bytes stand in d, and `start` is the last of them
 pub record StartsTo (s d₀ d : List ℕ) (start i : ℕ) : Type 0 where
@@ -33,12 +33,6 @@ one-start s d₀ d start i x w more room is =
       carried = rw back is;
       most = omega arith;
     }
-
-pub all-starts : (s d₀ d : List ℕ) (start i : ℕ) → StartsTo s d₀ d start i → length s ≤ i → length s ≤ length d₀ → d ≡ overlay (starting s .starts) d₀
-unfolding starting
-all-starts s d₀ d start i w done room =
-    let full : i ≡ length s = omega arith in
-    all-filled (charStart s) d₀ (length s) d (rw full at (w .filled)) room
 
 -- the ends of the bytes from i on stand in d, and `end` is the one before them
 pub record EndsFrom (s d₀ d : List ℕ) (end i : ℕ) : Type 0 where
@@ -71,7 +65,7 @@ module _ (s d₀ d : List ℕ) (end i : ℕ) (w : EndsFrom s d₀ d end i) (some
   one-end x next =
       let last : i - 1 + 1 ≡ i = omega arith in
       record {
-        filled = filled-down (charEnd s) d₀ (i - 1) (length s) d end (rw last (w .filled)) (omega arith) room (w .carried some);
+        filled = filled-down (charEnd s) d₀ (i - 1) (length s) d end (rw last (w .filled)) room (w .carried some);
         carried = next;
         most = omega arith;
       }
@@ -81,9 +75,3 @@ module _ (s d₀ d : List ℕ) (end i : ℕ) (w : EndsFrom s d₀ d end i) (some
 
   pub end-goes-on : continues (getD s (i - 1) 0) ≡ true → EndsFrom s d₀ (set d (i - 1) end) end (i - 1)
   end-goes-on more = one-end end (λ again. w .carried some ∙ end-carried s (i - 1) more again)
-
-pub all-ends : (s d₀ d : List ℕ) (end i : ℕ) → EndsFrom s d₀ d end i → i ≤ 0 → length s ≤ length d₀ → d ≡ overlay (starting s .ends) d₀
-unfolding starting
-all-ends s d₀ d end i w done room =
-    let none : i ≡ 0 = omega arith in
-    all-filled (charEnd s) d₀ (length s) d (rw none at (w .filled)) room

@@ -1,44 +1,20 @@
 -- The columns of a note that no edit has touched are those of a fresh text; and the loops that tell such a note.
 use Prim.Native.Nat.{ℕ, zero, suc, _+_, _-_, _≤_, _<_}
-use mathlib.Core.Path.{_≡_, _∙_, ap, refl, sym}
+use mathlib.Core.Path.{_≡_, _∙_, refl, sym}
 use mathlib.Core.Bool.{Bool, true, false, cond, _&&_, _||_, not}
 use mathlib.Core.List.{List}
-use borrow.Author.Tests.{eqb-true, eq-eqb}
+use borrow.Author.Tests.{eqb-true}
 use native.Mathlib.Omega.{arith}
 use lib.Dec.{eqb}
 use lib.ListN.{length, getD}
 use lib.Seq.{ext-getD}
 use Rattle.runs.specs.Every.{everyBelow}
-use Rattle.runs.proofs.Everywhere.{and-left, and-right, true-or-false, clash, every-suc, every-at, every-all}
+use Rattle.runs.proofs.Everywhere.{and-left, and-right, true-or-false, every-suc, every-at}
 use Rattle.utf8.specs.Formed.{wellFormed, continues}
 use Rattle.note.specs.Notes.{aligned}
 use Rattle.note.specs.Starting.{charStart, charEnd, column, starting}
 use Rattle.note.specs.StartingSound.{Ranged, ranged, length-column, getD-column, charEnd-continues, charEnd-begins, starting-sound}
-use Rattle.note.specs.Unedited.{Same, mirrors, mirrorsAt, mirrored}
-
--- two lists of one length, byte by byte
-module _ (a b : List ℕ) where
-  unfoldable pub alike : ℕ → Bool
-  alike i = everyBelow i (λ k. eqb (getD a k 0) (getD b k 0))
-
-  pub alike-none : true ≡ alike 0
-  unfolding alike everyBelow
-  alike-none = refl
-
-  pub alike-more : (i : ℕ) (ok : Bool) → ok ≡ alike i → (ok && eqb (getD a i 0) (getD b i 0)) ≡ alike (i + 1)
-  unfolding alike
-  alike-more i ok e = rw (every-suc i (λ k. eqb (getD a k 0) (getD b k 0)), e)
-
-  pub alike-all : (i : ℕ) (ok : Bool) → length a ≡ length b → i ≤ length a → length a ≤ i → ok ≡ alike i → Same a b ok
-  unfolding alike
-  alike-all i ok long most past e =
-      record {
-        told = λ t. ext-getD 0 a b long (λ k h. eqb-true _ _ (every-at i (λ k. eqb (getD a k 0) (getD b k 0)) (sym e ∙ t) k (omega arith)));
-        found = λ same. e ∙ every-all i _ (λ k h. eq-eqb _ _ (ap (λ l. getD l k 0) same));
-      }
-
-  pub unlike : (length a ≡ length b → ⊥) → Same a b false
-  unlike other = record { told = λ t. clash false t refl; found = λ same. absurd (other (ap length same)) }
+use Rattle.note.specs.Unedited.{mirrors, mirrorsAt, mirrored}
 
 -- one more index
 module _ (text starts ends : List ℕ) where

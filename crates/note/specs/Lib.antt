@@ -4,5 +4,6 @@ pub mod Notes
 pub mod Steady
 pub mod Unedited
 pub mod Starting
+pub mod Filling
 pub mod Counting
 pub mod StartingSound

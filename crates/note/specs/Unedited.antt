@@ -1,17 +1,11 @@
 -- When a note is the one of a fresh text: its two texts are the same, and each alignment fits the one before it and the byte.
 use Prim.Native.Nat.{ℕ, zero, suc, _-_}
-use mathlib.Core.Path.{_≡_}
-use mathlib.Core.Bool.{Bool, true, cond, _&&_}
+use mathlib.Core.Bool.{Bool, cond, _&&_}
 use mathlib.Core.List.{List}
 use lib.Dec.{eqb}
 use lib.ListN.{length, getD}
 use Rattle.runs.specs.Every.{everyBelow}
 use Rattle.utf8.specs.Formed.{continues}
-
--- r tells whether two lists are the same
-pub record Same (a b : List ℕ) (r : Bool) : Type 0 where
-  pub told : r ≡ true → a ≡ b
-  pub found : a ≡ b → r ≡ true
 
 -- at the byte b at i, the start s1 after s0 and the end e0 before e1: carried where b continues a character, else a character begins at i
 unfoldable pub mirrors : ℕ → ℕ → ℕ → ℕ → ℕ → ℕ → Bool

@@ -1,12 +1,13 @@
 // The note: its referentials, the refusals of every call on it, the check that it is sound, and the note of a fresh text.
 pub mod aligned;
+pub mod columns;
 pub mod letters;
 pub mod rewrap;
 pub mod starting;
 pub mod unedited;
 
 use aligned::aligned;
-use unedited::same_bytes;
+use runs::same::same8;
 use unedited::texts_formed;
 ghost use mathlib.Core.Path.{_≡_};
 ghost use Rattle.note.specs.Notes.{noteFaults, besideFaults};
@@ -109,7 +110,7 @@ pub fn check_beside(
     if torn {
         return Verdict::Refused(Refusal::IllFormed);
     }
-    let same = same_bytes(original, normalized);
+    let same = same8(original, normalized);
     if !texts_formed(original, normalized, same) {
         return Verdict::Refused(Refusal::IllFormed);
     }

@@ -7,23 +7,7 @@ ghost use Prim.Native.Nat.{_≤_};
 ghost use lib.ListN.{length};
 ghost use Rattle.utf8.specs.Formed.{wellFormed};
 ghost use Rattle.note.specs.Notes.{limit};
-ghost use Rattle.note.specs.Unedited.{Same, mirrors, mirrored};
-
-// Whether two texts are the same. The loop has no way out inside, so that it is vectorised.
-pub fn same_bytes(a: &[u8], b: &[u8]) -> bool
-    ensures { λ r. ⌜ Same (now (a .entry)) (now (b .entry)) r ⌝ }
-{
-    if a.len() != b.len() {
-        return false;
-    }
-    let mut ok = true;
-    let mut i = 0;
-    while i < a.len() {
-        ok = ok & (a[i] == b[i]);
-        i += 1;
-    }
-    ok
-}
+ghost use Rattle.note.specs.Unedited.{mirrors, mirrored};
 
 // Whether both texts are well-formed. Where they are the same, one is judged.
 pub fn texts_formed(original: &[u8], normalized: &[u8], same: bool) -> bool
@@ -39,7 +23,8 @@ pub fn texts_formed(original: &[u8], normalized: &[u8], same: bool) -> bool
     well_formed(normalized)
 }
 
-// Whether the start s1 and the end e0 are those of characters, by their neighbours and the byte `b` at `i`. No branch, as above.
+// Whether the start s1 and the end e0 are those of characters, by their neighbours and the byte `b` at `i`.
+// It has no branch, so that a loop over it is vectorised.
 fn mirrors(b: u8, s0: u16, s1: u16, e0: u16, e1: u16, i: u16) -> bool
     ensures { λ r. ⌜ r ≡ mirrors b s0 s1 e0 e1 i ⌝ }
 {

@@ -13,7 +13,8 @@ use Rattle.note.specs.declared.Verdict.{Verdict}
 use Rattle.note.specs.declared.Verdict.the-variants.{Accepted, Refused as Rejected}
 use Rattle.note.specs.declared.Refusal.{Refusal}
 use Rattle.note.specs.Refusals.{verdict}
-use Rattle.note.proofs.Columns.{Filled, none-filled, filled-up, all-filled}
+use Rattle.note.specs.Filling.{Filled}
+use Rattle.note.proofs.Filling.{none-filled, filled-up, all-filled}
 use Rattle.positions.specs.declared.CharOffsets.the-variants.{Refused}
 use Rattle.positions.specs.declared.Step.{Step}
 use Rattle.positions.specs.Positions.{indexOf, chars, endIndex, pairOf, converted, numberIn, startIn, endIn, pairAt, listFaults, Pairs, ConvertedAll, Known, Room, Stepped}

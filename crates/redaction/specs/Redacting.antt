@@ -14,6 +14,10 @@ use Rattle.replace.specs.Replacing.{Published as Publication, replaced, replace
 use Rattle.redaction.specs.declared.Redaction.{Redaction}
 use Rattle.redaction.specs.declared.Redaction.the-variants.{Published, Refused}
 
+-- a note whose cleaned text is its transcript, with no shift
+abbrev pub plain : List ℕ → List ℕ → List ℕ → Note
+plain text starts ends = record { original = text; normalized = text; starts = starts; ends = ends; original-shift = 0 }
+
 -- a verdict, and the next one where it accepts
 abbrev pub next : Verdict → Verdict → Verdict
 next Accepted v = v

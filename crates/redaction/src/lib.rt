@@ -1,14 +1,23 @@
 // Blanking a literal in a fresh note: the starting note, the matches of the literal, the replacement, one after the other.
+// No step judges what an earlier one has: the starting note is accepted (`starting-accepted`), and a found list covers its text (`found-covers`).
 pub mod alignments;
 
 use find::Matches;
-use find::find_matches;
+use find::find_formed;
 use note::Refusal;
 use note::Verdict;
 use note::starting::from_text;
+use replace::has_room;
+use replace::lay_out;
 use replace::measure;
-use replace::replace;
-ghost use Rattle.redaction.specs.Redacting.{Redacted, Searched, Sized};
+use validity::well_formed;
+ghost use mathlib.Core.Path.{_≡_};
+ghost use mathlib.Core.Bool.{true};
+ghost use Rattle.note.specs.declared.Verdict.the-variants.{Accepted};
+ghost use Rattle.note.specs.Refusals.{verdict};
+ghost use Rattle.note.specs.Notes.{noteFaults};
+ghost use Rattle.pattern.specs.Places.{covers, placesOf};
+ghost use Rattle.redaction.specs.Redacting.{Redacted, Searched, Sized, plain};
 
 // What a redaction answers: how many bytes are published, or why none are.
 pub enum Redaction {
@@ -16,7 +25,8 @@ pub enum Redaction {
     Refused(Refusal),
 }
 
-// The replacement in a note whose cleaned text is its transcript, and its size.
+// `replace` in an accepted note whose cleaned text is its transcript, by a list that covers it, and the size of the result: of its checks the filler's (1)
+// and the room's (9) are left.
 fn blank(
     text: &[u8],
     starts: &[u16],
@@ -27,27 +37,22 @@ fn blank(
     out_starts: &mut [u16],
     out_ends: &mut [u16],
 ) -> Redaction
-    ensures { λ r. ⌜ Sized (record { original = now (text .entry); normalized = now (text .entry); starts = now (starts .entry); ends = now (ends .entry); original-shift = 0 })
+    requires { ⌜ (verdict (noteFaults (plain (now text) (now starts) (now ends))) ≡ Accepted) × (covers (now text) (placesOf (now list)) ≡ true) ⌝ }
+    ensures { λ r. ⌜ Sized (plain (now (text .entry)) (now (starts .entry)) (now (ends .entry)))
         (now (list .entry)) (now (filler .entry)) (now (out .entry)) (now («out_starts» .entry)) (now («out_ends» .entry)) r (now (out .exit)) (now («out_starts» .exit)) (now («out_ends» .exit)) ⌝ }
 {
-    match replace(
-        text,
-        text,
-        starts,
-        ends,
-        0,
-        list,
-        filler,
-        out,
-        out_starts,
-        out_ends,
-    ) {
-        Verdict::Accepted => Redaction::Published(measure(list, filler.len())),
-        Verdict::Refused(k) => Redaction::Refused(k),
+    if !well_formed(filler) {
+        return Redaction::Refused(Refusal::IllFormed);
     }
+    let size = measure(list, filler.len());
+    if !has_room(size, out.len(), out_starts.len(), out_ends.len()) {
+        return Redaction::Refused(Refusal::NoRoom);
+    }
+    lay_out(text, starts, ends, list, filler, out, out_starts, out_ends);
+    Redaction::Published(size)
 }
 
-// The literal's matches in the text of a note that no edit has touched, blanked.
+// The literal's matches in the text of such a note, blanked.
 fn search(
     text: &[u8],
     literal: &[u8],
@@ -59,11 +64,12 @@ fn search(
     out_starts: &mut [u16],
     out_ends: &mut [u16],
 ) -> Redaction
-    ensures { λ r. ⌜ Searched (record { original = now (text .entry); normalized = now (text .entry); starts = now (starts .entry); ends = now (ends .entry); original-shift = 0 })
+    requires { ⌜ verdict (noteFaults (plain (now text) (now starts) (now ends))) ≡ Accepted ⌝ }
+    ensures { λ r. ⌜ Searched (plain (now (text .entry)) (now (starts .entry)) (now (ends .entry)))
         (now (literal .entry)) (now (filler .entry)) (now (list .entry)) (now (out .entry)) (now («out_starts» .entry)) (now («out_ends» .entry))
         r (now (list .exit)) (now (out .exit)) (now («out_starts» .exit)) (now («out_ends» .exit)) ⌝ }
 {
-    match find_matches(text, literal, list) {
+    match find_formed(text, literal, list) {
         Matches::Written(n) => blank(
             text,
             starts,

@@ -9,11 +9,11 @@ use borrow.Author.Tests.{eqb-true, leb-true, not-false}
 use Rattle.runs.proofs.Everywhere.{and-left, and-right, true-or-false}
 use Rattle.utf8.specs.Formed.{wellFormed}
 use Rattle.note.specs.declared.Refusal.{Refusal}
-use Rattle.note.specs.declared.Refusal.the-variants.{LengthMismatch, BadMatches, NoRoom}
+use Rattle.note.specs.declared.Refusal.the-variants.{IllFormed, TooLong, LengthMismatch, Misaligned, BadMatches, NoRoom}
 use Rattle.note.specs.declared.Verdict.{Verdict}
 use Rattle.note.specs.declared.Verdict.the-variants.{Accepted, Refused}
 use Rattle.note.specs.Refusals.{verdict}
-use Rattle.note.specs.Notes.{Note, limit, paired, besideFaults}
+use Rattle.note.specs.Notes.{Note, limit, fits, paired, textsFormed, aligned, noteFaults, besideFaults}
 use Rattle.note.proofs.Verdicts.{accepted-meets}
 use Rattle.pattern.specs.Places.{placesOf, covers}
 use Rattle.replace.specs.Replacing.{carried, replaced, hasRoom, replaceFaults, Replacing}
@@ -49,6 +49,31 @@ module _ (n : Note) (list filler : List ℕ) (a b c : ℕ) where
         length-laid (n .normalized) (n .ends) (carried (length filler) (n .ends)) (length filler) 0 (placesOf list) le (λ e. simp length-replicate) cov,
       )
 
+  -- the columns of a paired note are as long as its text
+  one-each : paired n ≡ true → (length (n .starts) ≡ length (n .normalized)) × (length (n .ends) ≡ length (n .normalized))
+  unfolding paired
+  one-each pairs = (
+    eqb-true _ _ (and-left (eqb (length (n .starts)) (length (n .normalized))) _ pairs),
+    eqb-true _ _ (and-right (eqb (length (n .starts)) (length (n .normalized))) _ pairs),
+  )
+
+  -- on an accepted note, by a list that covers its text, there is 1 of the filler, then 9
+  module _ (ok : verdict (noteFaults n) ≡ Accepted) (cov : covers (n .normalized) (placesOf list) ≡ true) where
+    pub covered-verdict : verdict (replaceFaults n list filler a b c) ≡ cond (wellFormed filler) (cond (sizeFits (sizes (length filler) (placesOf list)) a b c) Accepted (Refused NoRoom)) (Refused IllFormed)
+    unfolding verdict
+    covered-verdict =
+        let faults : (k : Refusal) → noteFaults n k ≡ false = accepted-meets (noteFaults n) ok in
+        let pairs : paired n ≡ true = not-false (paired n) (faults LengthMismatch) in
+        simp (
+          not-false (fits n) (faults TooLong),
+          pairs,
+          not-false (textsFormed n) (faults IllFormed),
+          not-false (aligned n) (faults Misaligned),
+          cov,
+          room-size (one-each pairs .0) (one-each pairs .1) cov,
+          cond-not,
+        )
+
   module _ (t : Bool) (is : t ≡ wellFormed filler) (v : Verdict) (says : v ≡ verdict (besideFaults n (not t))) where
     beside : v ≡ verdict (besideFaults n (not (wellFormed filler)))
     beside = says ∙ ap (λ (u : Bool). verdict (besideFaults n (not u))) is
@@ -57,16 +82,12 @@ module _ (n : Note) (list filler : List ℕ) (a b c : ℕ) where
     refused-note k e = sym (replace-verdict ∙ rw (sym beside ∙ e))
 
     pub accepted-note : (r : Verdict) → v ≡ Accepted → r ≡ listVerdict (n .normalized) list (length filler) a b c → r ≡ verdict (replaceFaults n list filler a b c)
-    unfolding listVerdict paired
+    unfolding listVerdict
     accepted-note r e l =
         let pairs : paired n ≡ true =
         not-false (paired n) (accepted-meets (besideFaults n (not (wellFormed filler))) (sym beside ∙ e) LengthMismatch) in
-        let ls : length (n .starts) ≡ length (n .normalized) =
-        eqb-true _ _ (and-left (eqb (length (n .starts)) (length (n .normalized))) _ pairs) in
-        let le : length (n .ends) ≡ length (n .normalized) =
-        eqb-true _ _ (and-right (eqb (length (n .starts)) (length (n .normalized))) _ pairs) in
         sym (replace-verdict ∙ rw (sym beside ∙ e)
-        (true-or-false (covers (n .normalized) (placesOf list)) (λ cov. rw (room-size ls le cov) (sym l)) (λ cov. rw cov (sym (rw cov at l)))))
+        (true-or-false (covers (n .normalized) (placesOf list)) (λ cov. rw (room-size (one-each pairs .0) (one-each pairs .1) cov) (sym l)) (λ cov. rw cov (sym (rw cov at l)))))
 
 -- the call
 module _ (n : Note) (list filler out₀ starts₀ ends₀ : List ℕ) (v : Verdict) (says : v ≡ verdict (replaceFaults n list filler (length out₀) (length starts₀) (length ends₀))) where

@@ -11,6 +11,7 @@ use Rattle.runs.proofs.Everywhere.{le-or-lt, and-false-l, and-false-r}
 use Rattle.note.specs.declared.NormalizedByte.{NormalizedByte}
 use Rattle.note.specs.declared.Refusal.the-variants.{BadMatches, NoRoom}
 use Rattle.note.specs.declared.Verdict.the-variants.{Accepted, Refused}
+use Rattle.note.specs.Notes.{limit}
 use Rattle.pattern.specs.declared.Place.{Place}
 use Rattle.pattern.specs.declared.Place.the-variants.{Unmatched, Matched, Broken}
 use Rattle.pattern.specs.Places.{placeAt, placesOf, endOf, fitsAt, coversFrom, covers}
@@ -77,37 +78,46 @@ module _ (list : List ℕ) (wide total i : ℕ) (m : Measured list wide total i)
   pub all-measured : length list < i + 5 → total ≡ min 65536 (sizes wide (placesOf list))
   all-measured h = omega (arith, m .so-far, rest-empty h)
 
--- the tests of 8 and 9 one after the other
-module _ (text list : List ℕ) (wide a b c : ℕ) where
-  pub not-covering : (t : Bool) → t ≡ covers text (placesOf list) → not t ≡ true → Refused BadMatches ≡ listVerdict text list wide a b c
+-- the tests of 9 one after the other
+module _ (n a b c : ℕ) where
+  pub over-limit : limit < n → false ≡ sizeFits n a b c
+  unfolding sizeFits
+  over-limit h = rw (lt-leb n limit h)
+
+  pub over-text : a < n → false ≡ sizeFits n a b c
+  unfolding sizeFits
+  over-text h = sym (and-false-l _ (leb n c) (and-false-l _ (leb n b) (and-false-r (leb n limit) _ (lt-leb n a h))))
+
+  pub over-starts : b < n → false ≡ sizeFits n a b c
+  unfolding sizeFits
+  over-starts h = sym (and-false-l _ (leb n c) (and-false-r (leb n limit && leb n a) _ (lt-leb n b h)))
+
+  pub over-ends : c < n → false ≡ sizeFits n a b c
+  unfolding sizeFits
+  over-ends h = sym (and-false-r (leb n limit && leb n a && leb n b) _ (lt-leb n c h))
+
+  pub within-all : n ≤ limit → n ≤ a → n ≤ b → n ≤ c → true ≡ sizeFits n a b c
+  unfolding sizeFits
+  within-all h ha hb hc = rw (le-leb n limit h, le-leb n a ha, le-leb n b hb, le-leb n c hc)
+
+-- a size that is measured fits as the size itself does
+pub measured-fits : (n a b c r : ℕ) (t : Bool) → r ≡ min 65536 n → t ≡ sizeFits r a b c → t ≡ sizeFits n a b c
+measured-fits n a b c r t is e =
+    le-or-lt n limit
+    (λ h. let same : r ≡ n = omega arith in rw same at e)
+    (λ h. e ∙ sym (over-limit r a b c (omega arith)) ∙ over-limit n a b c h)
+
+-- 8 and 9
+module _ (text list : List ℕ) (wide a b c : ℕ) (t : Bool) (is : t ≡ covers text (placesOf list)) where
+  pub not-covering : not t ≡ true → Refused BadMatches ≡ listVerdict text list wide a b c
   unfolding listVerdict
-  not-covering t is e = rw (sym is ∙ not-true t e)
+  not-covering e = rw (sym is ∙ not-true t e)
 
-  pub no-room : (t : Bool) → t ≡ covers text (placesOf list) → not t ≡ false → sizeFits (sizes wide (placesOf list)) a b c ≡ false → Refused NoRoom ≡ listVerdict text list wide a b c
-  unfolding listVerdict
-  no-room t is e f = rw (sym is ∙ not-false t e, f)
+  module _ (e : not t ≡ false) (size : ℕ) (u : Bool) (measured : size ≡ min 65536 (sizes wide (placesOf list))) (fits : u ≡ sizeFits size a b c) where
+    pub no-room : not u ≡ true → Refused NoRoom ≡ listVerdict text list wide a b c
+    unfolding listVerdict
+    no-room f = rw (sym is ∙ not-false t e, sym (measured-fits _ a b c size u measured fits) ∙ not-true u f)
 
-  pub has-room : (t : Bool) → t ≡ covers text (placesOf list) → not t ≡ false → sizeFits (sizes wide (placesOf list)) a b c ≡ true → Accepted ≡ listVerdict text list wide a b c
-  unfolding listVerdict
-  has-room t is e f = rw (sym is ∙ not-false t e, f)
-
-module _ (n r a b c : ℕ) (is : r ≡ min 65536 n) where
-  pub over-limit : 65535 < r → sizeFits n a b c ≡ false
-  unfolding sizeFits
-  over-limit h = rw (lt-leb n 65535 (omega arith))
-
-  pub over-text : a < r → sizeFits n a b c ≡ false
-  unfolding sizeFits
-  over-text h = and-false-l _ (leb n c) (and-false-l _ (leb n b) (and-false-r (leb n 65535) _ (lt-leb n a (omega arith))))
-
-  pub over-starts : b < r → sizeFits n a b c ≡ false
-  unfolding sizeFits
-  over-starts h = and-false-l _ (leb n c) (and-false-r (leb n 65535 && leb n a) _ (lt-leb n b (omega arith)))
-
-  pub over-ends : c < r → sizeFits n a b c ≡ false
-  unfolding sizeFits
-  over-ends h = and-false-r (leb n 65535 && leb n a && leb n b) _ (lt-leb n c (omega arith))
-
-  pub within-all : r ≤ 65535 → r ≤ a → r ≤ b → r ≤ c → sizeFits n a b c ≡ true
-  unfolding sizeFits
-  within-all h ha hb hc = rw (le-leb n 65535 (omega arith), le-leb n a (omega arith), le-leb n b (omega arith), le-leb n c (omega arith))
+    pub enough-room : not u ≡ false → Accepted ≡ listVerdict text list wide a b c
+    unfolding listVerdict
+    enough-room f = rw (sym is ∙ not-false t e, sym (measured-fits _ a b c size u measured fits) ∙ not-false u f)

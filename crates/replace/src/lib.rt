@@ -1,4 +1,5 @@
 // Replacing (document 01; Rust: `NormalizedString::replace`): matched places of the cleaned text give way to a filler.
+use note::LIMIT;
 use note::Refusal;
 use note::Verdict;
 use note::check_beside;
@@ -15,7 +16,7 @@ ghost use lib.ListN.{length};
 ghost use Rattle.pattern.specs.Places.{placesOf};
 ghost use Rattle.note.specs.Refusals.{verdict};
 ghost use Rattle.replace.specs.Replacing.{Replacing, beforeEnd, replaceFaults};
-ghost use Rattle.replace.specs.Writing.{AllLaid, Filled, Filling, Fitting, Keeping, Kept, PlaceLaid, Ready, listVerdict, sizeOf, sizes};
+ghost use Rattle.replace.specs.Writing.{AllLaid, Filled, Filling, Fitting, Keeping, Kept, PlaceLaid, Ready, listVerdict, sizeFits, sizeOf, sizes};
 
 // How many bytes a place gives beside a filler of `wide` bytes.
 fn size_of(place: Place, wide: usize) -> usize
@@ -51,6 +52,25 @@ pub fn measure(list: &[u8], wide: usize) -> usize
     total
 }
 
+// Whether a result of `size` bytes is within the limit and the room that is lent.
+pub fn has_room(size: usize, room: usize, starts_room: usize, ends_room: usize) -> bool
+    ensures { λ r. ⌜ r ≡ sizeFits size room «starts_room» «ends_room» ⌝ }
+{
+    if LIMIT < size {
+        return false;
+    }
+    if room < size {
+        return false;
+    }
+    if starts_room < size {
+        return false;
+    }
+    if ends_room < size {
+        return false;
+    }
+    true
+}
+
 // Whether a list covers the text and its result fits the room that is lent.
 fn judge(
     text: &[u8],
@@ -65,17 +85,7 @@ fn judge(
     if !covers(text, list) {
         return Verdict::Refused(Refusal::BadMatches);
     }
-    let size = measure(list, wide);
-    if 65535 < size {
-        return Verdict::Refused(Refusal::NoRoom);
-    }
-    if room < size {
-        return Verdict::Refused(Refusal::NoRoom);
-    }
-    if starts_room < size {
-        return Verdict::Refused(Refusal::NoRoom);
-    }
-    if ends_room < size {
+    if !has_room(measure(list, wide), room, starts_room, ends_room) {
         return Verdict::Refused(Refusal::NoRoom);
     }
     Verdict::Accepted
@@ -175,8 +185,8 @@ fn lay_place(
     }
 }
 
-// Every place of a judged list, one behind the other, for whose result there is room.
-fn lay_out(
+// Every place of a list that covers the text, one behind the other. An inner function: there is room for the result.
+pub fn lay_out(
     normalized: &[u8],
     starts: &[u16],
     ends: &[u16],

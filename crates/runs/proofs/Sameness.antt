@@ -8,9 +8,9 @@ use native.Mathlib.Omega.{arith}
 use lib.Dec.{eqb}
 use lib.ListN.{length, getD, drop, drop-of-length-le}
 use lib.Seq.{drop-cons}
-use borrow.Author.Tests.{eqb-true, eq-eqb, ne-eqb}
+use borrow.Author.Tests.{eqb-true, eq-eqb}
 use Rattle.runs.specs.Same.{same}
-use Rattle.runs.proofs.Everywhere.{and-left, and-right, and-assoc, and-false-l, clash}
+use Rattle.runs.proofs.Everywhere.{and-left, and-right, and-assoc, and-unit, clash}
 
 pub same-refl : (xs : List ℕ) → same xs xs ≡ true
 unfolding same
@@ -44,27 +44,28 @@ same-lengths (x ∷ xs) (y ∷ ys) h = rw (← same-lengths xs ys (λ e. h (ap s
     and-false-right true = refl
     and-false-right false = refl
 
--- the lists are the same if what is left of them from i on is
-pub record Compared (xs ys : List ℕ) (i : ℕ) : Type 0 where
-  pub rest : same xs ys ≡ same (drop i xs) (drop i ys)
+-- whether the lists are the same, by what was found up to i and by what is left from there on
+pub record Compared (xs ys : List ℕ) (ok : Bool) (i : ℕ) : Type 0 where
+  pub rest : same xs ys ≡ (ok && same (drop i xs) (drop i ys))
   pub most : i ≤ length xs
 
-pub none-compared : (xs ys : List ℕ) → Compared xs ys 0
+pub none-compared : (xs ys : List ℕ) → Compared xs ys true 0
 none-compared xs ys = record { rest = refl; most = omega arith }
 
-module _ (xs ys : List ℕ) (i : ℕ) (c : Compared xs ys i) (l : length xs ≡ length ys) where
-  compared-step : i < length xs → same xs ys ≡ (eqb (getD xs i 0) (getD ys i 0) && same (drop (suc i) xs) (drop (suc i) ys))
+module _ (xs ys : List ℕ) (ok : Bool) (i : ℕ) (c : Compared xs ys ok i) (l : length xs ≡ length ys) where
+  pub one-compared : i < length xs → Compared xs ys (ok && eqb (getD xs i 0) (getD ys i 0)) (i + 1)
   unfolding same
-  compared-step h = c .rest ∙ rw (drop-cons xs i 0 h, drop-cons ys i 0 (omega arith))
+  one-compared h =
+      record {
+        rest =
+            c .rest
+            ∙ rw (drop-cons xs i 0 h, drop-cons ys i 0 (omega arith), add-one i)
+            (sym (and-assoc ok (eqb (getD xs i 0) (getD ys i 0)) (same (drop (suc i) xs) (drop (suc i) ys))));
+        most = omega arith;
+      }
 
-  pub one-compared : i < length xs → getD xs i 0 ≡ getD ys i 0 → Compared xs ys (i + 1)
-  one-compared h e = record { rest = compared-step h ∙ rw (eq-eqb _ _ e, add-one i); most = omega arith }
-
-  pub one-differs : i < length xs → (getD xs i 0 ≡ getD ys i 0 → ⊥) → false ≡ same xs ys
-  one-differs h e = sym (compared-step h ∙ and-false-l _ _ (ne-eqb _ _ e))
-
-  pub all-compared : length xs ≤ i → true ≡ same xs ys
+  pub all-compared : length xs ≤ i → ok ≡ same xs ys
   unfolding same
   all-compared h =
       let past : length ys ≤ i = omega arith in
-      sym (c .rest ∙ rw (drop-of-length-le xs h, drop-of-length-le ys past))
+      sym (c .rest ∙ rw (drop-of-length-le xs h, drop-of-length-le ys past) (and-unit ok))

@@ -1,4 +1,4 @@
-// Whether two runs are the same.
+// Whether two runs are the same. The loops have no way out inside, so that they are vectorised.
 ghost use mathlib.Core.Path.{_≡_};
 ghost use Rattle.runs.specs.Same.{same};
 
@@ -8,14 +8,13 @@ pub fn same8(a: &[u8], b: &[u8]) -> bool
     if a.len() != b.len() {
         return false;
     }
+    let mut ok = true;
     let mut i = 0;
     while i < a.len() {
-        if a[i] != b[i] {
-            return false;
-        }
+        ok = ok & (a[i] == b[i]);
         i += 1;
     }
-    true
+    ok
 }
 
 pub fn same16(a: &[u16], b: &[u16]) -> bool
@@ -24,12 +23,11 @@ pub fn same16(a: &[u16], b: &[u16]) -> bool
     if a.len() != b.len() {
         return false;
     }
+    let mut ok = true;
     let mut i = 0;
     while i < a.len() {
-        if a[i] != b[i] {
-            return false;
-        }
+        ok = ok & (a[i] == b[i]);
         i += 1;
     }
-    true
+    ok
 }

@@ -1,7 +1,7 @@
--- Each refusal by the tests before it; past them all the list is written.
+-- The text is judged; the rest is `find_formed`.
 use mathlib.Core.Path.{_∙_, sym}
 use borrow.Author.Tests.{not-true, not-false}
-use Rattle.find.proofs.Answers.{find-too-long, find-torn-text, find-torn-literal, find-no-room, find-written}
+use Rattle.find.proofs.Answers.{find-too-long, find-torn-text}
 use native.Mathlib.Omega.{arith}
 use borrow.Author.Needs.{needs}
 use Rattle.find.proofs.find_matches.Statement.{statement}
@@ -16,38 +16,16 @@ well-formed-requires c κs = search needs
 returns-2 : tie.Need-returns-2
 returns-2 c = find-torn-text _ _ _ (omega arith) (sym (c .before .well-formed .ensures) ∙ not-true _ (c .if2 .taken))
 
-well-formed-requires-2 : tie.Need-well-formed-requires-2
-well-formed-requires-2 c κs = search needs
-
-returns-3 : tie.Need-returns-3
-returns-3 c = find-torn-literal _ _ _ (omega arith) (sym (c .before .before .before .well-formed .ensures) ∙ not-false _ (c .before .before .if2 .left)) (sym (c .before .well-formed2 .ensures) ∙ not-true _ (c .if3 .taken))
-
-measure-requires : tie.Need-measure-requires
-measure-requires c κs = search needs
-
-returns-4 : tie.Need-returns-4
-returns-4 c = find-no-room _ _ _ _ (omega arith) (sym (c .before .before .before .before .before .well-formed .ensures) ∙ not-false _ (c .before .before .before .before .if2 .left)) (sym (c .before .before .before .well-formed2 .ensures) ∙ not-false _ (c .before .before .if3 .left)) (c .before .measure .ensures) (c .if4 .taken)
-
-write-list-requires : tie.Need-write-list-requires
-write-list-requires c κs = search needs
+find-formed-requires : tie.Need-find-formed-requires
+find-formed-requires c κs = (omega arith, sym (c .before .before .well-formed .ensures) ∙ not-false _ (c .before .if2 .left))
 
 same-length : tie.Need-same-length
 same-length c = search needs
 
-returns-5 : tie.Need-returns-5
-returns-5 c = find-written _ _ _ _ (omega arith) (sym (c .before .before .before .before .before .before .before .before .before .well-formed .ensures) ∙ not-false _ (c .before .before .before .before .before .before .before .before .if2 .left)) (sym (c .before .before .before .before .before .before .before .well-formed2 .ensures) ∙ not-false _ (c .before .before .before .before .before .before .if3 .left)) (c .before .before .before .before .before .measure .ensures) _ (omega arith) (c .before .before .write-list .ensures)
+returns-3 : tie.Need-returns-3
+returns-3 c = search needs
 
 pub find-matches-spec : {M : Type 1} → statement M
 find-matches-spec =
     tie.close
-    (tie.spec
-    returns
-    well-formed-requires
-    returns-2
-    well-formed-requires-2
-    returns-3
-    measure-requires
-    returns-4
-    write-list-requires
-    same-length
-    returns-5)
+    (tie.spec returns well-formed-requires returns-2 find-formed-requires same-length returns-3)

@@ -1,7 +1,7 @@
 -- The columns that are written are the starting note's, and what the search makes of that is the result.
 use mathlib.Core.Path.{sym}
 use lib.Seq.{length-take-le}
-use Rattle.redaction.proofs.Answers.{starts-long, ends-long, redacted, not-redacted}
+use Rattle.redaction.proofs.Answers.{starts-long, ends-long, fresh-accepted, redacted, not-redacted}
 use borrow.Author.Needs.{needs}
 use Rattle.redaction.proofs.redact.Statement.{statement}
 use Rattle.redaction.proofs.redact.Tie as tie
@@ -25,7 +25,7 @@ slice-aggregate-search-2 : tie.Need-slice-aggregate-search-2
 slice-aggregate-search-2 c = sym (length-take-le _ _ (ends-long _ _ _ _ _ _ (c .before .before .before .before .before .before .before .before .from-text .ensures) (c .before .before .enum-told .given .1)))
 
 search-requires : tie.Need-search-requires
-search-requires c κs = search needs
+search-requires c κs = fresh-accepted _ _ _ _ _ _ (c .before .before .before .before .before .before .before .before .before .before .before .before .from-text .ensures) (c .before .before .before .before .before .before .enum-told .given .1)
 
 enum-known-k : tie.Need-enum-known-k
 enum-known-k c = search needs

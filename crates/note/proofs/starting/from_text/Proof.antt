@@ -26,11 +26,12 @@ returns-4 c =
     started-no-ends _ _ _ (omega arith) (sym (c .before .before .before .well-formed .ensures) ∙ not-false _ (c .before .before .if2 .left)) (omega arith) (omega arith)
 
 write-starts-requires : tie.Need-write-starts-requires
-write-starts-requires c κs = search needs
+write-starts-requires c κs =
+    ((sym (c .before .before .before .before .well-formed .ensures) ∙ not-false _ (c .before .before .before .if2 .left), omega arith), omega arith)
 
 write-ends-requires : tie.Need-write-ends-requires
 write-ends-requires c κs =
-    (sym (c .before .before .before .before .before .before .before .before .well-formed .ensures) ∙ not-false _ (c .before .before .before .before .before .before .before .if2 .left), (omega arith, omega arith))
+    ((sym (c .before .before .before .before .before .before .before .before .well-formed .ensures) ∙ not-false _ (c .before .before .before .before .before .before .before .if2 .left), omega arith), omega arith)
 
 same-length : tie.Need-same-length
 same-length c = search needs

@@ -1,24 +1,24 @@
 -- Each turn writes one more start: the byte's own place where it begins a character, else the one carried.
-use Prim.Native.Nat.{_-_}
+use Prim.Native.Nat.{_-_, _≤_}
 use mathlib.Core.Path.{_∙_, sym}
 use mathlib.Core.Logic.{⊎-elim}
-use lib.ListN.{length}
-use borrow.Author.Tests.{not-true, not-false}
-use Rattle.note.specs.StartingSound.{charStart-begins}
-use Rattle.note.proofs.CharRanges.{StartsTo, no-starts, start-carried, one-start, all-starts}
 use native.Mathlib.Omega.{arith}
+use borrow.Author.Tests.{not-true, not-false}
 use borrow.Author.Needs.{needs}
-use Rattle.note.proofs.starting.write_starts.Statement.{statement}
-use Rattle.note.proofs.starting.write_starts.Tie as tie
+use Rattle.note.specs.StartingSound.{charStart-begins}
+use Rattle.note.proofs.Filling.{filled-at}
+use Rattle.note.proofs.CharRanges.{StartsTo, no-starts, start-carried, one-start}
+use Rattle.note.proofs.columns.carry_starts.Statement.{statement}
+use Rattle.note.proofs.columns.carry_starts.Tie as tie
 
 abbrev Inv-loop : tie.InvT-loop
-Inv-loop text starts₀ start₀ i₀ starts start i = StartsTo text starts₀ starts start i
+Inv-loop text to starts₀ start₀ i₀ starts start i = (i ≤ to) × StartsTo text starts₀ starts start i
 
 abbrev μ-loop : tie.MeasureT-loop
-μ-loop text starts₀ start₀ i₀ starts start i = length text - i
+μ-loop text to starts₀ start₀ i₀ starts start i = to - i
 
 loop-holds : tie.Need-loop-holds Inv-loop μ-loop
-loop-holds c = no-starts _ _
+loop-holds c = (omega arith, no-starts _ _)
 
 shared-slice-read-continues : tie.Need-shared-slice-read-continues Inv-loop μ-loop
 shared-slice-read-continues c = omega arith
@@ -42,21 +42,23 @@ loop-less : tie.Need-loop-less Inv-loop μ-loop
 loop-less c = omega arith
 
 loop-again : tie.Need-loop-again Inv-loop μ-loop
-loop-again c =
-    one-start _ _ _ _ _ _ (c .before .before .before .before .loop .inv) (c .before .before .before .loop-test .taken) (c .before .before .before .before .before .before .before .pre .1)
-    (⊎-elim
-    (λ w. w .1 ∙ sym (charStart-begins _ _ (sym (c .before .continues .ensures) ∙ not-true _ (w .0 .taken))))
-    (λ w. w .1 ∙ c .before .before .before .before .loop .inv .carried ∙ sym (start-carried _ _ (sym (c .before .continues .ensures) ∙ not-false _ (w .0 .left))))
-    (c .if1 .came))
+loop-again c = (
+  omega arith,
+  one-start _ _ _ _ _ _ (c .before .before .before .before .loop .inv .1) (omega arith) (omega arith)
+      (⊎-elim
+      (λ w. w .1 ∙ sym (charStart-begins _ _ (sym (c .before .continues .ensures) ∙ not-true _ (w .0 .taken))))
+      (λ w. w .1 ∙ c .before .before .before .before .loop .inv .1 .carried ∙ sym (start-carried _ _ (sym (c .before .continues .ensures) ∙ not-false _ (w .0 .left))))
+      (c .if1 .came)),
+)
 
 same-length : tie.Need-same-length Inv-loop μ-loop
-same-length c = c .before .loop .inv .filled .same
+same-length c = c .before .loop .inv .1 .filled .same
 
 returns : tie.Need-returns Inv-loop μ-loop
-returns c = all-starts _ _ _ _ _ (c .before .loop .inv) (c .loop-test .left) (c .before .before .before .before .pre .1)
+returns c = filled-at _ _ _ _ _ _ _ (c .before .loop .inv .1 .filled) (omega arith) (omega arith)
 
-pub write-starts-spec : {M : Type 1} → statement M
-write-starts-spec =
+pub carry-starts-spec : {M : Type 1} → statement M
+carry-starts-spec =
     tie.close
     (tie.spec
     Inv-loop
