@@ -1,13 +1,16 @@
 -- The answers of a list of ranges, written one by one; and what the call answers, by the checks that it has passed.
-use Prim.Native.Nat.{ℕ, _+_, _≤_, _<_}
+use Prim.Native.Nat.{ℕ, _+_, _-_, _≤_, _<_}
 use mathlib.Core.Path.{_≡_, _∙_, ap, refl, sym}
 use mathlib.Core.Bool.{Bool, true, false, cond, _&&_, not}
-use mathlib.Core.List.{List}
+use mathlib.Core.List.{List, _++_}
 use native.Mathlib.Omega.{arith}
-use lib.Dec.{leb, eqb}
-use lib.ListN.{length, getD, set}
-use borrow.Author.Tests.{le-leb, lt-leb, eq-eqb, ne-eqb}
-use Rattle.runs.proofs.Everywhere.{and-true, and-false-l, and-false-r, and-unit, true-or-false}
+use lib.Dec.{leb, ltb, eqb}
+use lib.ListN.{length, getD, set, drop, replicate, length-replicate, getD-replicate, List·getD-append}
+use lib.Seq.{drop-at}
+use borrow.Author.Tests.{le-leb, lt-leb, le-ltb, ltb-true, leb-true, eq-eqb, ne-eqb}
+use Rattle.runs.specs.Splice.{splice, overlay}
+use Rattle.runs.proofs.Everywhere.{and-true, and-left, and-right, and-false-l, and-false-r, and-unit, clash, true-or-false}
+use Rattle.runs.proofs.Laying.{length-splice}
 use Rattle.note.specs.declared.Refusal.{Refusal}
 use Rattle.note.specs.declared.Refusal.the-variants.{IllFormed, TooLong, LengthMismatch, Misaligned, NotBoundary, BadScript, Exhausted, BadMatches, NoRoom, Missing, CountMismatch}
 use Rattle.note.specs.declared.Verdict.{Verdict}
@@ -15,14 +18,16 @@ use Rattle.note.specs.declared.Verdict.the-variants.{Accepted, Refused}
 use Rattle.note.specs.Refusals.{numberOf, verdict, left}
 use Rattle.note.specs.Notes.{Note, fits, paired, textsFormed, aligned, noteFaults}
 use Rattle.note.specs.Filling.{Filled}
-use Rattle.note.proofs.Filling.{none-filled, filled-up, all-filled}
+use Rattle.note.specs.StartingSound.{length-column}
+use Rattle.note.proofs.Filling.{none-filled, filled-up, filled-kept, all-filled}
 use Rattle.convert.specs.declared.Range.{Range}
 use Rattle.convert.specs.declared.Converted.{Converted}
-use Rattle.convert.specs.Converting.{inOriginal, inNormalized, converted, convertOffsets}
+use Rattle.convert.specs.declared.Converted.the-variants.{Found}
+use Rattle.convert.specs.Converting.{inOriginal, inNormalized, expanded, toOriginal, converted, convertOffsets}
 use Rattle.convert.specs.Answers.{then, noted, noted-then, answered-accepted}
 use Rattle.batch.specs.declared.OffsetReferential.{OffsetReferential}
 use Rattle.batch.specs.declared.OffsetReferential.the-variants.{Original, Normalized}
-use Rattle.batch.specs.Ranges.{rangeOf, startIn, endIn, numberIn, answerAt, even, roomy, batchFaults, unevenOf, Answers, ConvertedAll, Room}
+use Rattle.batch.specs.Ranges.{rangeOf, expands, startIn, endIn, numberIn, answerAt, even, roomy, batchFaults, unevenOf, Answers, ConvertedAll, Room}
 
 pub rangeOf-original : (side : OffsetReferential) (a b : ℕ) → side ≡ Original → inOriginal a b ≡ rangeOf side a b
 unfolding rangeOf
@@ -46,34 +51,114 @@ numberOf-small NoRoom = omega arith
 numberOf-small Missing = omega arith
 numberOf-small CountMismatch = omega arith
 
+-- which ranges are answered by two reads
+pub expands-original : (side : OffsetReferential) (a b n : ℕ) → side ≡ Original → false ≡ expands side a b n
+unfolding expands
+expands-original side a b n is = rw is
+
+pub expands-normalized : (side : OffsetReferential) (a b n : ℕ) → side ≡ Normalized → (ltb a b && leb b n) ≡ expands side a b n
+unfolding expands
+expands-normalized side a b n is = rw is
+
+module _ (side : OffsetReferential) (a b n : ℕ) (so : expands side a b n ≡ true) where
+  of-normalized : side ≡ Normalized
+  unfolding expands
+  of-normalized = is side so
+    where
+      is : (x : OffsetReferential) → expands x a b n ≡ true → x ≡ Normalized
+      is Original e = clash false e refl
+      is Normalized e = refl
+
+  inside : (a < b) × (b ≤ n)
+  unfolding expands
+  inside =
+      let both : ltb a b && leb b n ≡ true = rw of-normalized at so in
+      (ltb-true a b (and-left (ltb a b) (leb b n) both), leb-true b n (and-right (ltb a b) (leb b n) both))
+
+  pub has-byte : a < b
+  has-byte = inside .0
+
+  pub has-end : b ≤ n
+  has-end = inside .1
+
+two-reads : (starts ends : List ℕ) (side : OffsetReferential) (a b : ℕ) → expands side a b (length ends) ≡ true → converted starts ends (rangeOf side a b) ≡ Found (inOriginal (getD starts a 0) (getD ends (b - 1) 0))
+unfolding converted toOriginal expanded rangeOf
+two-reads starts ends side a b so =
+    rw (of-normalized side a b (length ends) so, ne-eqb a b (λ e. absurd (omega (arith, has-byte side a b (length ends) so))), le-ltb b a (omega (arith, has-byte side a b (length ends) so)), le-leb b (length ends) (has-end side a b (length ends) so))
+
+-- the numbers before the first answer: 0 for each one
+module _ (n : ℕ) (n₀ z : List ℕ) (room : n ≤ length n₀) (is : z ≡ splice n₀ 0 (replicate n 0)) where
+  pub zeros-long : length z ≡ length n₀
+  zeros-long = ap length is ∙ length-splice n₀ 0 (replicate n 0) (simp length-replicate (omega arith))
+
+  long : length {A = ℕ} (replicate n 0) ≡ n
+  long = length-replicate n 0
+
+  zeros-are : (k : ℕ) → k < n → getD z k 0 ≡ 0
+  unfolding splice
+  zeros-are k h =
+      ap (λ (x : List ℕ). getD x k 0) is ∙ List·getD-append (replicate n 0) (drop (0 + length {A = ℕ} (replicate n 0)) n₀) 0 k (omega (arith, long)) ∙ getD-replicate n k 0 0 h
+
+  -- what is written over them might as well be written over what they were
+  over-zeros : (x : List ℕ) → length x ≡ n → overlay x z ≡ overlay x n₀
+  unfolding overlay splice
+  over-zeros x e =
+      let tail : drop (length x) z ≡ drop (0 + length {A = ℕ} (replicate n 0)) n₀ =
+      ap (λ (y : List ℕ). drop (length x) y) is ∙ drop-at (replicate n 0) (drop (0 + length {A = ℕ} (replicate n 0)) n₀) (length x) (long ∙ sym e) in
+      let there : 0 + length {A = ℕ} (replicate n 0) ≡ length x = omega (arith, long) in
+      ap (λ (y : List ℕ). x ++ y) (tail ∙ ap (λ (k : ℕ). drop k n₀) there)
+
 -- i of n answers are written
-pub record Filling (answers : ℕ → Converted) (n : ℕ) (n₀ s₀ e₀ m s e : List ℕ) (i : ℕ) : Type 0 where
+pub record Filling (answers : ℕ → Converted) (n : ℕ) (z s₀ e₀ m s e : List ℕ) (i : ℕ) : Type 0 where
   pub most : i ≤ n
-  pub numbers-to : Filled (λ k. numberIn (answers k)) n₀ 0 i m
+  pub zeros : (k : ℕ) → k < n → getD z k 0 ≡ 0
+  pub numbers-to : Filled (λ k. numberIn (answers k)) z 0 i m
   pub starts-to : Filled (λ k. startIn (answers k)) s₀ 0 i s
   pub ends-to : Filled (λ k. endIn (answers k)) e₀ 0 i e
 
-pub none-answered : (answers : ℕ → Converted) (n : ℕ) (m s e : List ℕ) → Filling answers n m s e m s e 0
-none-answered answers n m s e =
-    record { most = omega arith; numbers-to = none-filled _ m 0; starts-to = none-filled _ s 0; ends-to = none-filled _ e 0 }
+pub none-answered : (answers : ℕ → Converted) (n : ℕ) (n₀ z s e : List ℕ) → n ≤ length n₀ → z ≡ splice n₀ 0 (replicate n 0) → Filling answers n z s e z s e 0
+none-answered answers n n₀ z s e room is =
+    record { most = omega arith; zeros = zeros-are n n₀ z room is; numbers-to = none-filled _ z 0; starts-to = none-filled _ s 0; ends-to = none-filled _ e 0 }
 
-module _ (starts ends : List ℕ) (side : OffsetReferential) (from to n₀ s₀ e₀ : List ℕ) where
-  pub one-answered : (m s e : List ℕ) (i : ℕ) (range : Range) (answer : Converted) (x y z : ℕ) → Room from to n₀ s₀ e₀ → Filling (answerAt (converted starts ends) side from to) (length from) n₀ s₀ e₀ m s e i → i < length from → range ≡ rangeOf side (getD from i 0) (getD to i 0) → answer ≡ converted starts ends range → x ≡ numberIn answer → y ≡ startIn answer → z ≡ endIn answer → Filling (answerAt (converted starts ends) side from to) (length from) n₀ s₀ e₀ (set m i x) (set s i y) (set e i z) (i + 1)
+module _ (starts ends : List ℕ) (side : OffsetReferential) (from to z s₀ e₀ : List ℕ) where
+  -- by an answer
+  pub one-answered : (m s e : List ℕ) (i : ℕ) (range : Range) (answer : Converted) (x y w : ℕ) (m₁ s₁ e₁ : List ℕ) → Room from to z s₀ e₀ → Filling (answerAt (converted starts ends) side from to) (length from) z s₀ e₀ m s e i → i < length from → range ≡ rangeOf side (getD from i 0) (getD to i 0) → answer ≡ converted starts ends range → x ≡ numberIn answer → y ≡ startIn answer → w ≡ endIn answer → m₁ ≡ set m i x → s₁ ≡ set s i y → e₁ ≡ set e i w → Filling (answerAt (converted starts ends) side from to) (length from) z s₀ e₀ m₁ s₁ e₁ (i + 1)
   unfolding answerAt
-  one-answered m s e i range answer x y z room w more is ans p q r =
+  one-answered m s e i range answer x y w m₁ s₁ e₁ room f more is ans p q r at-m at-s at-e =
       let here : answer ≡ converted starts ends (rangeOf side (getD from i 0) (getD to i 0)) = ans ∙ ap (converted starts ends) is in
       record {
         most = omega arith;
-        numbers-to = filled-up _ n₀ 0 i m x (w .numbers-to) (omega arith) (p ∙ ap numberIn here);
-        starts-to = filled-up _ s₀ 0 i s y (w .starts-to) (omega arith) (q ∙ ap startIn here);
-        ends-to = filled-up _ e₀ 0 i e z (w .ends-to) (omega arith) (r ∙ ap endIn here);
+        zeros = f .zeros;
+        numbers-to = rw at-m (filled-up _ z 0 i m x (f .numbers-to) (omega (arith, room .of-numbers)) (p ∙ ap numberIn here));
+        starts-to = rw at-s (filled-up _ s₀ 0 i s y (f .starts-to) (omega (arith, room .of-starts)) (q ∙ ap startIn here));
+        ends-to = rw at-e (filled-up _ e₀ 0 i e w (f .ends-to) (omega (arith, room .of-ends)) (r ∙ ap endIn here));
       }
 
-pub all-answered : (answers : ℕ → Converted) (from to n₀ s₀ e₀ m s e : List ℕ) (i : ℕ) → Room from to n₀ s₀ e₀ → Filling answers (length from) n₀ s₀ e₀ m s e i → length from ≤ i → Answers answers (length from) n₀ s₀ e₀ m s e
-all-answered answers from to n₀ s₀ e₀ m s e i room w done =
-    let full : i ≡ length from = omega arith in
+  -- by two reads: the number is 0 already
+  pub one-expanded : (m s e : List ℕ) (i : ℕ) (y w : ℕ) (m₁ s₁ e₁ : List ℕ) → Room from to z s₀ e₀ → Filling (answerAt (converted starts ends) side from to) (length from) z s₀ e₀ m s e i → i < length from → expands side (getD from i 0) (getD to i 0) (length ends) ≡ true → y ≡ getD starts (getD from i 0) 0 → w ≡ getD ends (getD to i 0 - 1) 0 → m₁ ≡ m → s₁ ≡ set s i y → e₁ ≡ set e i w → Filling (answerAt (converted starts ends) side from to) (length from) z s₀ e₀ m₁ s₁ e₁ (i + 1)
+  unfolding answerAt
+  one-expanded m s e i y w m₁ s₁ e₁ room f more so q r at-m at-s at-e =
+      let here : converted starts ends (rangeOf side (getD from i 0) (getD to i 0)) ≡ Found (inOriginal (getD starts (getD from i 0) 0) (getD ends (getD to i 0 - 1) 0)) =
+      two-reads starts ends side (getD from i 0) (getD to i 0) so in
+      record {
+        most = omega arith;
+        zeros = f .zeros;
+        numbers-to = rw at-m (filled-kept _ z 0 i m (f .numbers-to) (f .zeros i more ∙ sym (ap numberIn here)));
+        starts-to = rw at-s (filled-up _ s₀ 0 i s y (f .starts-to) (omega (arith, room .of-starts)) (q ∙ sym (ap startIn here)));
+        ends-to = rw at-e (filled-up _ e₀ 0 i e w (f .ends-to) (omega (arith, room .of-ends)) (r ∙ sym (ap endIn here)));
+      }
+
+-- the room is the same over the zeros
+pub zeroed-room : (from to n₀ z s₀ e₀ : List ℕ) → Room from to n₀ s₀ e₀ → z ≡ splice n₀ 0 (replicate (length from) 0) → Room from to z s₀ e₀
+zeroed-room from to n₀ z s₀ e₀ room is =
+    record { same = room .same; of-numbers = omega (arith, room .of-numbers, zeros-long (length from) n₀ z (room .of-numbers) is); of-starts = room .of-starts; of-ends = room .of-ends }
+
+pub all-answered : (answers : ℕ → Converted) (from to n₀ z s₀ e₀ m s e : List ℕ) (i : ℕ) → Room from to n₀ s₀ e₀ → z ≡ splice n₀ 0 (replicate (length from) 0) → Filling answers (length from) z s₀ e₀ m s e i → length from ≤ i → Answers answers (length from) n₀ s₀ e₀ m s e
+all-answered answers from to n₀ z s₀ e₀ m s e i room is w done =
+    let full : i ≡ length from = omega (arith, w .most) in
+    let long : length z ≡ length n₀ = zeros-long (length from) n₀ z (room .of-numbers) is in
     record {
-      numbers-are = all-filled _ n₀ _ m (rw full at (w .numbers-to)) (room .of-numbers);
+      numbers-are = all-filled _ z _ m (rw full at (w .numbers-to)) (omega (arith, room .of-numbers)) ∙ over-zeros (length from) n₀ z (room .of-numbers) is _ (length-column _ _);
       starts-are = all-filled _ s₀ _ s (rw full at (w .starts-to)) (room .of-starts);
       ends-are = all-filled _ e₀ _ e (rw full at (w .ends-to)) (room .of-ends);
     }
@@ -108,8 +193,8 @@ verdict-uneven n same room no-match =
 -- 9 behind the note's refusals
 verdict-even : (n : Note) (same room : Bool) → same ≡ true → verdict (batchFaults n same room) ≡ then (verdict (noteFaults n)) (cond room Accepted (Refused NoRoom))
 unfolding verdict
-verdict-even n same room yes-match =
-    rw (yes-match, and-unit (paired n))
+verdict-even n same room so-match =
+    rw (so-match, and-unit (paired n))
     (noted-then (not (fits n)) (not (paired n)) (not (textsFormed n)) (not (aligned n)) (cond (not room) (Refused NoRoom) Accepted)
     ∙ ap (then (noted (not (fits n)) (not (paired n)) (not (textsFormed n)) (not (aligned n)) Accepted)) (flip room))
   where

@@ -1,9 +1,9 @@
 -- Converting a list of ranges over one note, each as the single call answers it; the note is checked once.
 use Prim.Native.Nat.{ℕ, _≤_}
 use mathlib.Core.Path.{_≡_}
-use mathlib.Core.Bool.{Bool, cond, _&&_, not}
+use mathlib.Core.Bool.{Bool, false, cond, _&&_, not}
 use mathlib.Core.List.{List}
-use lib.Dec.{leb, eqb}
+use lib.Dec.{leb, ltb, eqb}
 use lib.ListN.{length, getD}
 use Rattle.runs.specs.Splice.{overlay}
 use Rattle.note.specs.declared.Refusal.{Refusal}
@@ -24,6 +24,11 @@ use Rattle.batch.specs.declared.OffsetReferential.the-variants.{Original
 unfoldable pub rangeOf : OffsetReferential → ℕ → ℕ → Range
 rangeOf Original a b = inOriginal a b
 rangeOf Normalized a b = inNormalized a b
+
+-- a range of the cleaned text that has a byte and ends in it
+unfoldable pub expands : OffsetReferential → ℕ → ℕ → ℕ → Bool
+expands Original a b n = false
+expands Normalized a b n = ltb a b && leb b n
 
 -- an answer in three numbers: 0, start and end, or the refusal's number, 0 and 0
 abbrev pub startIn : Converted → ℕ

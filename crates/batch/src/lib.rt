@@ -10,10 +10,12 @@ use note::Refusal;
 use note::Verdict;
 use note::check_note;
 use note::number;
+use runs::fill8;
 ghost use mathlib.Core.Path.{_≡_};
-ghost use lib.ListN.{length};
+ghost use Prim.Native.Nat.{_-_, _≤_, _<_};
+ghost use lib.ListN.{length, getD};
 ghost use Rattle.convert.specs.Converting.{Columns, converted};
-ghost use Rattle.batch.specs.Ranges.{rangeOf, startIn, endIn, numberIn, answerAt, unevenOf, Answers, ConvertedAll, Room};
+ghost use Rattle.batch.specs.Ranges.{rangeOf, expands, startIn, endIn, numberIn, answerAt, unevenOf, Answers, ConvertedAll, Room};
 
 // The text that a list's numbers are of (Rust: `OffsetReferential`).
 pub enum OffsetReferential {
@@ -76,7 +78,32 @@ fn uneven(checked: Verdict) -> Verdict
     }
 }
 
-// Every range of the list, on a checked note and with room for the answers.
+// Whether a range is one of the cleaned text that has a byte and ends in it, as nearly all of a list do: its answer is two reads.
+fn expands(side: OffsetReferential, from: u32, to: u32, len: usize) -> bool
+    ensures { λ r. ⌜ r ≡ expands side from to len ⌝ }
+{
+    match side {
+        OffsetReferential::Original => false,
+        OffsetReferential::Normalized => (from < to) & (to as usize <= len),
+    }
+}
+
+// Where the first byte of such a range starts, and where its last one ends.
+fn first_start(starts: &[u16], from: u32) -> u32
+    requires { ⌜ from < length (now starts) ⌝ }
+    ensures { λ r. ⌜ r ≡ getD (now (starts .entry)) from 0 ⌝ }
+{
+    starts[from as usize] as u32
+}
+
+fn last_end(ends: &[u16], to: u32) -> u32
+    requires { ⌜ (0 < to) × (to ≤ length (now ends)) ⌝ }
+    ensures { λ r. ⌜ r ≡ getD (now (ends .entry)) (to - 1) 0 ⌝ }
+{
+    ends[to as usize - 1] as u32
+}
+
+// Every range of the list, on a checked note and with room for the answers. The numbers are 0 from the beginning, so that two stores are left of most answers.
 fn convert_each(
     starts: &[u16],
     ends: &[u16],
@@ -91,12 +118,20 @@ fn convert_each(
     requires { ⌜ Room (now from) (now to) (now numbers) (now «out_starts») (now «out_ends») ⌝ }
     ensures { λ _. ⌜ Answers (answerAt (converted (now (starts .entry)) (now (ends .entry))) side (now (from .entry)) (now (to .entry))) (length (now (from .entry))) (now (numbers .entry)) (now («out_starts» .entry)) (now («out_ends» .entry)) (now (numbers .exit)) (now («out_starts» .exit)) (now («out_ends» .exit)) ⌝ }
 {
+    fill8(0, from.len(), numbers, 0);
     let mut i = 0;
     while i < from.len() {
-        let answer = convert_checked(starts, ends, range_of(side, from[i], to[i]));
-        numbers[i] = number_in(answer);
-        out_starts[i] = start_in(answer);
-        out_ends[i] = end_in(answer);
+        let a = from[i];
+        let b = to[i];
+        if expands(side, a, b, ends.len()) {
+            out_starts[i] = first_start(starts, a);
+            out_ends[i] = last_end(ends, b);
+        } else {
+            let answer = convert_checked(starts, ends, range_of(side, a, b));
+            numbers[i] = number_in(answer);
+            out_starts[i] = start_in(answer);
+            out_ends[i] = end_in(answer);
+        }
         i += 1;
     }
 }

@@ -1,8 +1,9 @@
 -- What finding answers, by the checks that it has passed.
 use Prim.Native.Nat.{ℕ, _≤_, _<_}
-use mathlib.Core.Path.{_≡_}
-use mathlib.Core.Bool.{true, false}
+use mathlib.Core.Path.{_≡_, _∙_, sym}
+use mathlib.Core.Bool.{Bool, true, false}
 use mathlib.Core.List.{List}
+use lib.Dec.{leb}
 use lib.ListN.{length}
 use borrow.Author.Tests.{le-leb, lt-leb}
 use Rattle.runs.specs.Splice.{overlay}
@@ -28,21 +29,18 @@ module _ (text literal o : List ℕ) where
   find-torn-literal h t l =
       record { answer = simp (le-leb (length text) limit h, t, l); list = simp (le-leb (length text) limit h, t, l) }
 
-  module _ (size : ℕ) (h : length text ≤ limit) (t : wellFormed text ≡ true) (l : wellFormed literal ≡ true) (is : size ≡ length (foundBytes text literal)) where
-    pub find-no-room : length o < size → Finding text literal o (Refused NoRoom) o
+  module _ (h : length text ≤ limit) (t : wellFormed text ≡ true) (l : wellFormed literal ≡ true) (room : Bool) (is : room ≡ leb (length (foundBytes text literal)) (length o)) where
+    pub find-no-room : room ≡ false → Finding text literal o (Refused NoRoom) o
     unfolding verdict
     find-no-room short =
-        let less : length o < length (foundBytes text literal) = rw is at short in
-        record {
-          answer = simp (le-leb (length text) limit h, t, l, lt-leb _ (length o) less);
-          list = simp (le-leb (length text) limit h, t, l, lt-leb _ (length o) less);
-        }
+        let no : leb (length (foundBytes text literal)) (length o) ≡ false = sym is ∙ short in
+        record { answer = simp (le-leb (length text) limit h, t, l, no); list = simp (le-leb (length text) limit h, t, l, no) }
 
-    pub find-written : (o₁ : List ℕ) → size ≤ length o → o₁ ≡ overlay (foundBytes text literal) o → Finding text literal o (Written size) o₁
+    pub find-written : room ≡ true → (size : ℕ) (o₁ : List ℕ) → (size ≡ length (foundBytes text literal)) × (o₁ ≡ overlay (foundBytes text literal) o) → Finding text literal o (Written size) o₁
     unfolding verdict
-    find-written o₁ room wrote =
-        let enough : length (foundBytes text literal) ≤ length o = rw is at room in
+    find-written enough size o₁ wrote =
+        let yes : leb (length (foundBytes text literal)) (length o) ≡ true = sym is ∙ enough in
         record {
-          answer = simp (le-leb (length text) limit h, t, l, le-leb _ (length o) enough, is);
-          list = simp (le-leb (length text) limit h, t, l, le-leb _ (length o) enough) wrote;
+          answer = simp (le-leb (length text) limit h, t, l, yes, wrote .0);
+          list = simp (le-leb (length text) limit h, t, l, yes) (wrote .1);
         }

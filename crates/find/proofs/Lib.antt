@@ -2,4 +2,5 @@
 pub mod Passing
 pub mod Listing
 pub mod Progress
+pub mod Longest
 pub mod Answers

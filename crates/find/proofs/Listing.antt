@@ -12,7 +12,7 @@ use Rattle.runs.proofs.Everywhere.{le-or-lt, true-or-false}
 use Rattle.pattern.specs.declared.Place.{Place}
 use Rattle.find.specs.Encoding.{placeBytes, encoded, encodedPlaces}
 use Rattle.find.specs.Matching.{firstFrom, between, matchesFrom, foundPlaces, foundBytes}
-use Rattle.find.specs.Searching.{Laid}
+use Rattle.find.specs.Searching.{firstMatch, Laid}
 use Rattle.find.specs.Leftmost.{First, first-from, occurs-inside, matches-step}
 
 -- five stores
@@ -84,22 +84,39 @@ module _ (text literal : List ℕ) (at p : ℕ) (some : 0 < length literal) (mos
       ap encodedPlaces (matches-step text literal some at most)
       ∙ rw (← is, le-ltb p (length text) h, append-nil (between at p))
 
--- what is found, by the two tests
+-- what is found, by the first match
 module _ (text literal : List ℕ) where
-  pub found-no-text : length text ≡ 0 → foundBytes text literal ≡ placeBytes 11 0 0
+  pub first-of-none : length literal ≡ 0 → firstMatch text literal ≡ length text
+  unfolding firstMatch
+  first-of-none h = rw h
+
+  pub first-of-some : 0 < length literal → firstMatch text literal ≡ firstFrom text literal 0
+  unfolding firstMatch
+  first-of-some h = rw (ne-eqb (length literal) 0 (λ none. omega arith))
+
+  found-no-text : length text ≡ 0 → foundBytes text literal ≡ placeBytes 11 0 (length text)
   unfolding foundBytes foundPlaces encodedPlaces encoded placeBytes
   found-no-text h = rw h
 
-  pub found-no-literal : length literal ≡ 0 → foundBytes text literal ≡ placeBytes 11 0 (length text)
+  found-no-literal : length literal ≡ 0 → foundBytes text literal ≡ placeBytes 11 0 (length text)
   unfolding foundBytes foundPlaces encodedPlaces encoded placeBytes
   found-no-literal h = true-or-false (eqb (length text) 0) (λ t. rw t) (λ f. rw (f, eq-eqb (length literal) 0 h))
 
-  pub size-no-text : length text ≡ 0 → 5 ≡ length (foundBytes text literal)
-  size-no-text h = sym (ap length (found-no-text h) ∙ length-place 11 0 0)
-
-  pub size-no-literal : length literal ≡ 0 → 5 ≡ length (foundBytes text literal)
-  size-no-literal h = sym (ap length (found-no-literal h) ∙ length-place 11 0 (length text))
-
-  pub found-matches : (length text ≡ 0 → ⊥) → (length literal ≡ 0 → ⊥) → foundBytes text literal ≡ encodedPlaces (matchesFrom text literal 0)
+  pub found-matches : 0 < length text → 0 < length literal → foundBytes text literal ≡ encodedPlaces (matchesFrom text literal 0)
   unfolding foundBytes foundPlaces
-  found-matches t l = rw (ne-eqb (length text) 0 t, ne-eqb (length literal) 0 l)
+  found-matches t l =
+      rw (ne-eqb (length text) 0 (λ none. omega arith), ne-eqb (length literal) 0 (λ none. omega arith))
+
+  pub found-whole : firstMatch text literal ≡ length text → foundBytes text literal ≡ placeBytes 11 0 (length text)
+  found-whole e =
+      le-or-lt (length text) 0
+      (λ h. found-no-text (omega arith))
+      (λ t. le-or-lt (length literal) 0
+      (λ h. found-no-literal (omega arith))
+      (λ l.
+      found-matches t l
+      ∙ bytes-end text literal 0 (length text) l (omega arith) (sym e ∙ first-of-some l) (omega arith)
+      ∙ between-some 0 (length text) t))
+
+  pub size-whole : firstMatch text literal ≡ length text → 5 ≡ length (foundBytes text literal)
+  size-whole e = sym (ap length (found-whole e) ∙ length-place 11 0 (length text))

@@ -1,20 +1,20 @@
 -- Places at which a literal does not occur: told by two of its bytes, one by one and 64 at once, up to the first at which it does.
-use Prim.Native.Nat.{ℕ, _+_, _-_, _≤_, _<_}
-use mathlib.Core.Path.{_≡_, _∙_, refl, sym}
-use mathlib.Core.Bool.{Bool, true, false, _&&_, _||_, not}
+use Prim.Native.Nat.{ℕ, _+_, _-_, _≤_, _<_, min}
+use mathlib.Core.Path.{_≡_, _∙_, sym}
+use mathlib.Core.Bool.{Bool, true, false, cond, _&&_}
+use mathlib.Core.Logic.{inl, inr, ⊎-elim}
 use mathlib.Core.List.{List}
 use native.Mathlib.Omega.{arith}
 use lib.Dec.{eqb}
 use lib.ListN.{length, getD, drop}
 use lib.Seq.{getD-take, getD-drop}
 use borrow.Author.Tests.{eq-eqb}
-use Rattle.runs.specs.Every.{everyBelow}
 use Rattle.runs.specs.Splice.{part}
-use Rattle.runs.proofs.Everywhere.{le-or-lt, true-or-false, clash, every-suc, every-at}
+use Rattle.runs.proofs.Everywhere.{le-or-lt, true-or-false, clash}
 use Rattle.find.specs.Matching.{occursAt, firstFrom}
 use Rattle.find.specs.Leftmost.{first-unique, occurs-inside}
 use Rattle.find.specs.Covered.{occurs-byte}
-use Rattle.find.specs.Searching.{apart, Passed, Scanned}
+use Rattle.find.specs.Searching.{together, Candidate, Passed}
 
 pub occurs-not : (text literal : List ℕ) (p : ℕ) → 0 < length literal → (getD text p 0 ≡ getD literal 0 0 → ⊥) → false ≡ occursAt text literal p
 occurs-not text literal p some h =
@@ -22,85 +22,101 @@ occurs-not text literal p some h =
     true-or-false (occursAt text literal p) (λ t. absurd (h (rw z at (occurs-byte text literal p 0 some t)))) (λ f. sym f)
 
 -- the loop over a block
-not-or : (a b : Bool) → not (a || b) ≡ (not a && not b)
-not-or true b = refl
-not-or false b = refl
+pub candidate-none : (a b : List ℕ) (x y r : ℕ) → r ≡ 255 → Candidate a b x y 0 r
+candidate-none a b x y r none = record { before = λ k h l. absurd (omega arith); here = inl none }
 
-pub record Clear (a b : List ℕ) (x y : ℕ) (met : Bool) (j : ℕ) : Type 0 where
-  pub most : j ≤ 64
-  pub says : not met ≡ everyBelow j (apart a b x y)
+module _ (a b : List ℕ) (x y r j : ℕ) (c : Candidate a b x y j r) (h : j < 64) (v r₁ : ℕ) (least : r₁ ≡ min r v) where
+  candidate-hit : together a b x y j ≡ true → v ≡ j → Candidate a b x y (j + 1) r₁
+  candidate-hit t e =
+      record {
+        before = λ k l m. c .before k (omega arith) (omega arith);
+        here = inr
+            (⊎-elim
+            (λ none. let is : r₁ ≡ j = omega arith in (omega arith, rw is t))
+            (λ met. let is : r₁ ≡ r = omega (arith, met .0) in (omega (arith, met .0), rw is (met .1)))
+            (c .here));
+      }
 
-pub clear-none : (a b : List ℕ) (x y : ℕ) → Clear a b x y false 0
-unfolding everyBelow
-clear-none a b x y = record { most = omega arith; says = refl }
+  candidate-miss : together a b x y j ≡ false → v ≡ 255 → Candidate a b x y (j + 1) r₁
+  candidate-miss f e =
+      record {
+        before = λ k l m. le-or-lt j k (λ top. let is : k ≡ j = omega arith in rw is f) (λ below. c .before k below (omega arith));
+        here = ⊎-elim
+            (λ none. inl (omega arith))
+            (λ met. let is : r₁ ≡ r = omega (arith, met .0) in inr (omega (arith, met .0), rw is (met .1)))
+            (c .here);
+      }
 
-pub clear-more : (a b : List ℕ) (x y : ℕ) (met : Bool) (j : ℕ) → Clear a b x y met j → j < 64 → Clear a b x y (met || (eqb (getD a j 0) x && eqb (getD b j 0) y)) (j + 1)
-unfolding apart
-clear-more a b x y met j c h =
-    record { most = omega arith; says = not-or met _ ∙ rw (every-suc j (apart a b x y), c .says) }
+  pub candidate-more : v ≡ cond (eqb (getD a j 0) x && eqb (getD b j 0) y) j 255 → Candidate a b x y (j + 1) r₁
+  unfolding together
+  candidate-more e =
+      true-or-false (eqb (getD a j 0) x && eqb (getD b j 0) y)
+      (λ t. candidate-hit t (rw t at e))
+      (λ f. candidate-miss f (rw f at e))
 
-pub clear-done : (a b : List ℕ) (x y : ℕ) (met : Bool) (j : ℕ) → Clear a b x y met j → 64 ≤ j → not met ≡ everyBelow 64 (apart a b x y)
-clear-done a b x y met j c h = let full : j ≡ 64 = omega (arith, c .most) in rw full at (c .says)
+pub candidate-done : (a b : List ℕ) (x y r j : ℕ) → Candidate a b x y j r → j ≡ 64 → Candidate a b x y 64 r
+candidate-done a b x y r j c full = rw full at c
 
 part-at : (text : List ℕ) (i m : ℕ) → m < 64 → getD (part text i (i + 64)) m 0 ≡ getD text (i + m) 0
 part-at text i m h = getD-take (i + 64 - i) (drop i text) m 0 (omega arith) ∙ getD-drop i text m 0
 
-pub passed-none : (text literal : List ℕ) (from : ℕ) → Passed text literal from from
-passed-none text literal from = record { onward = omega arith; not-there = λ k a b. absurd (omega arith) }
+pub passed-none : (text literal : List ℕ) (from : ℕ) → from ≤ length text → Passed text literal from from
+passed-none text literal from h = record { onward = omega arith; most = h; not-there = λ k a b. absurd (omega arith) }
 
-pub passed-on : (text literal : List ℕ) (from i to : ℕ) → Passed text literal from i → Passed text literal i to → Passed text literal from to
+passed-on : (text literal : List ℕ) (from i to : ℕ) → Passed text literal from i → Passed text literal i to → Passed text literal from to
 passed-on text literal from i to p q =
     record {
       onward = omega (arith, p .onward, q .onward);
+      most = q .most;
       not-there = λ k a b. le-or-lt i k (λ h. q .not-there k h b) (λ h. p .not-there k a h);
     }
 
-pub passed-one : (text literal : List ℕ) (from i : ℕ) (r : Bool) → Passed text literal from i → r ≡ occursAt text literal i → r ≡ false → Passed text literal from (i + 1)
-passed-one text literal from i r p is away =
-    record {
-      onward = omega (arith, p .onward);
-      not-there = λ k a b. le-or-lt i k (λ h. let e : k ≡ i = omega arith in rw e (sym is ∙ away)) (λ h. p .not-there k a h);
-    }
+-- one place
+pub passed-one : (text literal : List ℕ) (from i to : ℕ) (r : Bool) → Passed text literal from i → r ≡ occursAt text literal i → r ≡ false → Passed text literal (i + 1) to → Passed text literal from to
+passed-one text literal from i to r p is away q =
+    passed-on text literal from i to p
+    (record {
+      onward = omega (arith, q .onward);
+      most = q .most;
+      not-there = λ k a b. le-or-lt k i (λ h. let e : k ≡ i = omega arith in rw e (sym is ∙ away)) (λ h. q .not-there k (omega arith) b);
+    })
 
--- a block that is clear
+-- places of a block before its candidate
 module _ (text literal : List ℕ) (i j w : ℕ) (some : 0 < length literal) (width : w ≡ length literal - 1) (beside : j ≡ i + w) where
-  not-in-block : everyBelow 64 (apart (part text i (i + 64)) (part text j (j + 64)) (getD literal 0 0) (getD literal w 0)) ≡ true → (m : ℕ) → m < 64 → occursAt text literal (i + m) ≡ true → ⊥
-  unfolding apart
-  not-in-block e m h o =
+  occurs-together : (m : ℕ) → m < 64 → occursAt text literal (i + m) ≡ true → together (part text i (i + 64)) (part text j (j + 64)) (getD literal 0 0) (getD literal w 0) m ≡ true
+  unfolding together
+  occurs-together m h o =
       let z : i + m + 0 ≡ i + m = omega arith in
       let far : i + m + w ≡ j + m = omega arith in
       let first : getD (part text i (i + 64)) m 0 ≡ getD literal 0 0 = part-at text i m h ∙ (rw z at (occurs-byte text literal (i + m) 0 some o)) in
       let last : getD (part text j (j + 64)) m 0 ≡ getD literal w 0 = part-at text j m h ∙ (rw far at (occurs-byte text literal (i + m) w (omega arith) o)) in
-      clash (not (eqb (getD (part text i (i + 64)) m 0) (getD literal 0 0) && eqb (getD (part text j (j + 64)) m 0) (getD literal w 0)))
-      (every-at 64 (apart (part text i (i + 64)) (part text j (j + 64)) (getD literal 0 0) (getD literal w 0)) e m h)
-      (rw (eq-eqb _ _ first, eq-eqb _ _ last))
+      rw (eq-eqb _ _ first, eq-eqb _ _ last)
 
-  pub passed-block : (from : ℕ) (r : Bool) → Passed text literal from i → r ≡ everyBelow 64 (apart (part text i (i + 64)) (part text j (j + 64)) (getD literal 0 0) (getD literal w 0)) → r ≡ true → Passed text literal from (i + 64)
-  passed-block from r p is free =
-      passed-on text literal from i (i + 64) p
+  pub passed-block : (from r m : ℕ) → Passed text literal from i → Candidate (part text i (i + 64)) (part text j (j + 64)) (getD literal 0 0) (getD literal w 0) 64 r → m ≤ 64 → m ≤ r → i + m ≤ length text → Passed text literal from (i + m)
+  passed-block from r m p c h l inside =
+      passed-on text literal from i (i + m) p
       (record {
         onward = omega arith;
+        most = inside;
         not-there = λ k a b.
             let at : i + (k - i) ≡ k = omega arith in
             true-or-false (occursAt text literal k)
-            (λ t. absurd (not-in-block (sym is ∙ free) (k - i) (omega arith) (rw at t)))
+            (λ t. clash _ (occurs-together (k - i) (omega arith) (rw at t)) (c .before (k - i) (omega arith) (omega arith)))
             (λ f. f);
       })
 
 -- the first place, or none
-module _ (text literal : List ℕ) (from : ℕ) (some : 0 < length literal) where
-  pub first-found : (block end p : ℕ) → Passed text literal from block → Scanned text literal block end p → p < end → p ≡ firstFrom text literal from
-  first-found block end p q s h =
-      let all : Passed text literal from p = passed-on text literal from block p q (s .passed) in
-      let inside : p + length literal ≤ length text = occurs-inside text literal p some (s .occurs h) in
-      first-unique text literal from p
-      (record { from = all .onward; most = omega arith; before = all .not-there; occurs = λ k. s .occurs h })
+module _ (text literal : List ℕ) (from i : ℕ) (some : 0 < length literal) (p : Passed text literal from i) where
+  pub first-found : (r : Bool) → r ≡ occursAt text literal i → r ≡ true → i ≡ firstFrom text literal from
+  first-found r is met =
+      first-unique text literal from i
+      (record { from = p .onward; most = p .most; before = p .not-there; occurs = λ k. sym is ∙ met })
 
-  pub first-none : (i : ℕ) → from ≤ length text → Passed text literal from i → length text < i + length literal → length text ≡ firstFrom text literal from
-  first-none i most p past =
+  pub first-none : length text < i + length literal → length text ≡ firstFrom text literal from
+  first-none past =
       first-unique text literal from (length text)
       (record {
-        from = most;
+        from = omega (arith, p .onward, p .most);
         most = omega arith;
         before = λ k a b. le-or-lt i k
             (λ h. true-or-false (occursAt text literal k) (λ t. absurd (omega (arith, occurs-inside text literal k some t))) (λ f. f))

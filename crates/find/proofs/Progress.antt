@@ -4,16 +4,16 @@ use mathlib.Core.Path.{_≡_, _∙_, ap, sym}
 use mathlib.Core.List.{List, [], _++_, append-nil}
 use native.Mathlib.Omega.{arith}
 use lib.ListN.{length, length-append}
+use lib.Seq.{length-take-le}
 use Rattle.runs.specs.Splice.{splice, overlay}
 use Rattle.runs.proofs.Everywhere.{le-or-lt}
 use Rattle.runs.proofs.Laying.{Laying, length-splice, none-laid, piece-laid, all-laid}
 use Rattle.note.specs.Notes.{limit}
 use Rattle.find.specs.Encoding.{placeBytes, encodedPlaces}
 use Rattle.find.specs.Matching.{firstFrom, between, matchesFrom, foundBytes}
-use Rattle.find.specs.Searching.{Room, Laid}
+use Rattle.find.specs.Searching.{firstMatch, Room, Laid}
 use Rattle.find.specs.Leftmost.{First, first-from}
-use Rattle.find.specs.Covered.{positive}
-use Rattle.find.proofs.Listing.{length-place, size-most, match-inside, bytes-match, bytes-end, found-matches, found-no-text, found-no-literal}
+use Rattle.find.proofs.Listing.{length-place, size-most, match-inside, bytes-match, bytes-end, first-of-none, first-of-some, found-matches, found-whole, size-whole}
 
 -- the search goes on from `at`, and p is the first match from there, or the end
 pub record Searched (text literal : List ℕ) (at p : ℕ) : Type 0 where
@@ -21,22 +21,25 @@ pub record Searched (text literal : List ℕ) (at p : ℕ) : Type 0 where
   pub most : at ≤ length text
   pub next : p ≡ firstFrom text literal at
 
-searched-none : (text literal : List ℕ) (p : ℕ) → (length literal ≡ 0 → ⊥) → p ≡ firstFrom text literal 0 → Searched text literal 0 p
-searched-none text literal p l e = record { some = positive (length literal) l; most = omega arith; next = e }
+searched-none : (text literal : List ℕ) (p : ℕ) → p ≡ firstMatch text literal → (p ≡ length text → ⊥) → Searched text literal 0 p
+searched-none text literal p is met =
+    le-or-lt (length literal) 0
+    (λ h. absurd (met (is ∙ first-of-none text literal (omega arith))))
+    (λ some. record { some = some; most = omega arith; next = is ∙ first-of-some text literal some })
 
 module _ (text literal : List ℕ) (at p : ℕ) (s : Searched text literal at p) where
   pub match-fits : p < length text → (at ≤ p) × (p + length literal ≤ length text)
   match-fits h = match-inside text literal at p (s .some) (s .most) (s .next) h
 
-  size-match : p < length text → length (encodedPlaces (matchesFrom text literal at)) ≡ length (encodedPlaces (between at p)) + (5 + length (encodedPlaces (matchesFrom text literal (p + length literal))))
+  pub size-match : p < length text → length (encodedPlaces (matchesFrom text literal at)) ≡ length (encodedPlaces (between at p)) + (5 + length (encodedPlaces (matchesFrom text literal (p + length literal))))
   size-match h =
       ap length (bytes-match text literal at p (s .some) (s .most) (s .next) h)
       ∙ simp (length-append, length-place)
 
-  size-end : length text ≤ p → length (encodedPlaces (matchesFrom text literal at)) ≡ length (encodedPlaces (between at p))
+  pub size-end : length text ≤ p → length (encodedPlaces (matchesFrom text literal at)) ≡ length (encodedPlaces (between at p))
   size-end h = ap length (bytes-end text literal at p (s .some) (s .most) (s .next) h)
 
-  searched-more : (q : ℕ) → p < length text → q ≡ firstFrom text literal (p + length literal) → Searched text literal (p + length literal) q
+  pub searched-more : (q : ℕ) → p < length text → q ≡ firstFrom text literal (p + length literal) → Searched text literal (p + length literal) q
   searched-more q h e = record { some = s .some; most = match-fits h .1; next = e }
 
   -- p is a place of the text
@@ -48,11 +51,27 @@ pub record Measured (text literal : List ℕ) (size at p : ℕ) : Type 0 where
   pub total : size + length (encodedPlaces (matchesFrom text literal at)) ≡ length (foundBytes text literal)
   pub small : size ≤ 10 * at
 
-module _ (text literal : List ℕ) where
-  pub measured-none : (p : ℕ) → (length text ≡ 0 → ⊥) → (length literal ≡ 0 → ⊥) → p ≡ firstFrom text literal 0 → Measured text literal 0 0 p
-  measured-none p t l e =
-      record { stands = searched-none text literal p l e; total = omega (arith, ap length (found-matches text literal t l)); small = omega arith }
+pub record Listed (text literal d₀ d : List ℕ) (i at p : ℕ) : Type 0 where
+  pub stands : Searched text literal at p
+  pub laid : Laying (foundBytes text literal) (encodedPlaces (matchesFrom text literal at)) d₀ i d
 
+module _ (text literal : List ℕ) (p : ℕ) (is : p ≡ firstMatch text literal) (met : p ≡ length text → ⊥) where
+  found-from : foundBytes text literal ≡ encodedPlaces (matchesFrom text literal 0)
+  found-from =
+      let s : Searched text literal 0 p = searched-none text literal p is met in
+      le-or-lt (length text) 0
+      (λ h. absurd (met (omega (arith, match-most text literal 0 p s .1))))
+      (λ t. found-matches text literal t (s .some))
+
+  pub measured-none : Measured text literal 0 0 p
+  measured-none =
+      record { stands = searched-none text literal p is met; total = omega (arith, ap length found-from); small = omega arith }
+
+  pub listed-none : (d₀ : List ℕ) → length (foundBytes text literal) ≤ length d₀ → Listed text literal d₀ d₀ 0 0 p
+  listed-none d₀ h =
+      record { stands = searched-none text literal p is met; laid = rw found-from (none-laid _ d₀ (rw found-from at h)) }
+
+module _ (text literal : List ℕ) where
   pub measured-more : (size at p b at₁ q : ℕ) → Measured text literal size at p → p < length text → b ≡ length (encodedPlaces (between at p)) → at₁ ≡ p + length literal → q ≡ firstFrom text literal at₁ → Measured text literal (size + (b + 5)) at₁ q
   measured-more size at p b at₁ q m h is on e =
       record {
@@ -64,18 +83,12 @@ module _ (text literal : List ℕ) where
   pub measured-done : (size at p b : ℕ) → Measured text literal size at p → length text ≤ p → b ≡ length (encodedPlaces (between at p)) → size + b ≡ length (foundBytes text literal)
   measured-done size at p b m h is = omega (arith, m .total, size-end text literal at p (m .stands) h)
 
-pub record Listed (text literal d₀ d : List ℕ) (i at p : ℕ) : Type 0 where
-  pub stands : Searched text literal at p
-  pub laid : Laying (foundBytes text literal) (encodedPlaces (matchesFrom text literal at)) d₀ i d
+-- what stands so far and what is still to be laid have the bytes of the whole
+laid-size : (whole rest d₀ : List ℕ) (at : ℕ) (d : List ℕ) → Laying whole rest d₀ at d → at + length rest ≡ length whole
+laid-size whole rest d₀ at d l =
+    rw (length-append, length-take-le at d (omega (arith, l .room))) at (ap length (l .so-far))
 
 module _ (text literal d₀ : List ℕ) where
-  pub listed-none : (p : ℕ) → (length text ≡ 0 → ⊥) → (length literal ≡ 0 → ⊥) → p ≡ firstFrom text literal 0 → length (foundBytes text literal) ≤ length d₀ → Listed text literal d₀ d₀ 0 0 p
-  listed-none p t l e h =
-      record {
-        stands = searched-none text literal p l e;
-        laid = rw (found-matches text literal t l) (none-laid _ d₀ (rw (found-matches text literal t l) at h));
-      }
-
   module _ (d : List ℕ) (i at p : ℕ) (w : Listed text literal d₀ d i at p) where
     pub room-between : length text ≤ limit → Room at p (length d) (i + length (encodedPlaces (between at p)))
     room-between short =
@@ -111,21 +124,19 @@ module _ (text literal d₀ : List ℕ) where
                 (i₁ + 5) d₂ (ap (_+_ i₁) (sym (length-place 12 p (p + length literal)))) is;
           }
 
-      pub listed-done : length text ≤ p → d₁ ≡ overlay (foundBytes text literal) d₀
+      pub listed-done : length text ≤ p → (i₁ ≡ length (foundBytes text literal)) × (d₁ ≡ overlay (foundBytes text literal) d₀)
       listed-done h =
           let s = w .stands in
           let rest : encodedPlaces (matchesFrom text literal at) ≡ encodedPlaces (between at p) ++ [] =
           bytes-end text literal at p (s .some) (s .most) (s .next) h ∙ sym (append-nil _) in
-          all-laid _ d₀ i₁ d₁ (piece-laid _ _ _ d₀ i d (rw rest at (w .laid)) i₁ d₁ (g .reach) (g .holds))
+          let all = piece-laid _ _ _ d₀ i d (rw rest at (w .laid)) i₁ d₁ (g .reach) (g .holds) in
+          (omega (arith, laid-size _ _ _ _ _ all), all-laid _ d₀ i₁ d₁ all)
 
 -- one place for the whole text
 splice-overlay : (d r : List ℕ) → splice d 0 r ≡ overlay r d
 unfolding splice overlay
 splice-overlay d r = let z : 0 + length r ≡ length r = omega arith in rw z
 
-module _ (text literal d₀ d : List ℕ) where
-  pub whole-no-text : length text ≡ 0 → d ≡ splice d₀ 0 (placeBytes 11 0 0) → d ≡ overlay (foundBytes text literal) d₀
-  whole-no-text h is = is ∙ splice-overlay d₀ _ ∙ rw (found-no-text text literal h)
-
-  pub whole-no-literal : length literal ≡ 0 → d ≡ splice d₀ 0 (placeBytes 11 0 (length text)) → d ≡ overlay (foundBytes text literal) d₀
-  whole-no-literal h is = is ∙ splice-overlay d₀ _ ∙ rw (found-no-literal text literal h)
+pub whole-laid : (text literal d₀ d : List ℕ) → firstMatch text literal ≡ length text → d ≡ splice d₀ 0 (placeBytes 11 0 (length text)) → (5 ≡ length (foundBytes text literal)) × (d ≡ overlay (foundBytes text literal) d₀)
+whole-laid text literal d₀ d none is =
+    (size-whole text literal none, is ∙ splice-overlay d₀ _ ∙ rw (found-whole text literal none))

@@ -33,7 +33,7 @@ covers-end : (text : List ℕ) (p : ℕ) → p ≡ length text → coversFrom te
 unfolding coversFrom
 covers-end text p end = eq-eqb p (length text) end
 
-pub positive : (n : ℕ) → (n ≡ 0 → ⊥) → 0 < n
+positive : (n : ℕ) → (n ≡ 0 → ⊥) → 0 < n
 positive zero h = absurd (h refl)
 positive (suc n) h = omega arith
 

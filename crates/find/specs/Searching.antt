@@ -1,34 +1,33 @@
 -- What the contracts of the inner functions are said with, of searching and of writing.
 use Prim.Native.Nat.{ℕ, _+_, _≤_, _<_}
 use mathlib.Core.Path.{_≡_}
-use mathlib.Core.Bool.{Bool, true, false, _&&_, not}
+use mathlib.Core.Bool.{Bool, true, false, cond, _&&_}
+use mathlib.Core.Logic.{_⊎_}
 use mathlib.Core.List.{List}
 use lib.Dec.{eqb}
 use lib.ListN.{length, getD}
 use Rattle.runs.specs.Splice.{splice}
 use Rattle.note.specs.Notes.{limit}
-use Rattle.find.specs.Matching.{occursAt}
+use Rattle.find.specs.Matching.{occursAt, firstFrom}
 
--- not both: `first` in a and `last` in b, at one index
-unfoldable pub apart : List ℕ → List ℕ → ℕ → ℕ → ℕ → Bool
-apart a b first last j = not (eqb (getD a j 0) first && eqb (getD b j 0) last)
+-- `first` stands in a and `last` in b, at one index
+unfoldable pub together : List ℕ → List ℕ → ℕ → ℕ → ℕ → Bool
+together a b first last j = eqb (getD a j 0) first && eqb (getD b j 0) last
 
--- places from `from` up to `stop`, at each of which a literal with a byte ends inside the text
-pub record Places (text literal : List ℕ) (from stop : ℕ) : Type 0 where
-  pub some : 0 < length literal
-  pub onward : from ≤ stop
-  pub inside : stop + length literal ≤ length text + 1
+-- r is the first of n places at which they do, or 255 where they do at none
+pub record Candidate (a b : List ℕ) (first last n r : ℕ) : Type 0 where
+  pub before : (k : ℕ) → k < n → k < r → together a b first last k ≡ false
+  pub here : (r ≡ 255) ⊎ ((r < n) × (together a b first last r ≡ true))
 
--- the literal occurs at no place from `from` up to `to`
+-- the literal occurs at no place from `from` up to `to`, which is one of the text's
 pub record Passed (text literal : List ℕ) (from to : ℕ) : Type 0 where
   pub onward : from ≤ to
+  pub most : to ≤ length text
   pub not-there : (k : ℕ) → from ≤ k → k < to → occursAt text literal k ≡ false
 
--- r is the first place before `stop` at which it occurs, or `stop`
-pub record Scanned (text literal : List ℕ) (from stop r : ℕ) : Type 0 where
-  pub passed : Passed text literal from r
-  pub most : r ≤ stop
-  pub occurs : r < stop → occursAt text literal r ≡ true
+-- the first match; the text's length where there is none, as of a literal without a byte
+unfoldable pub firstMatch : List ℕ → List ℕ → ℕ
+firstMatch text literal = cond (eqb (length literal) 0) (length text) (firstFrom text literal 0)
 
 -- a place that two bytes each can say, and room up to `to`
 pub record Room (start end room to : ℕ) : Type 0 where

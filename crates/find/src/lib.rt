@@ -1,21 +1,23 @@
 // Finding a literal (document 01; Rust: `Pattern for &str`): leftmost, non-overlapping matches as a covering match list.
-// The list is measured by one search through the text, and written by a second one once there is room for it.
+// The list is written by one search through the text where the room that is lent holds any list; where it may not, another one measures it first.
 pub mod search;
 
 use note::LIMIT;
 use note::Refusal;
+use search::first_match;
 use search::next_match;
 use validity::well_formed;
 ghost use mathlib.Core.Path.{_≡_};
 ghost use mathlib.Core.Bool.{true};
 ghost use Prim.Native.Nat.{_+_, _≤_};
+ghost use lib.Dec.{leb};
 ghost use lib.ListN.{length};
 ghost use Rattle.runs.specs.Splice.{overlay, splice};
 ghost use Rattle.utf8.specs.Formed.{wellFormed};
 ghost use Rattle.note.specs.Notes.{limit};
 ghost use Rattle.find.specs.Encoding.{encodedPlaces, placeBytes};
 ghost use Rattle.find.specs.Matching.{Finding, between, foundBytes};
-ghost use Rattle.find.specs.Searching.{Room, Laid};
+ghost use Rattle.find.specs.Searching.{firstMatch, Room, Laid};
 
 // What finding says: how many bytes of the list were written.
 pub enum Matches {
@@ -33,26 +35,38 @@ fn between_size(from: usize, to: usize) -> usize
     0
 }
 
-// How many bytes the list of a literal's matches has.
-fn measure(text: &[u8], literal: &[u8]) -> usize
-    requires { ⌜ length (now text) ≤ limit ⌝ }
+// How many bytes the list of a literal's matches has, from the first match on.
+fn measure(text: &[u8], literal: &[u8], first: usize) -> usize
+    requires { ⌜ (length (now text) ≤ limit) × (first ≡ firstMatch (now text) (now literal)) ⌝ }
     ensures { λ r. ⌜ r ≡ length (foundBytes (now (text .entry)) (now (literal .entry))) ⌝ }
 {
-    if text.len() == 0 {
-        return 5;
-    }
-    if literal.len() == 0 {
+    if first == text.len() {
         return 5;
     }
     let mut size = 0;
     let mut at = 0;
-    let mut p = next_match(text, literal, 0);
+    let mut p = first;
     while p < text.len() {
         size += between_size(at, p) + 5;
         at = p + literal.len();
         p = next_match(text, literal, at);
     }
     size + between_size(at, p)
+}
+
+// Whether so much room holds the list. A literal of m bytes has at most n / m matches in n bytes, and something may stand before each one
+// and behind the last: where the longest such list fits, nothing is measured.
+fn list_fits(text: &[u8], literal: &[u8], first: usize, room: usize) -> bool
+    requires { ⌜ (length (now text) ≤ limit) × (first ≡ firstMatch (now text) (now literal)) ⌝ }
+    ensures { λ r. ⌜ r ≡ leb (length (foundBytes (now (text .entry)) (now (literal .entry)))) room ⌝ }
+{
+    if literal.len() == 0 {
+        return 5 <= room;
+    }
+    if 5 * (2 * (text.len() / literal.len()) + 1) <= room {
+        return true;
+    }
+    measure(text, literal, first) <= room
 }
 
 // A place with its command, in the list from `i` on.
@@ -79,22 +93,18 @@ fn write_between(start: usize, end: usize, out: &mut [u8], i: usize) -> usize
     i
 }
 
-// The list of a literal's matches, for which there is room.
-fn write_list(text: &[u8], literal: &[u8], out: &mut [u8])
-    requires { ⌜ (length (now text) ≤ limit) × (length (foundBytes (now text) (now literal)) ≤ length (now out)) ⌝ }
-    ensures { λ _. ⌜ now (out .exit) ≡ overlay (foundBytes (now (text .entry)) (now (literal .entry))) (now (out .entry)) ⌝ }
+// The list of a literal's matches, from the first match on, for which there is room; how many bytes it has.
+fn write_list(text: &[u8], literal: &[u8], first: usize, out: &mut [u8]) -> usize
+    requires { ⌜ (length (now text) ≤ limit) × (first ≡ firstMatch (now text) (now literal)) × (length (foundBytes (now text) (now literal)) ≤ length (now out)) ⌝ }
+    ensures { λ r. ⌜ (r ≡ length (foundBytes (now (text .entry)) (now (literal .entry)))) × (now (out .exit) ≡ overlay (foundBytes (now (text .entry)) (now (literal .entry))) (now (out .entry))) ⌝ }
 {
-    if text.len() == 0 {
-        write_place(11, 0, 0, out, 0);
-        return;
-    }
-    if literal.len() == 0 {
+    if first == text.len() {
         write_place(11, 0, text.len(), out, 0);
-        return;
+        return 5;
     }
     let mut i = 0;
     let mut at = 0;
-    let mut start = next_match(text, literal, 0);
+    let mut start = first;
     while start < text.len() {
         i = write_between(at, start, out, i);
         at = start + literal.len();
@@ -102,7 +112,7 @@ fn write_list(text: &[u8], literal: &[u8], out: &mut [u8])
         i += 5;
         start = next_match(text, literal, at);
     }
-    write_between(at, start, out, i);
+    write_between(at, start, out, i)
 }
 
 // `find_matches` for proved callers that have judged the text.
@@ -113,12 +123,11 @@ pub fn find_formed(text: &[u8], literal: &[u8], out: &mut [u8]) -> Matches
     if !well_formed(literal) {
         return Matches::Refused(Refusal::IllFormed);
     }
-    let size = measure(text, literal);
-    if out.len() < size {
+    let first = first_match(text, literal);
+    if !list_fits(text, literal, first, out.len()) {
         return Matches::Refused(Refusal::NoRoom);
     }
-    write_list(text, literal, out);
-    Matches::Written(size)
+    Matches::Written(write_list(text, literal, first, out))
 }
 
 // The literal's matches in the text, and what stands between them, as a match list in `out`. Refusals, in this order: 2, 1, 9.

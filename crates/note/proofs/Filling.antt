@@ -3,7 +3,7 @@ use Prim.Native.Nat.{ℕ, _+_, _-_, _≤_, _<_}
 use mathlib.Core.Path.{_≡_, _∙_, refl, sym}
 use mathlib.Core.List.{List, _++_}
 use native.Mathlib.Omega.{arith}
-use lib.ListN.{length, drop, set, length-append, length-drop, length-set, List·getD-append}
+use lib.ListN.{length, getD, drop, set, length-append, length-drop, length-set, List·getD-append}
 use lib.Seq.{getD-append-add, getD-drop, getD-set-same, getD-set-other, ext-getD}
 use Rattle.runs.specs.Splice.{overlay}
 use Rattle.runs.proofs.Everywhere.{le-or-lt}
@@ -26,6 +26,20 @@ filled-up f d₀ a i d x w h is =
           (λ below. getD-set-other d i k x 0 (λ e. absurd (omega arith)) ∙ w .within k from below);
       before = λ k below. getD-set-other d i k x 0 (λ e. absurd (omega (arith, w .ordered))) ∙ w .before k below;
       beyond = λ k from. getD-set-other d i k x 0 (λ e. absurd (omega arith)) ∙ w .beyond k (omega arith);
+    }
+
+-- one more that stands there already
+pub filled-kept : (f : ℕ → ℕ) (d₀ : List ℕ) (a i : ℕ) (d : List ℕ) → Filled f d₀ a i d → getD d₀ i 0 ≡ f i → Filled f d₀ a (i + 1) d
+filled-kept f d₀ a i d w is =
+    record {
+      ordered = omega (arith, w .ordered);
+      same = w .same;
+      within = λ k from to.
+          le-or-lt i k
+          (λ top. let last : k ≡ i = omega arith in rw last (w .beyond i (omega arith) ∙ is))
+          (λ below. w .within k from below);
+      before = w .before;
+      beyond = λ k from. w .beyond k (omega arith);
     }
 
 -- one more number before the others

@@ -1,4 +1,4 @@
--- The text is judged; the rest is `find_formed`.
+-- Each refusal of the text by the tests before it.
 use mathlib.Core.Path.{_∙_, sym}
 use borrow.Author.Tests.{not-true, not-false}
 use Rattle.find.proofs.Answers.{find-too-long, find-torn-text}

@@ -1,29 +1,24 @@
 -- Each turn counts one match, and what stands before it.
-use lib.ListN.{length}
 use Prim.Native.Nat.{_-_}
-use Rattle.find.proofs.Listing.{size-most, size-no-text, size-no-literal}
+use mathlib.Core.Path.{_∙_, sym}
+use lib.ListN.{length}
+use Rattle.find.proofs.Listing.{size-most, size-whole}
 use Rattle.find.proofs.Progress.{Measured, measured-none, measured-more, measured-done, match-fits}
 use native.Mathlib.Omega.{arith}
 use Rattle.find.proofs.measure.Statement.{statement}
 use Rattle.find.proofs.measure.Tie as tie
 
 abbrev Inv-loop : tie.InvT-loop
-Inv-loop text literal size₀ at₀ p₀ size at p = Measured text literal size at p
+Inv-loop text literal first size₀ at₀ p₀ size at p = Measured text literal size at p
 
 abbrev μ-loop : tie.MeasureT-loop
-μ-loop text literal size₀ at₀ p₀ size at p = length text - at
+μ-loop text literal first size₀ at₀ p₀ size at p = length text - at
 
 returns : tie.Need-returns Inv-loop μ-loop
-returns c = size-no-text _ _ (c .if1 .taken)
-
-returns-2 : tie.Need-returns-2 Inv-loop μ-loop
-returns-2 c = size-no-literal _ _ (c .if2 .taken)
-
-next-match-requires : tie.Need-next-match-requires Inv-loop μ-loop
-next-match-requires c κs = (omega arith, omega arith)
+returns c = size-whole _ _ (sym (c .before .before .before .pre .1) ∙ c .if1 .taken)
 
 loop-holds : tie.Need-loop-holds Inv-loop μ-loop
-loop-holds c = measured-none _ _ _ (c .before .before .if1 .left) (c .before .if2 .left) (c .next-match .ensures)
+loop-holds c = measured-none _ _ _ (c .before .before .before .pre .1) (c .if1 .left)
 
 between-size-requires : tie.Need-between-size-requires Inv-loop μ-loop
 between-size-requires c κs = omega arith
@@ -37,14 +32,14 @@ add-size-2 c = omega (arith, c .between-size .ensures, size-most (c .before .bef
 add-at : tie.Need-add-at Inv-loop μ-loop
 add-at c = omega (arith, match-fits _ _ _ _ (c .before .before .loop .inv .stands) (c .before .loop-test .taken))
 
-next-match-requires-2 : tie.Need-next-match-requires-2 Inv-loop μ-loop
-next-match-requires-2 c κs = (omega arith, omega (arith, match-fits _ _ _ _ (c .before .before .loop .inv .stands) (c .before .loop-test .taken)))
+next-match-requires : tie.Need-next-match-requires Inv-loop μ-loop
+next-match-requires c κs = (omega arith, omega (arith, match-fits _ _ _ _ (c .before .before .loop .inv .stands) (c .before .loop-test .taken)))
 
 loop-less : tie.Need-loop-less Inv-loop μ-loop
 loop-less c = omega (arith, match-fits _ _ _ _ (c .before .before .before .loop .inv .stands) (c .before .before .loop-test .taken))
 
 loop-again : tie.Need-loop-again Inv-loop μ-loop
-loop-again c = measured-more _ _ _ _ _ _ _ _ (c .before .before .before .loop .inv) (c .before .before .loop-test .taken) (c .before .between-size .ensures) (omega arith) (c .next-match2 .ensures)
+loop-again c = measured-more _ _ _ _ _ _ _ _ (c .before .before .before .loop .inv) (c .before .before .loop-test .taken) (c .before .between-size .ensures) (omega arith) (c .next-match .ensures)
 
 between-size-requires-2 : tie.Need-between-size-requires-2 Inv-loop μ-loop
 between-size-requires-2 c κs = omega arith
@@ -52,8 +47,8 @@ between-size-requires-2 c κs = omega arith
 add-result : tie.Need-add-result Inv-loop μ-loop
 add-result c = omega (arith, c .between-size2 .ensures, size-most (c .before .before .loop .at) (c .before .before .loop .p))
 
-returns-3 : tie.Need-returns-3 Inv-loop μ-loop
-returns-3 c = measured-done _ _ _ _ _ _ (c .before .before .loop .inv) (c .before .loop-test .left) (c .between-size2 .ensures)
+returns-2 : tie.Need-returns-2 Inv-loop μ-loop
+returns-2 c = measured-done _ _ _ _ _ _ (c .before .before .loop .inv) (c .before .loop-test .left) (c .between-size2 .ensures)
 
 pub measure-spec : {M : Type 1} → statement M
 measure-spec =
@@ -62,16 +57,14 @@ measure-spec =
     Inv-loop
     μ-loop
     returns
-    returns-2
-    next-match-requires
     loop-holds
     between-size-requires
     add-size
     add-size-2
     add-at
-    next-match-requires-2
+    next-match-requires
     loop-less
     loop-again
     between-size-requires-2
     add-result
-    returns-3)
+    returns-2)
