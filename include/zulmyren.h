@@ -112,6 +112,16 @@ zulmyren_count zulmyren_replace(
     const uint8_t *list, size_t list_len, const uint8_t *filler, size_t filler_len, uint8_t *out, size_t out_len,
     uint16_t *out_starts, size_t out_starts_len, uint16_t *out_ends, size_t out_ends_len);
 
+/* Every match of a literal in a fresh text blanked, in one call: zulmyren_from_text, zulmyren_find_matches and zulmyren_replace one after the other, each text judged once.
+ * The first text_len starts and ends are then the fresh note's, the front of list is the list of the matches, and the first count bytes of out, and as many of out_starts and
+ * out_ends, are the published note. Refusals: 2 (the text), 1 (text, literal or filler), 9 (any of the six buffers is too small, or the published text is over 65,535 bytes);
+ * count is 0 where it refuses. Always enough: text_len for starts and ends; 5 * (2 * (text_len / literal_len) + 1) bytes for list, 5 where the literal is empty; text_len for out,
+ * out_starts and out_ends where the filler is no longer than the literal, and 65,535 for any filler. */
+zulmyren_count zulmyren_redact(
+    const uint8_t *text, size_t text_len, const uint8_t *literal, size_t literal_len, const uint8_t *filler, size_t filler_len,
+    uint16_t *starts, size_t starts_len, uint16_t *ends, size_t ends_len, uint8_t *list, size_t list_len, uint8_t *out, size_t out_len,
+    uint16_t *out_starts, size_t out_starts_len, uint16_t *out_ends, size_t out_ends_len);
+
 /* Whether two notes, with the same places blanked by the same filler, are published alike, byte for byte and alignment for alignment: count is 1 or 0. That is so exactly
  * when they agree outside the matched places and, where the filler is not empty, on the alignment of the byte before each matched place's end. Refusals: those
  * of replacing the first note, then the second, with buffers of 65,535. */

@@ -112,7 +112,7 @@ fn letter_count(section: &mut Section, text: &[u8], start: usize, end: usize) {
 }
 
 fn letter_counts() -> Section {
-    let mut section = Section::new(2, "note::letters::letter_count");
+    let mut section = Section::new(2, "positions::letters::letter_count");
     for text in worked().into_iter().chain(around_the_limit()) {
         for (start, end) in [(0, text.len()), (0, 0), (text.len(), text.len()), (0, text.len() + 1), (9, 3)] {
             letter_count(&mut section, &text, start, end);
@@ -164,7 +164,7 @@ fn starting_note(section: &mut Section, text: &[u8], room: (usize, usize)) {
 }
 
 fn starting_notes() -> Section {
-    let mut section = Section::new(3, "note::starting::from_text");
+    let mut section = Section::new(3, "starting::from_text");
     for text in worked().into_iter().chain(around_the_limit()) {
         let len = text.len();
         for room in [(len, len), (LIMIT + 1, LIMIT + 1), (len - 1, len), (len, len - 1)] {

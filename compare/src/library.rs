@@ -77,6 +77,26 @@ extern "C" {
         filler: *const u8,
         filler_len: usize,
     ) -> Count;
+    pub fn zulmyren_redact(
+        text: *const u8,
+        text_len: usize,
+        literal: *const u8,
+        literal_len: usize,
+        filler: *const u8,
+        filler_len: usize,
+        starts: *mut u16,
+        starts_len: usize,
+        ends: *mut u16,
+        ends_len: usize,
+        list: *mut u8,
+        list_len: usize,
+        out: *mut u8,
+        out_len: usize,
+        out_starts: *mut u16,
+        out_starts_len: usize,
+        out_ends: *mut u16,
+        out_ends_len: usize,
+    ) -> Count;
     pub fn zulmyren_find_matches(
         text: *const u8,
         text_len: usize,
@@ -422,4 +442,39 @@ pub fn find_matches(text: &[u8], literal: &[u8], out: &mut [u8]) -> Count {
     Count::from(unsafe {
         zulmyren_find_matches(text.as_ptr(), text.len(), literal.as_ptr(), literal.len(), out.as_mut_ptr(), out.len())
     })
+}
+
+/// The buffers lent to `redact`.
+pub struct Redacting<'a> {
+    pub starts: &'a mut [u16],
+    pub ends: &'a mut [u16],
+    pub list: &'a mut [u8],
+    pub out: &'a mut [u8],
+    pub out_starts: &'a mut [u16],
+    pub out_ends: &'a mut [u16],
+}
+
+pub fn redact(text: &[u8], literal: &[u8], filler: &[u8], lent: Redacting) -> Count {
+    unsafe {
+        zulmyren_redact(
+            text.as_ptr(),
+            text.len(),
+            literal.as_ptr(),
+            literal.len(),
+            filler.as_ptr(),
+            filler.len(),
+            lent.starts.as_mut_ptr(),
+            lent.starts.len(),
+            lent.ends.as_mut_ptr(),
+            lent.ends.len(),
+            lent.list.as_mut_ptr(),
+            lent.list.len(),
+            lent.out.as_mut_ptr(),
+            lent.out.len(),
+            lent.out_starts.as_mut_ptr(),
+            lent.out_starts.len(),
+            lent.out_ends.as_mut_ptr(),
+            lent.out_ends.len(),
+        )
+    }
 }

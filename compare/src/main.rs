@@ -19,6 +19,7 @@ mod notes;
 mod places;
 mod positions;
 mod random;
+mod redact;
 mod replace;
 mod samples;
 mod tally;
@@ -46,6 +47,7 @@ fn compare() -> ExitCode {
     positions::compare(&mut report);
     find::compare(&mut report);
     replace::compare(&mut report);
+    redact::compare(&mut report);
     comments::compare(&mut report);
     report.finish()
 }
@@ -58,5 +60,6 @@ fn measure() -> ExitCode {
     positions::bench();
     find::bench();
     replace::bench();
+    redact::bench();
     ExitCode::SUCCESS
 }

@@ -455,7 +455,7 @@ fn nothing_anywhere(tally: &mut Tally) {
 }
 
 pub const LITERAL: &str = "Nest 12";
-const FILLER: &str = "*****";
+pub const FILLER: &str = "*****";
 
 /// The bench's texts with `LITERAL` every 45 bytes, and their places.
 pub fn bench_texts() -> Vec<(&'static str, String, Vec<Place>)> {

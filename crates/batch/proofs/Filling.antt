@@ -9,7 +9,9 @@ use lib.ListN.{length, getD, set, drop, replicate, length-replicate, getD-replic
 use lib.Seq.{drop-at}
 use borrow.Author.Tests.{le-leb, lt-leb, le-ltb, ltb-true, leb-true, eq-eqb, ne-eqb}
 use Rattle.runs.specs.Splice.{splice, overlay}
+use Rattle.runs.specs.Columns.{Filled}
 use Rattle.runs.proofs.Everywhere.{and-true, and-left, and-right, and-false-l, and-false-r, and-unit, clash, true-or-false}
+use Rattle.runs.proofs.Filling.{none-filled, filled-up, filled-kept, all-filled, length-column}
 use Rattle.runs.proofs.Laying.{length-splice}
 use Rattle.note.specs.declared.Refusal.{Refusal}
 use Rattle.note.specs.declared.Refusal.the-variants.{IllFormed, TooLong, LengthMismatch, Misaligned, NotBoundary, BadScript, Exhausted, BadMatches, NoRoom, Missing, CountMismatch}
@@ -17,9 +19,6 @@ use Rattle.note.specs.declared.Verdict.{Verdict}
 use Rattle.note.specs.declared.Verdict.the-variants.{Accepted, Refused}
 use Rattle.note.specs.Refusals.{numberOf, verdict, left}
 use Rattle.note.specs.Notes.{Note, fits, paired, textsFormed, aligned, noteFaults}
-use Rattle.note.specs.Filling.{Filled}
-use Rattle.note.specs.StartingSound.{length-column}
-use Rattle.note.proofs.Filling.{none-filled, filled-up, filled-kept, all-filled}
 use Rattle.convert.specs.declared.Range.{Range}
 use Rattle.convert.specs.declared.Converted.{Converted}
 use Rattle.convert.specs.declared.Converted.the-variants.{Found}

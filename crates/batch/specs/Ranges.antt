@@ -5,6 +5,7 @@ use mathlib.Core.Bool.{Bool, false, cond, _&&_, not}
 use mathlib.Core.List.{List}
 use lib.Dec.{leb, ltb, eqb}
 use lib.ListN.{length, getD}
+use Rattle.runs.specs.Columns.{column}
 use Rattle.runs.specs.Splice.{overlay}
 use Rattle.note.specs.declared.Refusal.{Refusal}
 use Rattle.note.specs.declared.Refusal.the-variants.{TooLong, LengthMismatch, NoRoom}
@@ -12,7 +13,6 @@ use Rattle.note.specs.declared.Verdict.{Verdict}
 use Rattle.note.specs.declared.Verdict.the-variants.{Accepted, Refused as Rejected}
 use Rattle.note.specs.Refusals.{numberOf, meets, verdict, left}
 use Rattle.note.specs.Notes.{Note, paired, noteFaults}
-use Rattle.note.specs.Starting.{column}
 use Rattle.convert.specs.declared.Range.{Range}
 use Rattle.convert.specs.declared.Converted.{Converted}
 use Rattle.convert.specs.declared.Converted.the-variants.{Found, Refused}

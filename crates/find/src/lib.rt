@@ -8,12 +8,10 @@ use search::first_match;
 use search::next_match;
 use validity::well_formed;
 ghost use mathlib.Core.Path.{_≡_};
-ghost use mathlib.Core.Bool.{true};
 ghost use Prim.Native.Nat.{_+_, _≤_};
 ghost use lib.Dec.{leb};
 ghost use lib.ListN.{length};
 ghost use Rattle.runs.specs.Splice.{overlay, splice};
-ghost use Rattle.utf8.specs.Formed.{wellFormed};
 ghost use Rattle.note.specs.Notes.{limit};
 ghost use Rattle.find.specs.Encoding.{encodedPlaces, placeBytes};
 ghost use Rattle.find.specs.Matching.{Finding, between, foundBytes};
@@ -55,8 +53,8 @@ fn measure(text: &[u8], literal: &[u8], first: usize) -> usize
 }
 
 // Whether so much room holds the list. A literal of m bytes has at most n / m matches in n bytes, and something may stand before each one
-// and behind the last: where the longest such list fits, nothing is measured.
-fn list_fits(text: &[u8], literal: &[u8], first: usize, room: usize) -> bool
+// and behind the last: where the longest such list fits, nothing is measured. An inner function: the text is within the limit.
+pub fn list_fits(text: &[u8], literal: &[u8], first: usize, room: usize) -> bool
     requires { ⌜ (length (now text) ≤ limit) × (first ≡ firstMatch (now text) (now literal)) ⌝ }
     ensures { λ r. ⌜ r ≡ leb (length (foundBytes (now (text .entry)) (now (literal .entry)))) room ⌝ }
 {
@@ -93,8 +91,8 @@ fn write_between(start: usize, end: usize, out: &mut [u8], i: usize) -> usize
     i
 }
 
-// The list of a literal's matches, from the first match on, for which there is room; how many bytes it has.
-fn write_list(text: &[u8], literal: &[u8], first: usize, out: &mut [u8]) -> usize
+// The list of a literal's matches, from the first match on; how many bytes it has. An inner function: there is room for it.
+pub fn write_list(text: &[u8], literal: &[u8], first: usize, out: &mut [u8]) -> usize
     requires { ⌜ (length (now text) ≤ limit) × (first ≡ firstMatch (now text) (now literal)) × (length (foundBytes (now text) (now literal)) ≤ length (now out)) ⌝ }
     ensures { λ r. ⌜ (r ≡ length (foundBytes (now (text .entry)) (now (literal .entry)))) × (now (out .exit) ≡ overlay (foundBytes (now (text .entry)) (now (literal .entry))) (now (out .entry))) ⌝ }
 {
@@ -115,21 +113,6 @@ fn write_list(text: &[u8], literal: &[u8], first: usize, out: &mut [u8]) -> usiz
     write_between(at, start, out, i)
 }
 
-// `find_matches` for proved callers that have judged the text.
-pub fn find_formed(text: &[u8], literal: &[u8], out: &mut [u8]) -> Matches
-    requires { ⌜ (length (now text) ≤ limit) × (wellFormed (now text) ≡ true) ⌝ }
-    ensures { λ r. ⌜ Finding (now (text .entry)) (now (literal .entry)) (now (out .entry)) r (now (out .exit)) ⌝ }
-{
-    if !well_formed(literal) {
-        return Matches::Refused(Refusal::IllFormed);
-    }
-    let first = first_match(text, literal);
-    if !list_fits(text, literal, first, out.len()) {
-        return Matches::Refused(Refusal::NoRoom);
-    }
-    Matches::Written(write_list(text, literal, first, out))
-}
-
 // The literal's matches in the text, and what stands between them, as a match list in `out`. Refusals, in this order: 2, 1, 9.
 pub fn find_matches(text: &[u8], literal: &[u8], out: &mut [u8]) -> Matches
     ensures { λ r. ⌜ Finding (now (text .entry)) (now (literal .entry)) (now (out .entry)) r (now (out .exit)) ⌝ }
@@ -140,5 +123,12 @@ pub fn find_matches(text: &[u8], literal: &[u8], out: &mut [u8]) -> Matches
     if !well_formed(text) {
         return Matches::Refused(Refusal::IllFormed);
     }
-    find_formed(text, literal, out)
+    if !well_formed(literal) {
+        return Matches::Refused(Refusal::IllFormed);
+    }
+    let first = first_match(text, literal);
+    if !list_fits(text, literal, first, out.len()) {
+        return Matches::Refused(Refusal::NoRoom);
+    }
+    Matches::Written(write_list(text, literal, first, out))
 }

@@ -8,11 +8,11 @@ use native.Mathlib.Omega.{arith}
 use lib.Dec.{leb, eqb}
 use lib.ListN.{length, getD, List·getD-eq-default}
 use Rattle.runs.specs.Every.{everyBelow}
-use Rattle.runs.proofs.Everywhere.{and-true, and-left, and-right, true-or-false, clash, le-or-lt, every-suc, every-at, every-all}
+use Rattle.runs.proofs.Everywhere.{and-true, and-left, and-right, true-or-false, le-or-lt, every-suc, every-at, every-all}
 use Rattle.utf8.specs.Table.{within}
 use Rattle.utf8.specs.Formed.{continues, boundary}
 use Rattle.utf8.proofs.Boundaries.{boundary-at, boundary-begins}
-use Rattle.validity.specs.Windows.{ascii}
+use Rattle.validity.specs.Texts.{ascii}
 use Rattle.validity.proofs.Ascii.{ascii-at}
 use Rattle.note.specs.Notes.{Note, startAt, endAt, inside, onBoundaries, shared, forward, aligned}
 use Rattle.note.specs.Steady.{follows, steadyAt, steady, uncut, uncutBelow}

@@ -5,11 +5,10 @@ use mathlib.Core.Bool.{Bool, true, false, _&&_, _||_, not}
 use mathlib.Core.List.{List}
 use borrow.Author.Tests.{le-leb, lt-leb, eq-eqb, ne-eqb}
 use native.Mathlib.Omega.{arith}
-use lib.Dec.{leb, eqb}
 use lib.ListN.{length}
-use Rattle.runs.proofs.Everywhere.{and-true, and-false-l, and-false-r}
+use Rattle.runs.proofs.Everywhere.{and-true, and-false-l}
 use Rattle.utf8.specs.Formed.{wellFormed}
-use Rattle.validity.specs.Windows.{ascii}
+use Rattle.validity.specs.Texts.{ascii}
 use Rattle.note.specs.declared.Refusal.the-variants.{IllFormed, TooLong, LengthMismatch, Misaligned}
 use Rattle.note.specs.declared.Verdict.the-variants.{Accepted, Refused}
 use Rattle.note.specs.Refusals.{verdict}

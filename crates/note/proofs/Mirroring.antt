@@ -8,12 +8,14 @@ use native.Mathlib.Omega.{arith}
 use lib.Dec.{eqb}
 use lib.ListN.{length, getD}
 use lib.Seq.{ext-getD}
+use Rattle.runs.specs.Columns.{column}
 use Rattle.runs.specs.Every.{everyBelow}
 use Rattle.runs.proofs.Everywhere.{and-left, and-right, true-or-false, every-suc, every-at}
+use Rattle.runs.proofs.Filling.{length-column, getD-column}
 use Rattle.utf8.specs.Formed.{wellFormed, continues}
 use Rattle.note.specs.Notes.{aligned}
-use Rattle.note.specs.Starting.{charStart, charEnd, column, starting}
-use Rattle.note.specs.StartingSound.{Ranged, ranged, length-column, getD-column, charEnd-continues, charEnd-begins, starting-sound}
+use Rattle.note.specs.Starting.{charStart, charEnd, starting}
+use Rattle.note.specs.StartingSound.{Ranged, ranged, charEnd-continues, charEnd-begins, starting-sound}
 use Rattle.note.specs.Unedited.{mirrors, mirrorsAt, mirrored}
 
 -- one more index

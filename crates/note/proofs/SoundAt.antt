@@ -1,13 +1,13 @@
 -- What a sound note says: of its texts, and of the alignment at each byte.
 use Prim.Native.Nat.{ℕ, zero, suc, _+_, _≤_, _<_}
-use mathlib.Core.Path.{_≡_, refl}
+use mathlib.Core.Path.{_≡_}
 use mathlib.Core.Bool.{Bool, true, _&&_}
 use native.Mathlib.Omega.{arith}
 use lib.Dec.{leb, eqb}
 use lib.ListN.{length, getD}
 use borrow.Author.Tests.{leb-true, eqb-true}
 use Rattle.runs.specs.Every.{everyBelow}
-use Rattle.runs.proofs.Everywhere.{and-left, and-right, every-at, le-or-lt}
+use Rattle.runs.proofs.Everywhere.{and-left, and-right, every-at}
 use Rattle.utf8.specs.Formed.{wellFormed, continues, boundary}
 use Rattle.note.specs.Notes.{Note, paired, textsFormed, startAt, endAt, inside, onBoundaries, shared, forward, aligned, Sound}
 

@@ -4,6 +4,4 @@ pub mod Notes
 pub mod Steady
 pub mod Unedited
 pub mod Starting
-pub mod Filling
-pub mod Counting
 pub mod StartingSound

@@ -2,9 +2,10 @@
 use Prim.Native.Nat.{ℕ, zero, suc, _+_}
 use mathlib.Core.Path.{_≡_}
 use mathlib.Core.Bool.{Bool, cond, _&&_, not}
-use mathlib.Core.List.{List, [], _∷_, _++_}
+use mathlib.Core.List.{List}
 use lib.Dec.{leb}
 use lib.ListN.{length, getD}
+use Rattle.runs.specs.Columns.{column}
 use Rattle.utf8.specs.Formed.{wellFormed, continues, announced}
 use Rattle.note.specs.declared.Refusal.{Refusal}
 use Rattle.note.specs.declared.Refusal.the-variants.{IllFormed, TooLong, NoRoom}
@@ -20,11 +21,6 @@ charStart s (suc i) = cond (continues (getD s (suc i) 0)) (charStart s i) (suc i
 -- and where it ends: as many bytes on as its lead byte announces
 unfoldable pub charEnd : List ℕ → ℕ → ℕ
 charEnd s i = charStart s i + announced (getD s (charStart s i) 0)
-
--- a number for each index below n
-unfoldable pub column : ℕ → (ℕ → ℕ) → List ℕ
-column zero f = []
-column (suc n) f = column n f ++ (f n ∷ [])
 
 -- "cleaned text equals transcript, each byte carries its character's byte range, shift 0"
 unfoldable pub starting : List ℕ → Note

@@ -1,40 +1,20 @@
 -- The note of a fresh text is sound, and accepted where the text is: each byte's alignment is the range of its character.
 -- Before it, the laws of that range: it holds the byte, its ends are boundaries, and it is the next byte's range or ends before it.
 use Prim.Native.Nat.{ℕ, zero, suc, _+_, _≤_, _<_}
-use mathlib.Core.Path.{_≡_, _∙_, refl, sym}
+use mathlib.Core.Path.{_≡_, refl, sym}
 use mathlib.Core.Bool.{true, false}
-use mathlib.Core.List.{List, [], _∷_, _++_}
-use native.Mathlib.Numerals.{add-one}
+use mathlib.Core.List.{List}
 use native.Mathlib.Omega.{arith}
-use lib.ListN.{length, getD, length-append, List·getD-append}
-use lib.Seq.{getD-at}
+use lib.ListN.{length, getD}
 use borrow.Author.Tests.{le-leb, eq-eqb}
 use Rattle.runs.proofs.Everywhere.{and-true, every-all, le-or-lt, true-or-false, clash}
+use Rattle.runs.proofs.Filling.{length-column, getD-column}
 use Rattle.utf8.specs.Formed.{wellFormed, continues, announced, boundary}
 use Rattle.utf8.proofs.Boundaries.{CharAt, char-at, boundary-zero, boundary-at, boundary-begins}
 use Rattle.note.specs.declared.Verdict.the-variants.{Accepted}
 use Rattle.note.specs.Refusals.{verdict}
 use Rattle.note.specs.Notes.{limit, fits, paired, textsFormed, startAt, endAt, inside, onBoundaries, shared, forward, aligned, Sound, noteFaults}
-use Rattle.note.specs.Starting.{charStart, charEnd, column, starting}
-
--- a column by its length and its numbers
-pub length-column : (n : ℕ) (f : ℕ → ℕ) → length (column n f) ≡ n
-unfolding column
-length-column zero f = refl
-length-column (suc n) f = rw (length-append (column n f) (f n ∷ []), length-column n f) (omega arith)
-
-pub getD-column : (n : ℕ) (f : ℕ → ℕ) (i : ℕ) → i < n → getD (column n f) i 0 ≡ f i
-unfolding column
-getD-column zero f i h = absurd (omega arith)
-getD-column (suc n) f i h =
-    let long : length (column n f) ≡ n = length-column n f in
-    le-or-lt n i
-    (λ top. let last : i ≡ n = omega arith in rw last (getD-at (column n f) (f n) [] 0 n long))
-    (λ below. List·getD-append (column n f) (f n ∷ []) 0 i (omega arith) ∙ getD-column n f i below)
-
-pub column-suc : (n : ℕ) (f : ℕ → ℕ) → column (n + 1) f ≡ column n f ++ (f n ∷ [])
-unfolding column
-column-suc n f = rw (add-one n)
+use Rattle.note.specs.Starting.{charStart, charEnd, starting}
 
 -- the next byte's range: the same where the byte continues the character
 pub charStart-continues : (s : List ℕ) (i : ℕ) → continues (getD s (suc i) 0) ≡ true → charStart s (suc i) ≡ charStart s i

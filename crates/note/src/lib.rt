@@ -1,9 +1,6 @@
-// The note: its referentials, the refusals of every call on it, the check that it is sound, and the note of a fresh text.
+// The note: its referentials, the refusals of every call on it, and the check that it is sound.
 pub mod aligned;
-pub mod columns;
-pub mod letters;
 pub mod rewrap;
-pub mod starting;
 pub mod unedited;
 
 use aligned::aligned;
@@ -41,12 +38,6 @@ pub enum Refusal {
 pub enum Verdict {
     Accepted,
     Refused(Refusal),
-}
-
-// What counting letters answers.
-pub enum LetterCount {
-    Letters(u32),
-    Unread(Refusal),
 }
 
 // A refusal's number in document 01.

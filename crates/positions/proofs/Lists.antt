@@ -1,20 +1,18 @@
 -- The answers of a list of pairs as they are written, and the verdicts of both calls.
 use Prim.Native.Nat.{ℕ, _+_, _-_, _≤_, _<_}
-use mathlib.Core.Path.{_≡_, _∙_, ap, refl, sym}
-use mathlib.Core.Bool.{Bool, true, false, _&&_, not}
+use mathlib.Core.Path.{_≡_, refl, sym}
+use mathlib.Core.Bool.{true, false}
 use mathlib.Core.List.{List}
 use borrow.Author.Tests.{le-leb, lt-leb, lt-ltb, le-ltb, eq-eqb, ne-eqb}
 use native.Mathlib.Omega.{arith}
-use lib.Dec.{leb, eqb}
 use lib.ListN.{length, getD, set}
+use Rattle.runs.specs.Columns.{Filled}
+use Rattle.runs.proofs.Filling.{none-filled, filled-up, all-filled}
 use Rattle.utf8.specs.Formed.{wellFormed}
 use Rattle.note.specs.declared.Refusal.the-variants.{IllFormed, TooLong, LengthMismatch, NoRoom, Missing}
-use Rattle.note.specs.declared.Verdict.{Verdict}
 use Rattle.note.specs.declared.Verdict.the-variants.{Accepted, Refused as Rejected}
 use Rattle.note.specs.declared.Refusal.{Refusal}
 use Rattle.note.specs.Refusals.{verdict}
-use Rattle.note.specs.Filling.{Filled}
-use Rattle.note.proofs.Filling.{none-filled, filled-up, all-filled}
 use Rattle.positions.specs.declared.CharOffsets.the-variants.{Refused}
 use Rattle.positions.specs.declared.Step.{Step}
 use Rattle.positions.specs.Positions.{indexOf, chars, endIndex, pairOf, converted, numberIn, startIn, endIn, pairAt, listFaults, Pairs, ConvertedAll, Known, Room, Stepped}

@@ -9,7 +9,6 @@ use Rattle.runs.specs.Splice.{part}
 use Rattle.runs.proofs.Everywhere.{true-or-false}
 use Rattle.utf8.specs.Letters.{leads}
 use Rattle.utf8.specs.Formed.{continues}
-use Rattle.positions.specs.declared.Step.{Step}
 use Rattle.positions.specs.Positions.{indexOf, endIndex, pairOf, Known, Stepped}
 use Rattle.positions.specs.Bounded.{index-add}
 

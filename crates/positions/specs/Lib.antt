@@ -1,3 +1,4 @@
--- Character positions (document 01).
+-- Character positions and letter counts (document 01).
 pub mod Positions
 pub mod Bounded
+pub mod Counting

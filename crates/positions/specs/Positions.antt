@@ -1,20 +1,19 @@
 -- Document 01, 'Character positions' (Rust: `BytesToCharOffsetConverter::convert`): a pair of bytes of a text as a pair of characters.
 use Prim.Native.Nat.{ℕ, zero, suc, _+_, _-_, _≤_}
 use mathlib.Core.Path.{_≡_}
-use mathlib.Core.Bool.{Bool, true, false, cond, _&&_, not}
+use mathlib.Core.Bool.{Bool, cond, _&&_, not}
 use mathlib.Core.List.{List}
 use lib.Dec.{leb, ltb, eqb}
 use lib.ListN.{length, getD}
+use Rattle.runs.specs.Columns.{column}
 use Rattle.runs.specs.Splice.{overlay}
 use Rattle.utf8.specs.Formed.{wellFormed, continues}
-use Rattle.note.specs.declared.CharIndex.{CharIndex}
 use Rattle.note.specs.declared.Refusal.{Refusal}
 use Rattle.note.specs.declared.Refusal.the-variants.{IllFormed, TooLong, LengthMismatch, NoRoom, Missing}
 use Rattle.note.specs.declared.Verdict.{Verdict}
 use Rattle.note.specs.declared.Verdict.the-variants.{Accepted, Refused as Rejected}
 use Rattle.note.specs.Refusals.{numberOf, none, meets, verdict, left}
 use Rattle.note.specs.Notes.{limit}
-use Rattle.note.specs.Starting.{column}
 use Rattle.positions.specs.declared.CharOffsets.{CharOffsets}
 use Rattle.positions.specs.declared.CharOffsets.the-variants.{Chars, Refused}
 use Rattle.positions.specs.declared.Step.{Step}

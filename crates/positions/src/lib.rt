@@ -1,5 +1,7 @@
 // Character positions (document 01; Rust: `BytesToCharOffsetConverter::convert`): which character a byte of a text belongs to.
 // A walk over the text, no table: from a byte whose character is known, the bytes between that begin a character are counted.
+pub mod letters;
+
 use note::CharIndex;
 use note::LIMIT;
 use note::OriginalByte;

@@ -63,10 +63,12 @@ run-most start end (s ∷ ss) (e ∷ es) =
     (λ f. rw f (omega arith))
 
 -- the run of a byte has that byte, and ends with the columns at the latest
-pub run-within : (starts ends : List ℕ) (at r : ℕ) → length starts ≡ length ends → at < length starts → r ≡ runOf (getD starts at 0) (getD ends at 0) (drop at starts) (drop at ends) → (0 < r) × (at + r ≤ length starts)
-run-within starts ends at r alike h is =
-    let step : r ≡ suc (runOf (getD starts at 0) (getD ends at 0) (drop (at + 1) starts) (drop (at + 1) ends)) =
-    is ∙ run-step starts ends alike _ _ at h ∙ rw (eq-eqb (getD starts at 0) _ refl, eq-eqb (getD ends at 0) _ refl) in (
-      omega arith,
-      omega (arith, run-most (getD starts at 0) (getD ends at 0) (drop at starts) (drop at ends), length-drop at starts),
-    )
+module _ (starts ends : List ℕ) (at r : ℕ) (alike : length starts ≡ length ends) (h : at < length starts) (is : r ≡ runOf (getD starts at 0) (getD ends at 0) (drop at starts) (drop at ends)) where
+  pub run-first : r ≡ suc (runOf (getD starts at 0) (getD ends at 0) (drop (at + 1) starts) (drop (at + 1) ends))
+  run-first = is ∙ run-step starts ends alike _ _ at h ∙ rw (eq-eqb (getD starts at 0) _ refl, eq-eqb (getD ends at 0) _ refl)
+
+  pub run-within : (0 < r) × (at + r ≤ length starts)
+  run-within = (
+    omega (arith, run-first),
+    omega (arith, run-most (getD starts at 0) (getD ends at 0) (drop at starts) (drop at ends), length-drop at starts),
+  )

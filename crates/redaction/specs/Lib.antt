@@ -2,3 +2,4 @@
 pub mod Redacting
 pub mod Publishing
 pub mod Runs
+pub mod Lines

@@ -2,27 +2,37 @@
 -- so what specs/Blanking.antt of `replace` says of two notes holds of it.
 use Prim.Native.Nat.{ℕ, _≤_}
 use mathlib.Core.Path.{_≡_, _∙_, ap, refl, sym}
+use mathlib.Core.Bool.{true, false, _&&_}
 use mathlib.Core.List.{List}
 use native.Mathlib.Omega.{arith}
+use lib.Dec.{leb}
 use lib.ListN.{length, length-append, length-replicate}
+use borrow.Author.Tests.{leb-true, not-false}
 use Rattle.runs.specs.Splice.{overlay}
+use Rattle.runs.proofs.Everywhere.{and-left, and-right}
+use Rattle.utf8.specs.Formed.{wellFormed}
+use Rattle.note.specs.declared.Refusal.{Refusal}
+use Rattle.note.specs.declared.Refusal.the-variants.{IllFormed, TooLong, NoRoom}
 use Rattle.note.specs.declared.Verdict.{Verdict}
 use Rattle.note.specs.declared.Verdict.the-variants.{Accepted, Refused as Rejected}
-use Rattle.note.specs.Refusals.{left}
-use Rattle.note.specs.Notes.{Note}
-use Rattle.note.specs.Starting.{starting}
-use Rattle.pattern.specs.Places.{placesOf}
+use Rattle.note.specs.Refusals.{verdict, left}
+use Rattle.note.specs.Notes.{Note, limit}
+use Rattle.note.specs.Starting.{charStart, charEnd, starting}
+use Rattle.note.specs.StartingSound.{starting-accepted}
+use Rattle.runs.proofs.Filling.{length-column}
+use Rattle.note.proofs.Verdicts.{accepted-meets}
+use Rattle.pattern.specs.Places.{placesOf, covers}
 use Rattle.find.specs.Matching.{foundBytes}
-use Rattle.replace.specs.Replacing.{carried, replaced, Replacing}
+use Rattle.find.specs.Covered.{found-covers}
+use Rattle.find.specs.ReadBack.{found-read}
+use Rattle.replace.specs.Replacing.{carried, replaced, hasRoom, replaceFaults, Replacing}
+use Rattle.replace.specs.Writing.{sizes, sizeFits}
 use Rattle.replace.specs.Blanking.{Taken, taken}
 use Rattle.replace.proofs.Sizes.{length-laid}
+use Rattle.replace.proofs.Answers.{room-size, covered-verdict}
 use Rattle.redaction.specs.declared.Redaction.{Redaction}
-use Rattle.redaction.specs.declared.Redaction.the-variants.{Published, Refused}
-use Rattle.redaction.specs.Redacting.{next, answered, blanked, blankVerdict, Redacted}
-
-accepted-next : (v w : Verdict) → next v w ≡ Accepted → w ≡ Accepted
-accepted-next Accepted w e = e
-accepted-next (Rejected k) w e = let z : _≡_ {A = ℕ} 0 1 = cc in absurd (omega arith)
+use Rattle.redaction.specs.declared.Redaction.the-variants.{Published}
+use Rattle.redaction.specs.Redacting.{answered, blanked, allFit, redactFaults, Redacted}
 
 published : (v : Verdict) (m size : ℕ) → Published m ≡ answered v size → (v ≡ Accepted) × (m ≡ size)
 published Accepted m size e = (refl, cc)
@@ -55,24 +65,91 @@ module _ (n : Note) (list filler out₀ starts₀ ends₀ out starts ends : List
       ∙ sym (length-laid (n .normalized) (n .normalized) (λ end. filler) (length filler) 0 (placesOf list) refl (λ e. refl) (t .covered)))
       (call .ends-are)
 
+-- both columns of the starting note are as long as the text
+pub length-starts : (text : List ℕ) → length (starting text .starts) ≡ length text
+unfolding starting
+length-starts text = length-column (length text) (charStart text)
+
+pub length-ends : (text : List ℕ) → length (starting text .ends) ≡ length text
+unfolding starting
+length-ends text = length-column (length text) (charEnd text)
+
+module _ (text literal : List ℕ) (t : wellFormed text ≡ true) (l : wellFormed literal ≡ true) where
+  -- the list that is found covers the text
+  pub list-covers : covers text (placesOf (foundBytes text literal)) ≡ true
+  list-covers = rw (found-read text literal t l) (found-covers text literal t l)
+
+  -- so that the size of its places says whether there is room for the result
+  pub blanked-room : (filler : List ℕ) (a b c : ℕ) → hasRoom (blanked text literal filler) a b c ≡ sizeFits (sizes (length filler) (placesOf (foundBytes text literal))) a b c
+  unfolding starting
+  blanked-room filler a b c =
+      room-size (starting text) (foundBytes text literal) filler a b c (length-starts text) (length-ends text) list-covers
+
+-- what an accepted call says of its input
+pub record Allowed (text literal filler : List ℕ) (a b c d e f : ℕ) : Type 0 where
+  pub short : length text ≤ limit
+  pub text-formed : wellFormed text ≡ true
+  pub literal-formed : wellFormed literal ≡ true
+  pub filler-formed : wellFormed filler ≡ true
+  pub starts-room : length text ≤ a
+  pub ends-room : length text ≤ b
+  pub list-room : length (foundBytes text literal) ≤ c
+  pub result-room : hasRoom (blanked text literal filler) d e f ≡ true
+
+module _ (text literal filler : List ℕ) (a b c d e f : ℕ) (ok : verdict (redactFaults text literal filler a b c d e f) ≡ Accepted) where
+  pub allowed : Allowed text literal filler a b c d e f
+  unfolding allFit
+  allowed =
+      let faults : (k : Refusal) → redactFaults text literal filler a b c d e f k ≡ false = accepted-meets (redactFaults text literal filler a b c d e f) ok in
+      let formed : (wellFormed text && wellFormed literal && wellFormed filler) ≡ true = not-false _ (faults IllFormed) in
+      let both : (wellFormed text && wellFormed literal) ≡ true = and-left _ (wellFormed filler) formed in
+      let room : allFit text literal filler a b c d e f ≡ true = not-false _ (faults NoRoom) in
+      let three : (leb (length text) a && leb (length text) b && leb (length (foundBytes text literal)) c) ≡ true = and-left _ (hasRoom (blanked text literal filler) d e f) room in
+      let two : (leb (length text) a && leb (length text) b) ≡ true = and-left _ (leb (length (foundBytes text literal)) c) three in
+      record {
+        short = leb-true (length text) limit (not-false _ (faults TooLong));
+        text-formed = and-left (wellFormed text) (wellFormed literal) both;
+        literal-formed = and-right (wellFormed text) (wellFormed literal) both;
+        filler-formed = and-right (wellFormed text && wellFormed literal) (wellFormed filler) formed;
+        starts-room = leb-true (length text) a (and-left (leb (length text) a) (leb (length text) b) two);
+        ends-room = leb-true (length text) b (and-right (leb (length text) a) (leb (length text) b) two);
+        list-room = leb-true (length (foundBytes text literal)) c (and-right (leb (length text) a && leb (length text) b) _ three);
+        result-room = and-right (leb (length text) a && leb (length text) b && leb (length (foundBytes text literal)) c) _ room;
+      }
+
+  -- `replace` accepts the starting note with the list
+  pub replace-accepts : verdict (replaceFaults (starting text) (foundBytes text literal) filler d e f) ≡ Accepted
+  unfolding starting
+  replace-accepts =
+      let g : Allowed text literal filler a b c d e f = allowed in
+      covered-verdict (starting text) (foundBytes text literal) filler d e f (starting-accepted text (g .text-formed) (g .short)) (list-covers text literal (g .text-formed) (g .literal-formed))
+      ∙ rw (g .filler-formed, sym (blanked-room text literal (g .text-formed) (g .literal-formed) filler d e f) ∙ g .result-room)
+
 module _ (text literal filler starts₀ ends₀ list₀ out₀ outStarts₀ outEnds₀ : List ℕ) (r : Redaction) (starts ends list out outStarts outEnds : List ℕ) (call : Redacted text literal filler starts₀ ends₀ list₀ out₀ outStarts₀ outEnds₀ r starts ends list out outStarts outEnds) (m : ℕ) (is : r ≡ Published m) where
-  accepted : (call .says ≡ Accepted) × (m ≡ length (blanked (starting text) literal filler .text))
-  accepted = published (call .says) m _ (sym is ∙ call .result .answer)
+  accepted : (call .says ≡ Accepted) × (m ≡ length (blanked text literal filler .text))
+  accepted = published (call .says) m _ (sym is ∙ call .answer)
 
   -- the call of `replace`
-  pub published-call : Replacing (starting text) (foundBytes (starting text .normalized) literal) filler out₀ outStarts₀ outEnds₀ Accepted out outStarts outEnds
+  pub published-call : Replacing (starting text) (foundBytes text literal) filler out₀ outStarts₀ outEnds₀ Accepted out outStarts outEnds
   published-call =
       let ok : call .says ≡ Accepted = accepted .0 in
       record {
-        answer = sym (accepted-next (call .found) _ (sym (call .says-is) ∙ ok));
-        text-is = call .result .text-is ∙ ap (λ (v : Verdict). left v (blanked (starting text) literal filler .text) out₀) ok;
-        starts-are = call .result .starts-are ∙ ap (λ (v : Verdict). left v (blanked (starting text) literal filler .starts) outStarts₀) ok;
-        ends-are = call .result .ends-are ∙ ap (λ (v : Verdict). left v (blanked (starting text) literal filler .ends) outEnds₀) ok;
+        answer = sym (replace-accepts text literal filler _ _ _ _ _ _ (sym (call .says-is) ∙ ok));
+        text-is = call .out-is ∙ ap (λ (v : Verdict). left v (blanked text literal filler .text) out₀) ok;
+        starts-are = call .out-starts-are ∙ ap (λ (v : Verdict). left v (blanked text literal filler .starts) outStarts₀) ok;
+        ends-are = call .out-ends-are ∙ ap (λ (v : Verdict). left v (blanked text literal filler .ends) outEnds₀) ok;
       }
 
   -- the answer is the published text's size
-  pub published-size : m ≡ length (blanked (starting text) literal filler .text)
+  pub published-size : m ≡ length (blanked text literal filler .text)
   published-size = accepted .1
+
+  -- within the limit
+  pub published-short : m ≤ limit
+  unfolding hasRoom
+  published-short =
+      let room = allowed text literal filler _ _ _ _ _ _ (sym (call .says-is) ∙ accepted .0) .result-room in
+      rw published-size (leb-true _ limit (and-left (leb (length (blanked text literal filler .text)) limit) _ (and-left _ _ (and-left _ _ room))))
 
   -- and there is room for it
   pub text-fits : m ≤ length out

@@ -1,78 +1,62 @@
--- Blanking a literal in the starting note of a text: the starting note, the matches, the replacement, one after the other.
-use Prim.Native.Nat.{ℕ}
+-- Blanking a literal in the starting note of a text: what is published, when that is refused, and the call.
+use Prim.Native.Nat.{ℕ, _≤_}
 use mathlib.Core.Path.{_≡_}
+use mathlib.Core.Bool.{Bool, true, _&&_, not}
 use mathlib.Core.List.{List}
+use lib.Dec.{leb}
 use lib.ListN.{length}
+use Rattle.utf8.specs.Formed.{wellFormed}
+use Rattle.note.specs.declared.Refusal.{Refusal}
+use Rattle.note.specs.declared.Refusal.the-variants.{IllFormed, TooLong, NoRoom}
 use Rattle.note.specs.declared.Verdict.{Verdict}
 use Rattle.note.specs.declared.Verdict.the-variants.{Accepted, Refused as Rejected}
-use Rattle.note.specs.Refusals.{verdict, left}
-use Rattle.note.specs.Notes.{Note}
-use Rattle.note.specs.Starting.{starting, startingFaults}
+use Rattle.note.specs.Refusals.{none, meets, verdict, left}
+use Rattle.note.specs.Notes.{limit}
+use Rattle.note.specs.Starting.{starting}
 use Rattle.pattern.specs.Places.{placesOf}
-use Rattle.find.specs.Matching.{foundBytes, findFaults}
-use Rattle.replace.specs.Replacing.{Published as Publication, replaced, replaceFaults, Replacing}
+use Rattle.find.specs.Matching.{foundBytes}
+use Rattle.find.specs.Searching.{firstMatch}
+use Rattle.replace.specs.Replacing.{Published as Publication, replaced, hasRoom}
 use Rattle.redaction.specs.declared.Redaction.{Redaction}
 use Rattle.redaction.specs.declared.Redaction.the-variants.{Published, Refused}
 
--- a note whose cleaned text is its transcript, with no shift
-abbrev pub plain : List ℕ → List ℕ → List ℕ → Note
-plain text starts ends = record { original = text; normalized = text; starts = starts; ends = ends; original-shift = 0 }
+-- what is published of a text: the literal's matches in its starting note give way to the filler
+abbrev pub blanked : List ℕ → List ℕ → List ℕ → Publication
+blanked text literal filler = replaced (placesOf (foundBytes text literal)) filler (starting text)
 
--- a verdict, and the next one where it accepts
-abbrev pub next : Verdict → Verdict → Verdict
-next Accepted v = v
-next (Rejected k) v = Rejected k
+-- 9: room for both columns of the starting note, for the list of the matches, and for what is published
+unfoldable pub allFit : List ℕ → List ℕ → List ℕ → ℕ → ℕ → ℕ → ℕ → ℕ → ℕ → Bool
+allFit text literal filler roomS roomE roomL roomT roomOS roomOE =
+    leb (length text) roomS && leb (length text) roomE && leb (length (foundBytes text literal)) roomL
+    && hasRoom (blanked text literal filler) roomT roomOS roomOE
+
+-- the refusals of the call: 2 of the text alone, 1, 9
+abbrev pub redactFaults : List ℕ → List ℕ → List ℕ → ℕ → ℕ → ℕ → ℕ → ℕ → ℕ → Refusal → Bool
+redactFaults text literal filler roomS roomE roomL roomT roomOS roomOE =
+    meets TooLong (not (leb (length text) limit))
+    (meets IllFormed (not (wellFormed text && wellFormed literal && wellFormed filler))
+    (meets NoRoom (not (allFit text literal filler roomS roomE roomL roomT roomOS roomOE)) none))
 
 -- a verdict with the size of what is published
 abbrev pub answered : Verdict → ℕ → Redaction
 answered Accepted size = Published size
 answered (Rejected k) size = Refused k
 
--- what is published of a note: the literal's matches in its cleaned text give way to the filler
-abbrev pub blanked : Note → List ℕ → List ℕ → Publication
-blanked n literal filler = replaced (placesOf (foundBytes (n .normalized) literal)) filler n
-
--- what is said of the text alone, of the search beside the room for its list, and of the replacement beside the room for its result
-abbrev pub startVerdict : List ℕ → ℕ → ℕ → Verdict
-startVerdict text roomS roomE = verdict (startingFaults text roomS roomE)
-
-abbrev pub findVerdict : Note → List ℕ → ℕ → Verdict
-findVerdict n literal room = verdict (findFaults (n .normalized) literal room)
-
-abbrev pub blankVerdict : Note → List ℕ → List ℕ → ℕ → ℕ → ℕ → Verdict
-blankVerdict n literal filler roomT roomS roomE = verdict (replaceFaults n (foundBytes (n .normalized) literal) filler roomT roomS roomE)
-
--- a replacement by a list, and the size of its result: `replace`'s own contract, and the answer
-pub record Sized (n : Note) (list filler out₀ starts₀ ends₀ : List ℕ) (r : Redaction) (out starts ends : List ℕ) : Type 0 where
-  pub says : Verdict
-  pub call : Replacing n list filler out₀ starts₀ ends₀ says out starts ends
-  pub answer : r ≡ answered says (length (replaced (placesOf list) filler n .text))
-
--- the literal found in a note and blanked: the lent buffers before, the answer, the lent buffers after.
--- `found` is what is said up to the search, `says` what is said in the end.
-pub record Blanked (n : Note) (literal filler list₀ out₀ starts₀ ends₀ : List ℕ) (found says : Verdict) (r : Redaction) (list out starts ends : List ℕ) : Type 0 where
-  pub answer : r ≡ answered says (length (blanked n literal filler .text))
-  pub list-is : list ≡ left found (foundBytes (n .normalized) literal) list₀
-  pub text-is : out ≡ left says (blanked n literal filler .text) out₀
-  pub starts-are : starts ≡ left says (blanked n literal filler .starts) starts₀
-  pub ends-are : ends ≡ left says (blanked n literal filler .ends) ends₀
-
--- the search in a note and the replacement
-pub record Searched (n : Note) (literal filler list₀ out₀ starts₀ ends₀ : List ℕ) (r : Redaction) (list out starts ends : List ℕ) : Type 0 where
-  pub found : Verdict
-  pub found-is : found ≡ findVerdict n literal (length list₀)
-  pub says : Verdict
-  pub says-is : says ≡ next found (blankVerdict n literal filler (length out₀) (length starts₀) (length ends₀))
-  pub result : Blanked n literal filler list₀ out₀ starts₀ ends₀ found says r list out starts ends
-
--- the whole, from the text: the lent buffers before, the answer, the lent buffers after; the last three are published
+-- the call: text, literal and filler, the lent buffers before, the answer, the lent buffers after; the last three are published
 pub record Redacted (text literal filler starts₀ ends₀ list₀ out₀ outStarts₀ outEnds₀ : List ℕ) (r : Redaction) (starts ends list out outStarts outEnds : List ℕ) : Type 0 where
-  pub begun : Verdict
-  pub begun-is : begun ≡ startVerdict text (length starts₀) (length ends₀)
-  pub found : Verdict
-  pub found-is : found ≡ next begun (findVerdict (starting text) literal (length list₀))
   pub says : Verdict
-  pub says-is : says ≡ next found (blankVerdict (starting text) literal filler (length out₀) (length outStarts₀) (length outEnds₀))
-  pub starts-are : starts ≡ left begun (starting text .starts) starts₀
-  pub ends-are : ends ≡ left begun (starting text .ends) ends₀
-  pub result : Blanked (starting text) literal filler list₀ out₀ outStarts₀ outEnds₀ found says r list out outStarts outEnds
+  pub says-is : says ≡ verdict (redactFaults text literal filler (length starts₀) (length ends₀) (length list₀) (length out₀) (length outStarts₀) (length outEnds₀))
+  pub answer : r ≡ answered says (length (blanked text literal filler .text))
+  pub starts-are : starts ≡ left says (starting text .starts) starts₀
+  pub ends-are : ends ≡ left says (starting text .ends) ends₀
+  pub list-is : list ≡ left says (foundBytes text literal) list₀
+  pub out-is : out ≡ left says (blanked text literal filler .text) out₀
+  pub out-starts-are : outStarts ≡ left says (blanked text literal filler .starts) outStarts₀
+  pub out-ends-are : outEnds ≡ left says (blanked text literal filler .ends) outEnds₀
+
+-- what is known before the room is judged: 2 and 1 of text and literal are not met, and the first match
+pub record Judged (text literal : List ℕ) (first : ℕ) : Type 0 where
+  pub short : length text ≤ limit
+  pub text-formed : wellFormed text ≡ true
+  pub literal-formed : wellFormed literal ≡ true
+  pub first-is : first ≡ firstMatch text literal

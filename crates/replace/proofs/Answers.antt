@@ -40,7 +40,7 @@ module _ (n : Note) (list filler : List ℕ) (a b c : ℕ) where
   replace-verdict = simp after-cond (simp cond-not)
 
   -- the size of the places is that of each part of the result
-  room-size : length (n .starts) ≡ length (n .normalized) → length (n .ends) ≡ length (n .normalized) → covers (n .normalized) (placesOf list) ≡ true → hasRoom (replaced (placesOf list) filler n) a b c ≡ sizeFits (sizes (length filler) (placesOf list)) a b c
+  pub room-size : length (n .starts) ≡ length (n .normalized) → length (n .ends) ≡ length (n .normalized) → covers (n .normalized) (placesOf list) ≡ true → hasRoom (replaced (placesOf list) filler n) a b c ≡ sizeFits (sizes (length filler) (placesOf list)) a b c
   unfolding hasRoom sizeFits replaced covers
   room-size ls le cov =
       rw (

@@ -5,9 +5,9 @@ use crate::list::after;
 use crate::list::byte;
 use crate::list::long;
 use crate::list::text;
-use note::LetterCount;
 use note::OriginalByte;
 use positions::CharOffsets;
+use positions::letters::LetterCount;
 
 // A text; 1 where it is well-formed, 0 where it is not.
 pub fn well_formed(list: &[u8], at: usize) -> Outcome {
@@ -32,7 +32,7 @@ pub fn letter_count(list: &[u8], at: usize) -> Outcome {
     let answer = after(list, t.at, 8);
     let refusal = byte(list, answer) as u32;
     let count = long(list, after(list, answer, 1));
-    let agrees = match note::letters::letter_count(&bytes[..len], start, end) {
+    let agrees = match positions::letters::letter_count(&bytes[..len], start, end) {
         LetterCount::Letters(n) => refusal == 0 && count == n,
         LetterCount::Unread(k) => refusal == note::number(k) && count == 0,
     };

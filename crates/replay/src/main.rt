@@ -15,6 +15,7 @@
 //             Each time after the first, its numbers are those of the time before plus the step, modulo 65,536
 mod calls;
 mod characters;
+mod fresh;
 mod lent;
 mod list;
 mod lists;
@@ -22,7 +23,6 @@ mod notes;
 mod ranges;
 mod replacing;
 mod report;
-mod starting;
 
 use libc::STDOUT_FILENO;
 use list::PAST;

@@ -2,4 +2,5 @@
 pub mod Written
 pub mod Everywhere
 pub mod Laying
+pub mod Filling
 pub mod Sameness

@@ -1,4 +1,5 @@
 -- What the contracts of `runs`, and of every crate that writes a lent buffer, are said with.
 pub mod Splice
 pub mod Every
+pub mod Columns
 pub mod Same

@@ -1,19 +1,21 @@
 -- The fast form and the plain form are the same: a text is well-formed exactly when every window of four bytes is calm.
 -- By induction on the text, with the columns still asked told by the last three bytes.
-use Prim.Native.Nat.{ℕ, zero, suc, _+_, _≤_, _<_}
+use Prim.Native.Nat.{ℕ, _+_, _≤_, _<_}
 use mathlib.Core.Path.{_≡_, _∙_, ap, refl, sym}
 use mathlib.Core.Bool.{Bool, true, false, cond, xor, _&&_, _||_, not}
 use mathlib.Core.List.{List, [], _∷_}
-use borrow.Author.Tests.{le-leb, lt-leb, lt-ltb, le-ltb, ne-eqb, leb-true, not-true}
+use borrow.Author.Tests.{le-leb, lt-leb, lt-ltb, le-ltb, leb-true, not-true}
 use native.Mathlib.Nat.{suc-add}
 use native.Mathlib.Omega.{arith}
 use lib.Dec.{leb, ltb, eqb}
 use lib.ListN.{length, drop}
 use Rattle.runs.specs.Every.{everyBelow}
-use Rattle.runs.proofs.Everywhere.{and-true, and-left, and-right, and-cong, clash, true-or-false, le-or-lt, every-cons}
-use Rattle.utf8.specs.Table.{Bytes, bytes, within, trail}
+use Rattle.runs.proofs.Everywhere.{and-right, and-cong, clash, true-or-false, le-or-lt, every-cons}
+use Rattle.utf8.specs.Table.{Bytes, within, trail}
 use Rattle.utf8.specs.Formed.{announced, second, secondLow, secondHigh, asked, formed, wellFormed}
-use Rattle.validity.specs.Windows.{pending, never, faulty, calm, calmAt}
+use Rattle.windows.specs.Windows.{pending, never, faulty, calm}
+use Rattle.windows.proofs.Calmness.{second-plain, pending-1, pending-2, pending-3, pending-none}
+use Rattle.validity.specs.Texts.{calmAt}
 
 or-right : (a b : Bool) → (a || b) ≡ false → b ≡ false
 or-right true b e = clash true refl e
@@ -28,11 +30,6 @@ record History (b3 b2 b1 : ℕ) : Type 0 where
   lead1 : 0xC0 ≤ b1 → (0xC2 ≤ b1) × (b1 < 0xF5)
   lead2 : 0xE0 ≤ b2 → (b1 < 0xC0) × (b2 < 0xF5)
   lead3 : 0xF0 ≤ b3 → b3 < 0xF5
-
-second-plain : (b : ℕ) → b < 0xE0 → second b ≡ trail
-unfolding second
-second-plain b h =
-    simp (ne-eqb b 0xE0 (λ e. omega arith), ne-eqb b 0xF0 (λ e. omega arith), ne-eqb b 0xED (λ e. omega arith), ne-eqb b 0xF4 (λ e. omega arith))
 
 pub asked-none : (b : ℕ) → b < 0x80 → asked b ≡ []
 unfolding asked announced
@@ -114,22 +111,6 @@ module _ (b3 b2 b1 : ℕ) where
   unfolding wanted
   wanted-none h k l = simp (lt-leb 0xC0 b1 h, lt-leb 0xE0 b2 k, lt-leb 0xF0 b3 l)
 
-  pub pending-1 : 0xC0 ≤ b1 → pending b3 b2 b1 ≡ true
-  unfolding pending
-  pending-1 h = simp (le-leb 0xC0 b1 h)
-
-  pending-2 : b1 < 0xC0 → 0xE0 ≤ b2 → pending b3 b2 b1 ≡ true
-  unfolding pending
-  pending-2 h k = simp (lt-leb 0xC0 b1 h, le-leb 0xE0 b2 k)
-
-  pending-3 : b1 < 0xC0 → b2 < 0xE0 → 0xF0 ≤ b3 → pending b3 b2 b1 ≡ true
-  unfolding pending
-  pending-3 h k l = simp (lt-leb 0xC0 b1 h, lt-leb 0xE0 b2 k, le-leb 0xF0 b3 l)
-
-  pending-none : b1 < 0xC0 → b2 < 0xE0 → b3 < 0xF0 → pending b3 b2 b1 ≡ false
-  unfolding pending
-  pending-none h k l = simp (lt-leb 0xC0 b1 h, lt-leb 0xE0 b2 k, lt-leb 0xF0 b3 l)
-
 module _ (b3 b2 b1 : ℕ) where
   -- where a character is pending, a byte is calm exactly when it is in the range that b1 leaves for it
   calm-pending : (b : ℕ) → pending b3 b2 b1 ≡ true → not (faulty b3 b2 b1 b) ≡ within (second b1) b
@@ -165,12 +146,6 @@ module _ (b3 b2 b1 : ℕ) where
   calm-zero : b1 < 0xC0 → b2 < 0xE0 → b3 < 0xF0 → not (faulty b3 b2 b1 0) ≡ true
   unfolding faulty xor never within
   calm-zero h k l = rw (pending-none b3 b2 b1 h k l, second-plain b1 (omega arith))
-
--- four bytes below 80
-pub calm-ascii : (b3 b2 b1 b0 : ℕ) → b3 < 0x80 → b2 < 0x80 → b1 < 0x80 → b0 < 0x80 → not (faulty b3 b2 b1 b0) ≡ true
-unfolding faulty xor never within
-calm-ascii b3 b2 b1 b0 h3 h2 h1 h0 =
-    rw (pending-none b3 b2 b1 (omega arith) (omega arith) (omega arith), second-plain b1 (omega arith), lt-leb 0x80 b0 h0, lt-leb 0xC0 b0 (omega arith), lt-leb 0xF5 b0 (omega arith))
 
 within-zero : (a : ℕ) → within (second a) 0 ≡ false
 unfolding second within

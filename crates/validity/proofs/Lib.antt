@@ -2,4 +2,3 @@
 pub mod FastForm
 pub mod Padding
 pub mod Ascii
-pub mod Tiers

@@ -3,7 +3,7 @@ use Prim.Native.Nat.{ℕ, zero, suc, _+_, _-_, _≤_, _<_}
 use mathlib.Core.Path.{_≡_, _∙_, ap, refl, sym}
 use mathlib.Core.Bool.{Bool, true, false, _&&_, not}
 use mathlib.Core.List.{List, _∷_}
-use native.Mathlib.Nat.{add-zero, zero-add}
+use native.Mathlib.Nat.{zero-add}
 use native.Mathlib.Omega.{arith}
 use lib.ListN.{length, getD, drop, length-take, length-drop, List·getD-eq-default}
 use lib.Seq.{getD-take, getD-drop}
@@ -11,7 +11,9 @@ use Rattle.runs.specs.Every.{everyBelow}
 use Rattle.runs.specs.Splice.{part}
 use Rattle.runs.proofs.Everywhere.{every-suc, every-not, every-add, every-ext, and-true, and-false-l}
 use Rattle.utf8.specs.Formed.{wellFormed}
-use Rattle.validity.specs.Windows.{faulty, calm, calmFirst, paddedAt, calmAt, calmFrom}
+use Rattle.windows.specs.Windows.{faulty, calm, calmFirst}
+use Rattle.windows.proofs.Calmness.{calm-read}
+use Rattle.validity.specs.Texts.{paddedAt, calmAt, calmFrom}
 use Rattle.validity.proofs.FastForm.{formed-calm}
 
 pub padded-low : (s : List ℕ) (k : ℕ) → k < 3 → paddedAt s k ≡ 0
@@ -32,10 +34,6 @@ pub padded-past : (s : List ℕ) (k : ℕ) → 3 ≤ k → length s ≤ k - 3 �
 padded-past s k h past = padded-high s k h ∙ List·getD-eq-default s 0 past
 
 -- a window by the four bytes read at it
-pub calm-read : (w : List ℕ) (i : ℕ) (f : Bool) → f ≡ faulty (getD w i 0) (getD w (i + 1) 0) (getD w (i + 2) 0) (getD w (i + 3) 0) → not f ≡ calm (drop i w)
-unfolding calm
-calm-read w i f e = rw (e, getD-drop i w 0 0, getD-drop i w 1 0, getD-drop i w 2 0, getD-drop i w 3 0, add-zero i)
-
 pub calm-padded : (s : List ℕ) (i b3 b2 b1 b0 : ℕ) (f : Bool) → b3 ≡ paddedAt s i → b2 ≡ paddedAt s (i + 1) → b1 ≡ paddedAt s (i + 2) → b0 ≡ paddedAt s (i + 3) → f ≡ faulty b3 b2 b1 b0 → not f ≡ calmAt s i
 unfolding paddedAt calmAt
 calm-padded s i b3 b2 b1 b0 f e3 e2 e1 e0 e = calm-read (0 ∷ 0 ∷ 0 ∷ s) i f (rw (← e3, ← e2, ← e1, ← e0) e)

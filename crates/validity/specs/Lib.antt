@@ -1,2 +1,2 @@
--- The fast form of well-formed UTF-8.
-pub mod Windows
+-- A text and its windows.
+pub mod Texts

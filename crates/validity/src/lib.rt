@@ -1,17 +1,13 @@
 // Whether a text is well-formed UTF-8, judged in blocks: each byte by itself and the three before it.
-mod blocks;
-mod extremes;
-mod faults;
-
-use blocks::block_formed;
-use blocks::calm_four;
-use extremes::largest;
-use faults::faulty;
+use windows::blocks::block_formed;
+use windows::blocks::calm_four;
+use windows::extremes::largest;
+use windows::faults::faulty;
 ghost use mathlib.Core.Path.{_≡_};
 ghost use Prim.Native.Nat.{_+_, _-_, _≤_, _<_};
 ghost use lib.ListN.{length};
 ghost use Rattle.utf8.specs.Formed.{wellFormed};
-ghost use Rattle.validity.specs.Windows.{ascii, paddedAt, calmAt, calmFrom};
+ghost use Rattle.validity.specs.Texts.{ascii, paddedAt, calmAt, calmFrom};
 
 // Whether every byte is below 80 (Rust: `<[u8]>::is_ascii`).
 pub fn is_ascii(s: &[u8]) -> bool

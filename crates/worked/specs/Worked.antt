@@ -4,13 +4,14 @@ use mathlib.Core.Path.{_≡_, refl}
 use mathlib.Core.Bool.{Bool, true, false, _&&_}
 use mathlib.Core.List.{List, [], _∷_}
 use lib.Dec.{eqb}
+use Rattle.runs.specs.Columns.{column}
 use Rattle.runs.specs.Every.{everyBelow}
 use Rattle.runs.specs.Same.{same}
 use Rattle.utf8.specs.Table.{within}
 use Rattle.utf8.specs.Formed.{announced, second, asked, formed, continues, boundary}
 use Rattle.note.specs.Refusals.{verdict}
 use Rattle.note.specs.Notes.{Note, fits, paired, textsFormed, inside, onBoundaries, shared, forward, aligned}
-use Rattle.note.specs.Starting.{charStart, charEnd, column, starting}
+use Rattle.note.specs.Starting.{charStart, charEnd, starting}
 use Rattle.convert.specs.declared.Converted.{Converted}
 use Rattle.convert.specs.declared.Converted.the-variants.{Found, Refused}
 use Rattle.convert.specs.Converting.{inOriginal, inNormalized, startOf, endOf, expanded, begun, stepped, walkFrom, walked, toOriginal, toNormalized, converted, answered, convertOffsets}

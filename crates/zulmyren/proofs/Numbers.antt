@@ -3,8 +3,6 @@ use Prim.Native.Nat.{ℕ, _≤_, min}
 use mathlib.Core.Path.{_≡_, _∙_, ap, refl, sym}
 use mathlib.Core.Bool.{Bool, true, _&&_}
 use mathlib.Core.List.{List}
-use Rattle.note.specs.declared.LetterCount.{LetterCount}
-use Rattle.note.specs.declared.LetterCount.the-variants.{Letters, Unread}
 use Rattle.note.specs.declared.Refusal.{Refusal}
 use Rattle.note.specs.declared.Verdict.{Verdict}
 use Rattle.note.specs.Refusals.{numberOf, answerOf, verdict}
@@ -12,6 +10,8 @@ use Rattle.note.specs.Starting.{Started}
 use Rattle.note.specs.declared.CharIndex.{CharIndex}
 use Rattle.positions.specs.declared.CharOffsets.{CharOffsets}
 use Rattle.positions.specs.declared.CharOffsets.the-variants.{Chars, Refused}
+use Rattle.positions.specs.declared.letters.LetterCount.{LetterCount}
+use Rattle.positions.specs.declared.letters.LetterCount.the-variants.{Letters, Unread}
 use Rattle.positions.specs.Positions.{ConvertedAll}
 use Rattle.note.specs.Notes.{Note}
 use Rattle.convert.specs.declared.Range.{Range}
@@ -40,9 +40,11 @@ use Rattle.alike.specs.declared.Comparison.the-variants.{Compared, Uncompared}
 use Rattle.find.specs.declared.Matches.{Matches}
 use Rattle.find.specs.declared.Matches.the-variants.{Written, Refused as Unlisted}
 use Rattle.find.specs.Matching.{Finding}
-use Rattle.zulmyren.specs.declared.Count.{Count}
+use Rattle.redaction.specs.declared.Redaction.{Redaction}
+use Rattle.redaction.specs.declared.Redaction.the-variants.{Published, Refused as Unpublished}
+use Rattle.redaction.specs.Redacting.{Redacted}
 use Rattle.zulmyren.specs.declared.Offsets.{Offsets}
-use Rattle.zulmyren.specs.Calls.{countOf, charsOf, comparedOf, sideOf, offsetsOf, lengthIn, StartedCall, ConvertedCall, BatchCall, FindCall, ReplaceCall, listedOf}
+use Rattle.zulmyren.specs.Calls.{countOf, charsOf, comparedOf, sideOf, offsetsOf, lengthIn, StartedCall, ConvertedCall, BatchCall, FindCall, ReplaceCall, listedOf, publishedOf, RedactCall}
 
 pub started-call : (text starts₀ ends₀ : List ℕ) (v : Verdict) (r : ℕ) (starts₁ ends₁ : List ℕ) → Started text starts₀ ends₀ v starts₁ ends₁ → r ≡ answerOf v → StartedCall text starts₀ ends₀ r starts₁ ends₁
 started-call text starts₀ ends₀ v r starts₁ ends₁ s e = record { number = e ∙ ap answerOf (s .answer); buffers = rw (s .answer) at s }
@@ -124,3 +126,10 @@ find-told text literal o₀ o₁ v n f l = record { numbers = sym (ap listedOf (
 
 pub find-refused : (text literal o₀ o₁ : List ℕ) (v : Matches) (k : Refusal) (r : ℕ) → Finding text literal o₀ v o₁ → v ≡ Unlisted k → r ≡ numberOf k → FindCall text literal o₀ (record { refusal = r; len = 0 }) o₁
 find-refused text literal o₀ o₁ v k r f l q = record { numbers = rw q (sym (ap listedOf (sym (f .answer) ∙ l))); list = f .list }
+
+module _ (text literal filler starts₀ ends₀ list₀ out₀ outStarts₀ outEnds₀ : List ℕ) (v : Redaction) (starts ends list out outStarts outEnds : List ℕ) (call : Redacted text literal filler starts₀ ends₀ list₀ out₀ outStarts₀ outEnds₀ v starts ends list out outStarts outEnds) where
+  pub redact-told : (n : ℕ) → v ≡ Published n → RedactCall text literal filler starts₀ ends₀ list₀ out₀ outStarts₀ outEnds₀ (record { refusal = 0; count = n }) starts ends list out outStarts outEnds
+  redact-told n is = record { answer = v; numbers = sym (ap publishedOf is); buffers = call }
+
+  pub redact-refused : (k : Refusal) (r : ℕ) → v ≡ Unpublished k → r ≡ numberOf k → RedactCall text literal filler starts₀ ends₀ list₀ out₀ outStarts₀ outEnds₀ (record { refusal = r; count = 0 }) starts ends list out outStarts outEnds
+  redact-refused k r is e = record { answer = v; numbers = rw e (sym (ap publishedOf is)); buffers = call }

@@ -4,12 +4,12 @@ use mathlib.Core.Path.{_≡_}
 use mathlib.Core.Bool.{Bool, true, false}
 use mathlib.Core.List.{List}
 use lib.ListN.{length}
-use Rattle.note.specs.declared.LetterCount.{LetterCount}
-use Rattle.note.specs.declared.LetterCount.the-variants.{Letters, Unread}
 use Rattle.note.specs.Refusals.{numberOf, answerOf, verdict, left}
 use Rattle.note.specs.Starting.{startingFaults, Started}
 use Rattle.positions.specs.declared.CharOffsets.{CharOffsets}
 use Rattle.positions.specs.declared.CharOffsets.the-variants.{Chars, Refused}
+use Rattle.positions.specs.declared.letters.LetterCount.{LetterCount}
+use Rattle.positions.specs.declared.letters.LetterCount.the-variants.{Letters, Unread}
 use Rattle.positions.specs.Positions.{listFaults, ConvertedAll}
 use Rattle.note.specs.Notes.{Note}
 use Rattle.convert.specs.declared.Converted.{Converted}
@@ -26,6 +26,9 @@ use Rattle.alike.specs.declared.Comparison.the-variants.{Compared, Uncompared}
 use Rattle.find.specs.declared.Matches.{Matches}
 use Rattle.find.specs.declared.Matches.the-variants.{Written, Refused as Unlisted}
 use Rattle.find.specs.Matching.{findFaults, foundBytes, answered as found}
+use Rattle.redaction.specs.declared.Redaction.{Redaction}
+use Rattle.redaction.specs.declared.Redaction.the-variants.{Published, Refused as Unpublished}
+use Rattle.redaction.specs.Redacting.{Redacted}
 use Rattle.zulmyren.specs.declared.Count.{Count}
 use Rattle.zulmyren.specs.declared.Listed.{Listed}
 use Rattle.zulmyren.specs.declared.Offsets.{Offsets}
@@ -82,3 +85,13 @@ listedOf (Unlisted k) = record { refusal = numberOf k; len = 0 }
 pub record FindCall (text literal o₀ : List ℕ) (r : Listed) (o₁ : List ℕ) : Type 0 where
   pub numbers : r ≡ listedOf (found (verdict (findFaults text literal (length o₀))) (length (foundBytes text literal)))
   pub list : o₁ ≡ left (verdict (findFaults text literal (length o₀))) (foundBytes text literal) o₀
+
+-- how many bytes are published, or the refusal's number
+abbrev pub publishedOf : Redaction → Count
+publishedOf (Published n) = record { refusal = 0; count = n }
+publishedOf (Unpublished k) = record { refusal = numberOf k; count = 0 }
+
+pub record RedactCall (text literal filler starts₀ ends₀ list₀ out₀ outStarts₀ outEnds₀ : List ℕ) (r : Count) (starts ends list out outStarts outEnds : List ℕ) : Type 0 where
+  pub answer : Redaction
+  pub numbers : r ≡ publishedOf answer
+  pub buffers : Redacted text literal filler starts₀ ends₀ list₀ out₀ outStarts₀ outEnds₀ answer starts ends list out outStarts outEnds

@@ -4,21 +4,22 @@ use batch::OffsetReferential;
 use batch::range_of;
 use convert::Converted;
 use find::Matches;
-use note::LetterCount;
 use note::OriginalByte;
 use note::Verdict;
 use positions::CharOffsets;
+use positions::letters::LetterCount;
+use redaction::Redaction;
 ghost use mathlib.Core.Path.{_≡_};
 ghost use Rattle.utf8.specs.Formed.{wellFormed};
-ghost use Rattle.note.specs.Counting.{letterCount};
 ghost use Rattle.note.specs.Notes.{noteFaults};
 ghost use Rattle.note.specs.Refusals.{answerOf, verdict};
+ghost use Rattle.positions.specs.Counting.{letterCount};
 ghost use Rattle.positions.specs.Positions.{converted};
 ghost use Rattle.convert.specs.Converting.{convertOffsets};
 ghost use Rattle.reading.specs.Reading.{getRange, getRangeOriginal, partFaults};
 ghost use Rattle.alike.specs.Alike.{says};
 ghost use Rattle.batch.specs.Ranges.{rangeOf};
-ghost use Rattle.zulmyren.specs.Calls.{countOf, charsOf, comparedOf, sideOf, offsetsOf, BatchCall, ConvertedCall, FindCall, ReplaceCall, StartedCall};
+ghost use Rattle.zulmyren.specs.Calls.{countOf, charsOf, comparedOf, sideOf, offsetsOf, BatchCall, ConvertedCall, FindCall, RedactCall, ReplaceCall, StartedCall};
 
 #[no_mangle]
 pub extern "C" fn zulmyren_well_formed(text: &[u8]) -> bool
@@ -44,7 +45,7 @@ pub extern "C" fn zulmyren_check_note(
 pub extern "C" fn zulmyren_from_text(text: &[u8], starts: &mut [u16], ends: &mut [u16]) -> u32
     ensures { λ r. ⌜ StartedCall (now (text .entry)) (now (starts .entry)) (now (ends .entry)) r (now (starts .exit)) (now (ends .exit)) ⌝ }
 {
-    note::answer(note::starting::from_text(text, starts, ends))
+    note::answer(starting::from_text(text, starts, ends))
 }
 
 // The answer of a count: the refusal's number, or 0 and the count.
@@ -58,7 +59,7 @@ pub struct Count {
 pub extern "C" fn zulmyren_letter_count(text: &[u8], start: u32, end: u32) -> Count
     ensures { λ r. ⌜ r ≡ countOf (letterCount (now (text .entry)) start end) ⌝ }
 {
-    match note::letters::letter_count(text, start, end) {
+    match positions::letters::letter_count(text, start, end) {
         LetterCount::Letters(count) => Count { refusal: 0, count },
         LetterCount::Unread(k) => Count {
             refusal: note::number(k),
@@ -334,6 +335,42 @@ pub extern "C" fn zulmyren_find_matches(text: &[u8], literal: &[u8], out: &mut [
         Matches::Refused(k) => Listed {
             refusal: note::number(k),
             len: 0,
+        },
+    }
+}
+
+#[no_mangle]
+pub extern "C" fn zulmyren_redact(
+    text: &[u8],
+    literal: &[u8],
+    filler: &[u8],
+    starts: &mut [u16],
+    ends: &mut [u16],
+    list: &mut [u8],
+    out: &mut [u8],
+    out_starts: &mut [u16],
+    out_ends: &mut [u16],
+) -> Count
+    ensures { λ r. ⌜ RedactCall (now (text .entry)) (now (literal .entry)) (now (filler .entry)) (now (starts .entry)) (now (ends .entry)) (now (list .entry)) (now (out .entry)) (now («out_starts» .entry)) (now («out_ends» .entry)) r (now (starts .exit)) (now (ends .exit)) (now (list .exit)) (now (out .exit)) (now («out_starts» .exit)) (now («out_ends» .exit)) ⌝ }
+{
+    match redaction::redact(
+        text,
+        literal,
+        filler,
+        starts,
+        ends,
+        list,
+        out,
+        out_starts,
+        out_ends,
+    ) {
+        Redaction::Published(size) => Count {
+            refusal: 0,
+            count: size as u32,
+        },
+        Redaction::Refused(k) => Count {
+            refusal: note::number(k),
+            count: 0,
         },
     }
 }

@@ -1,6 +1,4 @@
 -- As many characters on, or back, as begin between the two bytes.
-use mathlib.Core.Path.{_≡_}
-use Prim.Native.Nat.{_+_}
 use Rattle.positions.proofs.Stepping.{index-most, moved-on, moved-back}
 use native.Mathlib.Omega.{arith}
 use borrow.Author.Needs.{needs}

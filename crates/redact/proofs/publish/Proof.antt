@@ -1,5 +1,7 @@
 -- What is published fits the arrays that were lent for it.
 use mathlib.Core.Path.{_∙_, sym}
+use native.Mathlib.Omega.{arith}
+use lib.ListN.{length-take}
 use lib.Seq.{length-take-le}
 use Rattle.redaction.specs.Publishing.{text-fits, starts-fit, ends-fit}
 use borrow.Author.Needs.{needs}
@@ -43,7 +45,7 @@ slice-aggregate-write-alignments-2 : tie.Need-slice-aggregate-write-alignments-2
 slice-aggregate-write-alignments-2 c = sym (length-take-le _ _ (ends-fit _ _ _ _ _ _ _ _ _ _ _ _ _ _ _ _ (c .before .before .before .before .before .before .before .before .before .before .before .before .redact .ensures) _ (c .before .before .before .before .n .given .1)))
 
 write-alignments-requires : tie.Need-write-alignments-requires
-write-alignments-requires c κs = length-take-le _ _ (starts-fit _ _ _ _ _ _ _ _ _ _ _ _ _ _ _ _ (c .before .before .before .before .before .before .before .before .before .before .before .before .redact .ensures) _ (c .before .before .before .before .n .given .1)) ∙ sym (length-take-le _ _ (ends-fit _ _ _ _ _ _ _ _ _ _ _ _ _ _ _ _ (c .before .before .before .before .before .before .before .before .before .before .before .before .redact .ensures) _ (c .before .before .before .before .n .given .1)))
+write-alignments-requires c κs = (length-take-le _ _ (starts-fit _ _ _ _ _ _ _ _ _ _ _ _ _ _ _ _ (c .before .before .before .before .before .before .before .before .before .before .before .before .redact .ensures) _ (c .before .before .before .before .n .given .1)) ∙ sym (length-take-le _ _ (ends-fit _ _ _ _ _ _ _ _ _ _ _ _ _ _ _ _ (c .before .before .before .before .before .before .before .before .before .before .before .before .redact .ensures) _ (c .before .before .before .before .n .given .1))), simp length-take (omega (arith, c .before .before .before .before .before .before .before .out-starts2 .given)))
 
 judge-written-requires : tie.Need-judge-written-requires
 judge-written-requires c κs = search needs

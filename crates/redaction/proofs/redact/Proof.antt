@@ -1,34 +1,30 @@
--- The columns that are written are the starting note's, and what the search makes of that is the result.
-use mathlib.Core.Path.{sym}
-use lib.Seq.{length-take-le}
-use Rattle.redaction.proofs.Answers.{starts-long, ends-long, fresh-accepted, redacted, not-redacted}
+-- Each refusal by the checks before it; past them all everything is written.
+use Rattle.redaction.proofs.Answers.{too-long, torn, judged, no-room, all-pass, not-redacted}
+use native.Mathlib.Omega.{arith}
 use borrow.Author.Needs.{needs}
 use Rattle.redaction.proofs.redact.Statement.{statement}
 use Rattle.redaction.proofs.redact.Tie as tie
 
-from-text-requires : tie.Need-from-text-requires
-from-text-requires c κs = search needs
+returns : tie.Need-returns
+returns c = too-long _ _ _ _ _ _ _ _ _ (omega arith)
 
-enum-told : tie.Need-enum-told
-enum-told c = search needs
+all-formed-requires : tie.Need-all-formed-requires
+all-formed-requires c κs = search needs
 
-slice-reshare-prefix-search : tie.Need-slice-reshare-prefix-search
-slice-reshare-prefix-search c = starts-long _ _ _ _ _ _ (c .before .before .before .before .before .before .from-text .ensures) (c .enum-told .given .1)
+returns-2 : tie.Need-returns-2
+returns-2 c = not-redacted _ _ _ _ _ _ _ _ _ _ (torn _ _ _ _ _ _ _ _ _ (omega arith) _ (c .before .all-formed .ensures) (c .if2 .taken))
 
-slice-aggregate-search : tie.Need-slice-aggregate-search
-slice-aggregate-search c = sym (length-take-le _ _ (starts-long _ _ _ _ _ _ (c .before .before .before .before .before .before .before .from-text .ensures) (c .before .enum-told .given .1)))
+first-match-requires : tie.Need-first-match-requires
+first-match-requires c κs = search needs
 
-slice-reshare-prefix-search-2 : tie.Need-slice-reshare-prefix-search-2
-slice-reshare-prefix-search-2 c = ends-long _ _ _ _ _ _ (c .before .before .before .before .before .before .before .from-text .ensures) (c .before .enum-told .given .1)
+all-fit-requires : tie.Need-all-fit-requires
+all-fit-requires c κs = judged _ _ _ (omega arith) _ (c .before .before .all-formed .ensures) (c .before .if2 .left) _ (c .first-match .ensures)
 
-slice-aggregate-search-2 : tie.Need-slice-aggregate-search-2
-slice-aggregate-search-2 c = sym (length-take-le _ _ (ends-long _ _ _ _ _ _ (c .before .before .before .before .before .before .before .before .from-text .ensures) (c .before .before .enum-told .given .1)))
+returns-3 : tie.Need-returns-3
+returns-3 c = not-redacted _ _ _ _ _ _ _ _ _ _ (no-room _ _ _ _ _ _ _ _ _ (omega arith) _ (c .before .before .before .before .all-formed .ensures) (c .before .before .before .if2 .left) _ (c .before .all-fit .ensures) (c .if3 .taken))
 
-search-requires : tie.Need-search-requires
-search-requires c κs = fresh-accepted _ _ _ _ _ _ (c .before .before .before .before .before .before .before .before .before .before .before .before .from-text .ensures) (c .before .before .before .before .before .before .enum-told .given .1)
-
-enum-known-k : tie.Need-enum-known-k
-enum-known-k c = search needs
+blank-requires : tie.Need-blank-requires
+blank-requires c κs = (all-pass _ _ _ _ _ _ _ _ _ (omega arith) _ (c .before .before .before .before .before .before .before .before .before .before .all-formed .ensures) (c .before .before .before .before .before .before .before .before .before .if2 .left) _ (c .before .before .before .before .before .before .before .all-fit .ensures) (c .before .before .before .before .before .before .if3 .left), c .before .before .before .before .before .before .before .before .first-match .ensures)
 
 same-length : tie.Need-same-length
 same-length c = search needs
@@ -48,37 +44,24 @@ same-length-5 c = search needs
 same-length-6 : tie.Need-same-length-6
 same-length-6 c = search needs
 
-returns : tie.Need-returns
-returns c = redacted _ _ _ _ _ _ (c .before .before .before .before .before .before .before .before .before .before .before .before .before .before .before .before .before .before .before .before .before .from-text .ensures) _ _ _ _ _ _ (c .before .before .before .before .before .before .before .before .before .before .before .before .before .before .before .enum-told .given .1) _ _ _ _ _ (c .before .before .before .before .before .before .before .before .search .ensures)
-
-same-length-7 : tie.Need-same-length-7
-same-length-7 c = search needs
-
-same-length-8 : tie.Need-same-length-8
-same-length-8 c = search needs
-
-returns-2 : tie.Need-returns-2
-returns-2 c = not-redacted _ _ _ _ _ _ (c .before .before .before .before .before .before .before .from-text .ensures) _ _ _ _ _ _ _ (c .before .k .given .1)
+returns-4 : tie.Need-returns-4
+returns-4 c = search needs
 
 pub redact-spec : {M : Type 1} → statement M
 redact-spec =
     tie.close
     (tie.spec
-    from-text-requires
-    enum-told
-    slice-reshare-prefix-search
-    slice-aggregate-search
-    slice-reshare-prefix-search-2
-    slice-aggregate-search-2
-    search-requires
-    enum-known-k
+    returns
+    all-formed-requires
+    returns-2
+    first-match-requires
+    all-fit-requires
+    returns-3
+    blank-requires
     same-length
     same-length-2
     same-length-3
     same-length-4
     same-length-5
     same-length-6
-    returns
-    same-length-7
-    same-length-8
-    returns-2)
+    returns-4)

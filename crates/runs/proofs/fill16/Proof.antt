@@ -1,6 +1,6 @@
 -- Each turn writes the value once more.
-use Prim.Native.Nat.{_-_, _<_}
-use lib.ListN.{length, replicate}
+use Prim.Native.Nat.{_-_}
+use lib.ListN.{replicate}
 use Rattle.runs.proofs.Written.{Written, none-yet, one-same, all-same}
 use native.Mathlib.Omega.{arith}
 use Rattle.runs.proofs.fill16.Statement.{statement}

@@ -1,6 +1,6 @@
 -- Nothing so far is cut.
 use Prim.Native.Nat.{_≤_, _-_}
-use mathlib.Core.Path.{_≡_, _∙_, ap}
+use mathlib.Core.Path.{_≡_}
 use lib.ListN.{length}
 use Rattle.note.specs.Steady.{uncutBelow}
 use Rattle.note.proofs.Aligning.{uncut-none, uncut-more, at-end}

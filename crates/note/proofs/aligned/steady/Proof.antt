@@ -1,6 +1,6 @@
 -- Every alignment so far can follow the one before it.
 use Prim.Native.Nat.{_≤_, _-_}
-use mathlib.Core.Path.{_≡_, _∙_, ap, refl}
+use mathlib.Core.Path.{_≡_, refl}
 use lib.ListN.{length}
 use Rattle.note.specs.Steady.{steady}
 use Rattle.note.proofs.Aligning.{steady-none, steady-first, steady-more, at-end}

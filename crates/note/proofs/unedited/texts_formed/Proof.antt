@@ -1,7 +1,6 @@
 -- The first text that is not well-formed; the same text is judged once.
 use borrow.Author.Tests.{not-true, not-false}
 use Rattle.note.proofs.Checking.{texts-torn, texts-same, texts-both}
-use Rattle.runs.proofs.Everywhere.{and-true, and-false-l}
 use borrow.Author.Needs.{needs}
 use Rattle.note.proofs.unedited.texts_formed.Statement.{statement}
 use Rattle.note.proofs.unedited.texts_formed.Tie as tie

@@ -1,68 +1,41 @@
--- A run has a byte at least, and goes no further than the columns.
-use Prim.Native.Nat.{_≤_, _-_}
-use lib.ListN.{length}
-use Rattle.redaction.proofs.Walking.{run-within}
+-- What is laid fits the array that was lent for it.
+use mathlib.Core.Path.{sym}
+use lib.Seq.{length-take-le}
+use Rattle.redaction.specs.Publishing.{overlay-long}
 use native.Mathlib.Omega.{arith}
+use borrow.Author.Needs.{needs}
 use Rattle.redact.proofs.lines.write_alignments.Statement.{statement}
 use Rattle.redact.proofs.lines.write_alignments.Tie as tie
 
-abbrev Inv-loop : tie.InvT-loop
-Inv-loop starts ends at₀ at = at ≤ length starts
+lines-buffer-requires : tie.Need-lines-buffer-requires
+lines-buffer-requires c κs = search needs
 
-abbrev μ-loop : tie.MeasureT-loop
-μ-loop starts ends at₀ at = length starts - at
+slice-aggregate-write-lines : tie.Need-slice-aggregate-write-lines
+slice-aggregate-write-lines c = search needs
 
-loop-holds : tie.Need-loop-holds Inv-loop μ-loop
-loop-holds c = omega arith
+write-lines-requires : tie.Need-write-lines-requires
+write-lines-requires c κs = (omega arith, omega arith, omega arith)
 
-run-at-requires : tie.Need-run-at-requires Inv-loop μ-loop
-run-at-requires c κs = (c .before .before .before .before .pre, omega arith)
+array-share-prefix-lines : tie.Need-array-share-prefix-lines
+array-share-prefix-lines c = overlay-long _ _ _ _ (sym (c .before .write-lines .ensures .0)) (c .before .write-lines .ensures .1)
 
-mul-write-line : tie.Need-mul-write-line Inv-loop μ-loop
-mul-write-line c = omega arith
+slice-aggregate-write-all : tie.Need-slice-aggregate-write-all
+slice-aggregate-write-all c = sym (length-take-le _ _ (overlay-long _ _ _ _ (sym (c .before .before .write-lines .ensures .0)) (c .before .before .write-lines .ensures .1)))
 
-shared-slice-read-write-line : tie.Need-shared-slice-read-write-line Inv-loop μ-loop
-shared-slice-read-write-line c = omega arith
+write-all-requires : tie.Need-write-all-requires
+write-all-requires c κs = search needs
 
-mul-write-line-2 : tie.Need-mul-write-line-2 Inv-loop μ-loop
-mul-write-line-2 c = omega arith
-
-shared-slice-read-write-line-2 : tie.Need-shared-slice-read-write-line-2 Inv-loop μ-loop
-shared-slice-read-write-line-2 c = omega arith
-
-write-line-requires : tie.Need-write-line-requires Inv-loop μ-loop
-write-line-requires c κs = tt
-
-returns : tie.Need-returns Inv-loop μ-loop
-returns c = tt
-
-add-at : tie.Need-add-at Inv-loop μ-loop
-add-at c = omega (arith, run-within (c .before .before .before .before .before .before .before .before .before .args .starts .now) (c .before .before .before .before .before .before .before .before .before .args .ends .now) (c .before .before .before .before .before .before .loop .at) (c .before .before .before .before .run-at .result) (c .before .before .before .before .before .before .before .before .before .pre) (c .before .before .before .before .before .loop-test .taken) (c .before .before .before .before .run-at .ensures))
-
-loop-less : tie.Need-loop-less Inv-loop μ-loop
-loop-less c = omega (arith, run-within (c .before .before .before .before .before .before .before .before .before .args .starts .now) (c .before .before .before .before .before .before .before .before .before .args .ends .now) (c .before .before .before .before .before .before .loop .at) (c .before .before .before .before .run-at .result) (c .before .before .before .before .before .before .before .before .before .pre) (c .before .before .before .before .before .loop-test .taken) (c .before .before .before .before .run-at .ensures))
-
-loop-again : tie.Need-loop-again Inv-loop μ-loop
-loop-again c = omega (arith, run-within (c .before .before .before .before .before .before .before .before .before .args .starts .now) (c .before .before .before .before .before .before .before .before .before .args .ends .now) (c .before .before .before .before .before .before .loop .at) (c .before .before .before .before .run-at .result) (c .before .before .before .before .before .before .before .before .before .pre) (c .before .before .before .before .before .loop-test .taken) (c .before .before .before .before .run-at .ensures))
-
-returns-2 : tie.Need-returns-2 Inv-loop μ-loop
-returns-2 c = tt
+returns : tie.Need-returns
+returns c = search needs
 
 pub write-alignments-spec : {M : Type 1} → statement M
 write-alignments-spec =
     tie.close
     (tie.spec
-    Inv-loop
-    μ-loop
-    loop-holds
-    run-at-requires
-    mul-write-line
-    shared-slice-read-write-line
-    mul-write-line-2
-    shared-slice-read-write-line-2
-    write-line-requires
-    returns
-    add-at
-    loop-less
-    loop-again
-    returns-2)
+    lines-buffer-requires
+    slice-aggregate-write-lines
+    write-lines-requires
+    array-share-prefix-lines
+    slice-aggregate-write-all
+    write-all-requires
+    returns)

@@ -1,0 +1,4 @@
+-- Laws that belong to no one function.
+pub mod Calmness
+pub mod Bounds
+pub mod Tiers

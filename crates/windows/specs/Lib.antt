@@ -1,0 +1,2 @@
+-- The fast form of well-formed UTF-8: a byte and the three before it.
+pub mod Windows
