@@ -21,7 +21,8 @@ use tokenizers::NormalizedString;
 const PATH: &str = "crates/replay/data/answers";
 
 pub fn write() -> ExitCode {
-    let sections = [well_formed(), letter_counts(), starting_notes(), checked_notes()].into_iter().chain(calls::sections());
+    let sections =
+        [well_formed(), letter_counts(), starting_notes(), checked_notes()].into_iter().chain(calls::sections());
     let sections: Vec<Section> = sections.map(Section::distinct).collect();
     let list = list::of_sections(&sections);
     std::fs::write(PATH, &list).unwrap_or_else(|error| panic!("{PATH}: {error}"));

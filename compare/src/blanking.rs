@@ -3,9 +3,9 @@
 
 use crate::library::{self, Count};
 use crate::note::Note;
+use crate::notes::FAULTS;
 use crate::places::{self, Place};
 use crate::random::Random;
-use crate::notes::FAULTS;
 use crate::replace::{self, sound_notes, FILLERS};
 use crate::samples;
 use crate::tally::Tally;

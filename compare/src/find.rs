@@ -243,7 +243,7 @@ pub fn bench() {
             || timed(|| library::find_matches(black_box(text.as_bytes()), black_box(literal.as_bytes()), &mut list));
         bench::row(&len.to_string(), ours, || timed(|| black_box(literal.as_str()).find_matches(black_box(&text))));
     }
-    bench::title("from_text, find_matches and replace beside from and replace of a literal (to be at most 0.20)");
+    bench::title("from_text, find_matches and replace, each with its own checks, beside from and replace of a literal");
     for (name, text, _) in &bench_texts() {
         let mut list = any_list(text);
         let mut note = Note::from(&NormalizedString::from(text.as_str()));

@@ -153,7 +153,9 @@ fn every_short_text(tally: &mut Tally) {
 }
 
 fn every_room(tally: &mut Tally) {
-    tally.family("every text of up to 3 characters, every literal of up to 1, five fillers, short in each buffer in turn");
+    tally.family(
+        "every text of up to 3 characters, every literal of up to 1, five fillers, short in each buffer in turn",
+    );
     for text in strings(3) {
         for literal in strings(1) {
             for filler in FILLERS {
@@ -185,7 +187,7 @@ fn any_texts(tally: &mut Tally) {
         let literal: String = text[at..].chars().take(random.below(6)).collect();
         let size = random.below(20);
         let filler = texts::text(*random.choose(&KINDS), size, &mut random);
-        redact(tally, [&text, &literal, &filler].map(str::as_bytes), rooms);
+        redact(tally, [text.as_bytes(), literal.as_bytes(), filler.as_bytes()], rooms);
     }
 }
 
@@ -206,7 +208,7 @@ fn around_the_limit(tally: &mut Tally) {
 }
 
 pub fn bench() {
-    bench::title("redact: from the text to the published note in one call, beside from and replace (to be at most 0.20)");
+    bench::title("redact: a literal every 45 bytes, finding, checks and alignments included, beside from and replace (to be at most 0.20)");
     for (name, text, places) in &bench_texts() {
         let (mut starts, mut ends) = (vec![0; text.len()], vec![0; text.len()]);
         let (mut out, mut out_starts, mut out_ends) = (vec![0; text.len()], vec![0; text.len()], vec![0; text.len()]);

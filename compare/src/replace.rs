@@ -525,7 +525,7 @@ pub fn bench() {
     );
     from_text_and_replace();
     heap::keep_what_is_freed();
-    bench::title("the same, all in warm memory, as are the next ones (to be at most 0.20)");
+    bench::title("the same, all in warm memory, as are the next ones");
     from_text_and_replace();
     replace_alone();
 }
@@ -547,7 +547,7 @@ fn from_text_and_replace() {
 
 fn replace_alone() {
     let texts = bench_texts();
-    bench::title("replace of a list on a ready note beside replace (to be at most 0.20)");
+    bench::title("replace of a list on a ready note, which it checks, beside replace, which does not");
     for (name, text, places) in &texts {
         let list = places::bytes(places);
         let ready = NormalizedString::from(text.as_str());

@@ -10,9 +10,8 @@ use note::Verdict;
 use utf8::count::count_leads;
 use validity::well_formed;
 ghost use mathlib.Core.Path.{_≡_};
-ghost use Prim.Native.Nat.{_<_, _≤_};
+ghost use Prim.Native.Nat.{_<_};
 ghost use lib.ListN.{length};
-ghost use Rattle.note.specs.Notes.{limit};
 ghost use Rattle.positions.specs.Positions.{ConvertedAll, Known, Pairs, Room, Stepped, indexOf, converted};
 
 // What converting a pair answers.
