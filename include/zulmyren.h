@@ -96,7 +96,8 @@ uint32_t zulmyren_convert_all(
  * (8) where a command is unknown or cut, a place ends before it starts, the places do not cover the text in order, or one stands inside a character. */
 
 /* The places of a literal in a text (Rust: find_matches of &str): leftmost, non-overlapping, as a list that covers the text. The first len bytes of out are written.
- * An empty literal matches nothing. Refusals: 2, 1 (text or literal), 9 (five bytes a place). len is 0 where it refuses. */
+ * An empty literal matches nothing. Refusals: 2, 1 (text or literal), 9 (five bytes a place). len is 0 where it refuses. 5 * (2 * (text_len / literal_len) + 1) bytes are
+ * always enough, and with so many the text is searched once; with fewer, once more to measure the list. */
 typedef struct {
     uint32_t refusal;
     size_t len;

@@ -6,7 +6,9 @@ use crate::every;
 use crate::library::{self, Columns, Offsets, RangeCall};
 use crate::lists::{self, List};
 use crate::note::Note;
+use crate::notes;
 use crate::random::Random;
+use crate::replace::of_the_original;
 use crate::samples::{self, DAMAGES, DAMAGES_AT};
 use crate::tally::{self, hex, Report, Tally};
 use crate::texts::{self, KINDS, LIMIT};
@@ -108,17 +110,11 @@ impl From<NormalizedString> for Sample {
 impl From<Note> for Sample {
     fn from(lent: Note) -> Self {
         let theirs = match lent.refusal() {
-            0 => Ok(normalized_string(&lent)),
+            0 => Ok(of_the_original(&lent)),
             refusal => Err(refusal),
         };
         Sample { lent, theirs }
     }
-}
-
-fn normalized_string(note: &Note) -> NormalizedString {
-    let text = |bytes: &[u8]| String::from_utf8(bytes.into()).expect("a sound note has well-formed texts");
-    let alignments = note.starts.iter().zip(&note.ends).map(|(&start, &end)| (start.into(), end.into())).collect();
-    NormalizedString::of_fields(text(&note.original), text(&note.normalized), alignments, note.original_shift as usize)
 }
 
 impl Sample {
@@ -281,7 +277,7 @@ fn every_range(tally: &mut Tally, call: &Call) {
 
 /// Faults of the note, and ranges that convert to nothing: 10 comes after them all.
 fn every_set_of_faults(tally: &mut Tally, call: &Call) {
-    tally.family("every set of faults out of eight, with ranges that convert and that do not");
+    tally.family("every set of faults out of nine, with ranges that convert and that do not");
     for sample in samples_with_faults() {
         for of_original in [false, true] {
             for range in [(0, 1), (1, 1), (0, 3), (3, 0), (2, 900), (900, 900), (0, u32::MAX), (u32::MAX, 0)] {
@@ -292,23 +288,7 @@ fn every_set_of_faults(tally: &mut Tally, call: &Call) {
 }
 
 fn samples_with_faults() -> impl Iterator<Item = Sample> {
-    let faults: [fn(&mut Note); 8] = [
-        |note| note.original.resize(LIMIT + 1, b'o'),
-        |note| note.normalized.resize(LIMIT + 1, b'n'),
-        |note| note.original_shift = u32::MAX,
-        |note| note.starts.push(4),
-        |note| note.ends.truncate(1),
-        |note| note.original[0] = 0xFF,
-        |note| note.normalized[0] = 0xFF,
-        |note| note.ends[0] = 2,
-    ];
-    (0..1_u32 << faults.len()).map(move |set| {
-        let mut note = Note::from(&NormalizedString::from("aéb"));
-        for (_, fault) in faults.iter().enumerate().filter(|(i, _)| set >> i & 1 == 1) {
-            fault(&mut note);
-        }
-        Sample::from(note)
-    })
+    notes::with_faults().map(|(_, note)| Sample::from(note))
 }
 
 fn sizes_around_the_limit(tally: &mut Tally, call: &Call) {
@@ -543,7 +523,7 @@ fn lists_on_every_sound_note(tally: &mut Tally) {
 }
 
 fn lists_in_every_room(tally: &mut Tally) {
-    tally.family("every set of faults out of eight, lists of every two lengths to 3 in every three rooms to 4");
+    tally.family("every set of faults out of nine, lists of every two lengths to 3 in every three rooms to 4");
     for sample in samples_with_faults() {
         // Overlong texts once more with each list would only take time.
         let long = sample.lent.original.len().max(sample.lent.normalized.len()) > LIMIT;

@@ -97,7 +97,8 @@ fn find(tally: &mut Tally, text: &[u8], literal: &[u8], rooms: impl FnOnce(usize
     }
 }
 
-fn strings(most: usize) -> Vec<String> {
+/// Every string of up to so many characters out of three.
+pub fn strings(most: usize) -> Vec<String> {
     (0..=most)
         .flat_map(|len| every::list(&['a', 'b', 'é'], len))
         .map(|characters| characters.iter().collect())

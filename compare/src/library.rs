@@ -2,6 +2,24 @@
 
 use crate::note::Note;
 
+/// A call with the nine arguments of a note before its others.
+macro_rules! on_note {
+    ($call:expr, $note:expr $(, $more:expr)* $(,)?) => {
+        $call(
+            $note.original.as_ptr(),
+            $note.original.len(),
+            $note.normalized.as_ptr(),
+            $note.normalized.len(),
+            $note.starts.as_ptr(),
+            $note.starts.len(),
+            $note.ends.as_ptr(),
+            $note.ends.len(),
+            $note.original_shift
+            $(, $more)*
+        )
+    };
+}
+
 #[repr(C)]
 #[derive(Clone, Copy, Debug, PartialEq, Eq)]
 pub struct Count {
@@ -116,19 +134,7 @@ pub fn letter_count(text: &[u8], start: u32, end: u32) -> Count {
 }
 
 pub fn check_note(note: &Note) -> u32 {
-    unsafe {
-        zulmyren_check_note(
-            note.original.as_ptr(),
-            note.original.len(),
-            note.normalized.as_ptr(),
-            note.normalized.len(),
-            note.starts.as_ptr(),
-            note.starts.len(),
-            note.ends.as_ptr(),
-            note.ends.len(),
-            note.original_shift,
-        )
-    }
+    unsafe { on_note!(zulmyren_check_note, note,) }
 }
 
 pub fn from_text(text: &[u8], starts: &mut [u16], ends: &mut [u16]) -> u32 {
@@ -176,50 +182,32 @@ pub type RangeCall = unsafe extern "C" fn(
     end: u32,
 ) -> Offsets;
 
+macro_rules! range_calls {
+    ($($name:ident),*) => {
+        #[link(name = "zulmyren", kind = "static")]
+        extern "C" {
+            $(pub fn $name(
+                original: *const u8,
+                original_len: usize,
+                normalized: *const u8,
+                normalized_len: usize,
+                starts: *const u16,
+                starts_len: usize,
+                ends: *const u16,
+                ends_len: usize,
+                original_shift: u32,
+                of_original: bool,
+                start: u32,
+                end: u32,
+            ) -> Offsets;)*
+        }
+    };
+}
+
+range_calls!(zulmyren_convert_offsets, zulmyren_get_range, zulmyren_get_range_original);
+
 #[link(name = "zulmyren", kind = "static")]
 extern "C" {
-    pub fn zulmyren_convert_offsets(
-        original: *const u8,
-        original_len: usize,
-        normalized: *const u8,
-        normalized_len: usize,
-        starts: *const u16,
-        starts_len: usize,
-        ends: *const u16,
-        ends_len: usize,
-        original_shift: u32,
-        of_original: bool,
-        start: u32,
-        end: u32,
-    ) -> Offsets;
-    pub fn zulmyren_get_range(
-        original: *const u8,
-        original_len: usize,
-        normalized: *const u8,
-        normalized_len: usize,
-        starts: *const u16,
-        starts_len: usize,
-        ends: *const u16,
-        ends_len: usize,
-        original_shift: u32,
-        of_original: bool,
-        start: u32,
-        end: u32,
-    ) -> Offsets;
-    pub fn zulmyren_get_range_original(
-        original: *const u8,
-        original_len: usize,
-        normalized: *const u8,
-        normalized_len: usize,
-        starts: *const u16,
-        starts_len: usize,
-        ends: *const u16,
-        ends_len: usize,
-        original_shift: u32,
-        of_original: bool,
-        start: u32,
-        end: u32,
-    ) -> Offsets;
     pub fn zulmyren_part_verdict(
         original: *const u8,
         original_len: usize,
@@ -280,22 +268,7 @@ pub fn convert_offsets(note: &Note, of_original: bool, start: u32, end: u32) -> 
 }
 
 pub fn on_range(call: RangeCall, note: &Note, of_original: bool, start: u32, end: u32) -> Offsets {
-    unsafe {
-        call(
-            note.original.as_ptr(),
-            note.original.len(),
-            note.normalized.as_ptr(),
-            note.normalized.len(),
-            note.starts.as_ptr(),
-            note.starts.len(),
-            note.ends.as_ptr(),
-            note.ends.len(),
-            note.original_shift,
-            of_original,
-            start,
-            end,
-        )
-    }
+    unsafe { on_note!(call, note, of_original, start, end) }
 }
 
 pub fn part_verdict(original: &[u8], normalized: &[u8], of_original: bool, start: u32, end: u32) -> u32 {
@@ -314,16 +287,9 @@ pub fn part_verdict(original: &[u8], normalized: &[u8], of_original: bool, start
 
 pub fn convert_all(note: &Note, of_original: bool, from: &[u32], to: &[u32], out: Columns) -> u32 {
     unsafe {
-        zulmyren_convert_all(
-            note.original.as_ptr(),
-            note.original.len(),
-            note.normalized.as_ptr(),
-            note.normalized.len(),
-            note.starts.as_ptr(),
-            note.starts.len(),
-            note.ends.as_ptr(),
-            note.ends.len(),
-            note.original_shift,
+        on_note!(
+            zulmyren_convert_all,
+            note,
             of_original,
             from.as_ptr(),
             from.len(),
@@ -371,16 +337,9 @@ pub fn replace(
     out_ends: &mut [u16],
 ) -> Count {
     unsafe {
-        zulmyren_replace(
-            note.original.as_ptr(),
-            note.original.len(),
-            note.normalized.as_ptr(),
-            note.normalized.len(),
-            note.starts.as_ptr(),
-            note.starts.len(),
-            note.ends.as_ptr(),
-            note.ends.len(),
-            note.original_shift,
+        on_note!(
+            zulmyren_replace,
+            note,
             list.as_ptr(),
             list.len(),
             filler.as_ptr(),
@@ -398,16 +357,9 @@ pub fn replace(
 /// The count is 1 where what is published of both notes is alike.
 pub fn published_alike(one: &Note, other: &Note, list: &[u8], filler: &[u8]) -> Count {
     unsafe {
-        zulmyren_published_alike(
-            one.original.as_ptr(),
-            one.original.len(),
-            one.normalized.as_ptr(),
-            one.normalized.len(),
-            one.starts.as_ptr(),
-            one.starts.len(),
-            one.ends.as_ptr(),
-            one.ends.len(),
-            one.original_shift,
+        on_note!(
+            zulmyren_published_alike,
+            one,
             other.original.as_ptr(),
             other.original.len(),
             other.normalized.as_ptr(),

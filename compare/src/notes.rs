@@ -220,14 +220,20 @@ pub const FAULTS: [fn(&mut Note); 9] = [
     |note| note.ends[0] = 2,
 ];
 
-fn every_set_of_faults(tally: &mut Tally) {
-    tally.family("every set of faults out of nine");
-    let sound = Note::from(&NormalizedString::from("aéb"));
-    for set in 0..1_u32 << FAULTS.len() {
-        let mut note = sound.clone();
+/// `aéb` with every set of these faults, a bit for each.
+pub fn with_faults() -> impl Iterator<Item = (u32, Note)> {
+    (0..1_u32 << FAULTS.len()).map(|set| {
+        let mut note = Note::from(&NormalizedString::from("aéb"));
         for (_, fault) in FAULTS.iter().enumerate().filter(|(i, _)| set >> i & 1 == 1) {
             fault(&mut note);
         }
+        (set, note)
+    })
+}
+
+fn every_set_of_faults(tally: &mut Tally) {
+    tally.family("every set of faults out of nine");
+    for (set, note) in with_faults() {
         check_note(tally, &note, || format!("faults {set:09b}"));
     }
 }

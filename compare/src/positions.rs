@@ -148,18 +148,23 @@ fn texts_around_the_limit(tally: &mut Tally) {
     }
 }
 
+/// Any text up to a length, and the same with one byte damaged.
+fn whole_and_damaged(longest: usize, random: &mut Random) -> [Sample; 2] {
+    let len = random.below(longest + 1);
+    let text = texts::text(*random.choose(&KINDS), len, random).into_bytes();
+    let mut damaged = text.clone();
+    if len > 0 {
+        damaged[random.below(len)] = random.byte();
+    }
+    [text, damaged].map(Sample::from)
+}
+
 fn any_texts(tally: &mut Tally) {
     tally.family("any pairs of texts of any length, whole and with one byte damaged");
     let mut random = Random::new(21);
     for turn in 0..2_000 {
         let longest = if turn % 10 == 0 { LIMIT } else { 300 };
-        let len = random.below(longest + 1);
-        let text = texts::text(*random.choose(&KINDS), len, &mut random).into_bytes();
-        let mut damaged = text.clone();
-        if len > 0 {
-            damaged[random.below(len)] = random.byte();
-        }
-        for sample in [text, damaged].map(Sample::from) {
+        for sample in whole_and_damaged(longest, &mut random) {
             for _ in 0..60 {
                 char_offsets(tally, &sample, sample.any_pair(&mut random));
             }
@@ -237,13 +242,7 @@ fn lists_of_any_texts(tally: &mut Tally) {
     let mut random = Random::new(23);
     for turn in 0..3_000 {
         let longest = if turn % 20 == 0 { LIMIT } else { 300 };
-        let len = random.below(longest + 1);
-        let text = texts::text(*random.choose(&KINDS), len, &mut random).into_bytes();
-        let mut damaged = text.clone();
-        if len > 0 {
-            damaged[random.below(len)] = random.byte();
-        }
-        for sample in [text, damaged].map(Sample::from) {
+        for sample in whole_and_damaged(longest, &mut random) {
             any_lists(tally, &sample, 60, &mut random);
         }
     }

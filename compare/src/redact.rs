@@ -2,7 +2,7 @@
 
 use crate::bench::{self, timed};
 use crate::every;
-use crate::find;
+use crate::find::{self, strings};
 use crate::lent::Lent;
 use crate::library::{self, Count, Redacting};
 use crate::notes;
@@ -131,13 +131,6 @@ fn rooms(sizes: Rooms) -> Vec<Rooms> {
         room
     };
     [sizes, sizes.map(|size| 10 * size + 100)].into_iter().chain((0..6).map(short)).collect()
-}
-
-fn strings(most: usize) -> Vec<String> {
-    (0..=most)
-        .flat_map(|len| every::list(&['a', 'b', 'é'], len))
-        .map(|characters| characters.iter().collect())
-        .collect()
 }
 
 fn every_short_text(tally: &mut Tally) {
