@@ -7,7 +7,7 @@ use mathlib.Core.List.{List, [], _∷_}
 use native.Mathlib.Omega.{arith}
 use lib.Dec.{leb}
 use lib.ListN.{length}
-use borrow.Author.Tests.{lt-ltb, le-ltb, le-leb, lt-leb, leb-true, leb-false, not-true}
+use borrow.Author.Tests.{lt-ltb, le-ltb, le-leb, leb-true, leb-false, not-true}
 use Rattle.runs.proofs.Everywhere.{and-left, and-right, le-or-lt}
 use Rattle.utf8.specs.Table.{Bytes, bytes, within, trail, rows, ofRow, ofSome}
 use Rattle.utf8.specs.Formed.{wellFormed}
@@ -39,22 +39,6 @@ pub scalar-gap : (c : ℕ) → scalar c ≡ true → 0xD800 ≤ c → 0xDFFF < c
 unfolding scalar
 scalar-gap c s low =
     leb-false c 0xDFFF (rw (le-leb 0xD800 c low) at (not-true (leb 0xD800 c && leb c 0xDFFF) (and-right (leb c 0x10FFFF) _ s)))
-
-pub scalar-below : (c : ℕ) → c < 0xD800 → scalar c ≡ true
-unfolding scalar
-scalar-below c h = simp (le-leb c 0x10FFFF (omega arith), lt-leb 0xD800 c h)
-
-pub scalar-above : (c : ℕ) → 0xDFFF < c → c ≤ 0x10FFFF → scalar c ≡ true
-unfolding scalar
-scalar-above c l h = simp (le-leb c 0x10FFFF h, le-leb 0xD800 c (omega arith), lt-leb c 0xDFFF l)
-
-pub scalar-surrogate : (c : ℕ) → 0xD800 ≤ c → c ≤ 0xDFFF → scalar c ≡ false
-unfolding scalar
-scalar-surrogate c l h = simp (le-leb c 0x10FFFF (omega arith), le-leb 0xD800 c l, le-leb c 0xDFFF h)
-
-pub scalar-past : (c : ℕ) → 0x10FFFF < c → scalar c ≡ false
-unfolding scalar
-scalar-past c h = simp (lt-leb c 0x10FFFF h)
 
 pub bytesOf-scalar : (c : ℕ) → scalar c ≡ true → bytesOf c ≡ encoded c
 unfolding bytesOf

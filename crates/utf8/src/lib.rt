@@ -5,6 +5,7 @@ pub mod lead;
 ghost use mathlib.Core.Path.{_≡_};
 ghost use Rattle.utf8.specs.Encoding.{EncodedAs};
 ghost use Rattle.utf8.specs.Formed.{boundary, continues};
+ghost use Rattle.utf8.specs.Scalar.{scalar};
 
 // Whether a byte continues a character.
 pub fn continues(b: u8) -> bool
@@ -23,7 +24,14 @@ pub fn is_char_boundary(s: &[u8], i: usize) -> bool
     i == s.len()
 }
 
-// A scalar value's bytes: the first `len` of `bytes`, the rest 0. A surrogate, or a number above U+10FFFF, has none.
+// Whether a number is a scalar value: up to U+10FFFF, surrogates excepted.
+fn is_scalar(c: u32) -> bool
+    ensures { λ r. ⌜ r ≡ scalar c ⌝ }
+{
+    (c <= 0x10FFFF) & !((0xD800 <= c) & (c <= 0xDFFF))
+}
+
+// A scalar value's bytes: the first `len` of `bytes`, the rest 0. A number that is no scalar value has none.
 pub struct Encoded {
     pub len: usize,
     pub bytes: [u8; 4],
@@ -32,6 +40,12 @@ pub struct Encoded {
 pub fn encode_utf8(c: u32) -> Encoded
     ensures { λ r. ⌜ EncodedAs c r ⌝ }
 {
+    if !is_scalar(c) {
+        return Encoded {
+            len: 0,
+            bytes: [0; 4],
+        };
+    }
     if c < 0x80 {
         return Encoded {
             len: 1,
@@ -45,14 +59,6 @@ pub fn encode_utf8(c: u32) -> Encoded
         };
     }
     if c < 0x10000 {
-        if 0xD800 <= c {
-            if c <= 0xDFFF {
-                return Encoded {
-                    len: 0,
-                    bytes: [0; 4],
-                };
-            }
-        }
         return Encoded {
             len: 3,
             bytes: [
@@ -63,19 +69,13 @@ pub fn encode_utf8(c: u32) -> Encoded
             ],
         };
     }
-    if c <= 0x10FFFF {
-        return Encoded {
-            len: 4,
-            bytes: [
-                (0xF0 + c / 262144) as u8,
-                (0x80 + c / 4096 % 64) as u8,
-                (0x80 + c / 64 % 64) as u8,
-                (0x80 + c % 64) as u8,
-            ],
-        };
-    }
     Encoded {
-        len: 0,
-        bytes: [0; 4],
+        len: 4,
+        bytes: [
+            (0xF0 + c / 262144) as u8,
+            (0x80 + c / 4096 % 64) as u8,
+            (0x80 + c / 64 % 64) as u8,
+            (0x80 + c % 64) as u8,
+        ],
     }
 }
