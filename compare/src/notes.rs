@@ -6,6 +6,7 @@ use crate::lent::Lent;
 use crate::library;
 use crate::note::Note;
 use crate::random::Random;
+use crate::replace::{bench_texts, FILLER, LITERAL};
 use crate::samples::{self, DAMAGES, DAMAGES_AT};
 use crate::tally::{self, hex, Report, Tally};
 use crate::texts::{self, KINDS, LIMIT, OFFSETS, UNITS};
@@ -360,6 +361,14 @@ pub fn bench() {
     bench::title("check_note of the starting note beside NormalizedString::from (to be at most 0.20)");
     for (name, text) in bench::texts() {
         let note = Note::from(&NormalizedString::from(text.as_str()));
+        bench::row(name, || timed(|| library::check_note(black_box(&note))), || time_of_from(&text));
+    }
+    bench::title("check_note of a note edited every 45 bytes, which is the general way, beside NormalizedString::from");
+    for (name, text, _) in bench_texts() {
+        let mut edited = NormalizedString::from(text.as_str());
+        edited.replace(LITERAL, FILLER).expect("a literal is a regular expression");
+        let note = Note::from(&edited);
+        assert_eq!(note.refusal(), 0);
         bench::row(name, || timed(|| library::check_note(black_box(&note))), || time_of_from(&text));
     }
     bench::title("from_text beside NormalizedString::from");
