@@ -27,21 +27,51 @@ pub struct Count {
     pub count: u32,
 }
 
+/// Calls that take a note's nine arguments before their others.
+macro_rules! note_calls {
+    ($($name:ident($($argument:ident: $kind:ty),* $(,)?) -> $answer:ty;)*) => {
+        #[link(name = "zulmyren", kind = "static")]
+        extern "C" {
+            $(pub fn $name(
+                original: *const u8,
+                original_len: usize,
+                normalized: *const u8,
+                normalized_len: usize,
+                starts: *const u16,
+                starts_len: usize,
+                ends: *const u16,
+                ends_len: usize,
+                original_shift: u32,
+                $($argument: $kind),*
+            ) -> $answer;)*
+        }
+    };
+}
+
+note_calls! {
+    zulmyren_check_note() -> u32;
+    zulmyren_replace(
+        list: *const u8, list_len: usize, filler: *const u8, filler_len: usize, out: *mut u8, out_len: usize,
+        out_starts: *mut u16, out_starts_len: usize, out_ends: *mut u16, out_ends_len: usize,
+    ) -> Count;
+    zulmyren_published_alike(
+        other_original: *const u8, other_original_len: usize, other: *const u8, other_len: usize,
+        other_starts: *const u16, other_starts_len: usize, other_ends: *const u16, other_ends_len: usize,
+        other_shift: u32, list: *const u8, list_len: usize, filler: *const u8, filler_len: usize,
+    ) -> Count;
+    zulmyren_convert_all(
+        of_original: bool, from: *const u32, from_len: usize, to: *const u32, to_len: usize, numbers: *mut u8,
+        numbers_len: usize, out_starts: *mut u32, out_starts_len: usize, out_ends: *mut u32, out_ends_len: usize,
+    ) -> u32;
+    zulmyren_convert_offsets(of_original: bool, start: u32, end: u32) -> Offsets;
+    zulmyren_get_range(of_original: bool, start: u32, end: u32) -> Offsets;
+    zulmyren_get_range_original(of_original: bool, start: u32, end: u32) -> Offsets;
+}
+
 #[link(name = "zulmyren", kind = "static")]
 extern "C" {
     pub fn zulmyren_well_formed(text: *const u8, text_len: usize) -> bool;
     pub fn zulmyren_letter_count(text: *const u8, text_len: usize, start: u32, end: u32) -> Count;
-    pub fn zulmyren_check_note(
-        original: *const u8,
-        original_len: usize,
-        normalized: *const u8,
-        normalized_len: usize,
-        starts: *const u16,
-        starts_len: usize,
-        ends: *const u16,
-        ends_len: usize,
-        original_shift: u32,
-    ) -> u32;
     pub fn zulmyren_from_text(
         text: *const u8,
         text_len: usize,
@@ -50,51 +80,6 @@ extern "C" {
         ends: *mut u16,
         ends_len: usize,
     ) -> u32;
-    pub fn zulmyren_replace(
-        original: *const u8,
-        original_len: usize,
-        normalized: *const u8,
-        normalized_len: usize,
-        starts: *const u16,
-        starts_len: usize,
-        ends: *const u16,
-        ends_len: usize,
-        original_shift: u32,
-        list: *const u8,
-        list_len: usize,
-        filler: *const u8,
-        filler_len: usize,
-        out: *mut u8,
-        out_len: usize,
-        out_starts: *mut u16,
-        out_starts_len: usize,
-        out_ends: *mut u16,
-        out_ends_len: usize,
-    ) -> Count;
-    pub fn zulmyren_published_alike(
-        original: *const u8,
-        original_len: usize,
-        normalized: *const u8,
-        normalized_len: usize,
-        starts: *const u16,
-        starts_len: usize,
-        ends: *const u16,
-        ends_len: usize,
-        original_shift: u32,
-        other_original: *const u8,
-        other_original_len: usize,
-        other: *const u8,
-        other_len: usize,
-        other_starts: *const u16,
-        other_starts_len: usize,
-        other_ends: *const u16,
-        other_ends_len: usize,
-        other_shift: u32,
-        list: *const u8,
-        list_len: usize,
-        filler: *const u8,
-        filler_len: usize,
-    ) -> Count;
     pub fn zulmyren_redact(
         text: *const u8,
         text_len: usize,
@@ -182,30 +167,6 @@ pub type RangeCall = unsafe extern "C" fn(
     end: u32,
 ) -> Offsets;
 
-macro_rules! range_calls {
-    ($($name:ident),*) => {
-        #[link(name = "zulmyren", kind = "static")]
-        extern "C" {
-            $(pub fn $name(
-                original: *const u8,
-                original_len: usize,
-                normalized: *const u8,
-                normalized_len: usize,
-                starts: *const u16,
-                starts_len: usize,
-                ends: *const u16,
-                ends_len: usize,
-                original_shift: u32,
-                of_original: bool,
-                start: u32,
-                end: u32,
-            ) -> Offsets;)*
-        }
-    };
-}
-
-range_calls!(zulmyren_convert_offsets, zulmyren_get_range, zulmyren_get_range_original);
-
 #[link(name = "zulmyren", kind = "static")]
 extern "C" {
     pub fn zulmyren_part_verdict(
@@ -216,28 +177,6 @@ extern "C" {
         of_original: bool,
         start: u32,
         end: u32,
-    ) -> u32;
-    pub fn zulmyren_convert_all(
-        original: *const u8,
-        original_len: usize,
-        normalized: *const u8,
-        normalized_len: usize,
-        starts: *const u16,
-        starts_len: usize,
-        ends: *const u16,
-        ends_len: usize,
-        original_shift: u32,
-        of_original: bool,
-        from: *const u32,
-        from_len: usize,
-        to: *const u32,
-        to_len: usize,
-        numbers: *mut u8,
-        numbers_len: usize,
-        out_starts: *mut u32,
-        out_starts_len: usize,
-        out_ends: *mut u32,
-        out_ends_len: usize,
     ) -> u32;
     pub fn zulmyren_char_offsets(text: *const u8, text_len: usize, start: u32, end: u32) -> Offsets;
     pub fn zulmyren_char_offsets_all(
