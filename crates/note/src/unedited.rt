@@ -9,7 +9,7 @@ ghost use Rattle.utf8.specs.Formed.{wellFormed};
 ghost use Rattle.note.specs.Notes.{limit};
 ghost use Rattle.note.specs.Unedited.{mirrors, mirrored};
 
-// Whether both texts are well-formed. Where they are the same, one is judged.
+// Whether both texts are well-formed. Where they are the same, one is judged. An inner function: `same` was told of the two texts before.
 pub fn texts_formed(original: &[u8], normalized: &[u8], same: bool) -> bool
     requires { ⌜ (same ≡ true → now original ≡ now normalized) ⌝ }
     ensures { λ r. ⌜ r ≡ (wellFormed (now (original .entry)) && wellFormed (now (normalized .entry))) ⌝ }
@@ -32,7 +32,7 @@ fn mirrors(b: u8, s0: u16, s1: u16, e0: u16, e1: u16, i: u16) -> bool
     ((more & (s1 == s0)) | (!more & (s1 == i))) & ((more & (e0 == e1)) | (!more & (e0 == i)))
 }
 
-// Whether each byte is aligned to its character's range.
+// Whether each byte is aligned to its character's range. An inner function: limit and numbers of alignments were judged before.
 pub fn mirrored(text: &[u8], starts: &[u16], ends: &[u16]) -> bool
     requires { ⌜ length (now text) ≤ limit ⌝ }
     requires { ⌜ (length (now starts) ≡ length (now text)) × (length (now ends) ≡ length (now text)) ⌝ }

@@ -85,7 +85,7 @@ fn write_line(first: usize, count: usize, start: u16, end: u16, out: &mut [u8], 
     write_field(end as usize, b'\n', out, fourth)
 }
 
-// The lines of all runs, in front of `out`; how many bytes they have.
+// The lines of all runs, in front of `out`; how many bytes they have. An inner function: there are as many ends as starts, and 24 bytes for each.
 pub fn write_lines(starts: &[u16], ends: &[u16], out: &mut [u8]) -> usize
     requires { ⌜ (length (now starts) ≡ length (now ends)) × (length (now starts) < 100000) × (24 * length (now starts) ≤ length (now out)) ⌝ }
     ensures { λ r. ⌜ (r ≡ length (linesOf (now (starts .entry)) (now (ends .entry))))

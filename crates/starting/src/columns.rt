@@ -1,6 +1,7 @@
 // The two columns of a fresh text: where each byte's character begins and where it ends.
 // A byte's start is counted from the three bytes up to it and its end from the three bytes after it, 64 bytes at a time and
-// without a branch, so that the loops are vectorised; what is left is carried from byte to byte.
+// without a branch, so that the loops are vectorised; what is left is carried from byte to byte. Each function here is an inner one: the text
+// and the room were judged before.
 use utf8::continues;
 ghost use mathlib.Core.Path.{_≡_};
 ghost use mathlib.Core.Bool.{true};

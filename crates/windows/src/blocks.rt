@@ -1,4 +1,5 @@
 // A block of the text is judged at once, by the test that its largest byte asks for: the fewer kinds of characters, the shorter.
+// Each function here is an inner one: a block begins with the three bytes before it.
 use crate::extremes::largest;
 use crate::extremes::least_lead;
 use crate::extremes::max;

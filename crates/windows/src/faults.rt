@@ -1,4 +1,5 @@
 // Whether a byte cannot stand where it does, told by the bytes before it. The tests have no branch, so that the loops over them are vectorised.
+// Each but the first is an inner one: which bytes it is asked of was seen before.
 use crate::extremes::max;
 ghost use mathlib.Core.Path.{_≡_};
 ghost use Prim.Native.Nat.{_<_};
