@@ -8,7 +8,7 @@ use native.Mathlib.Omega.{arith}
 use lib.ListN.{length, getD, drop, drop-of-length-le}
 use lib.Seq.{drop-cons}
 use borrow.Author.Tests.{le-leb, lt-leb, le-ltb, eq-eqb, ne-eqb}
-use Rattle.runs.proofs.Everywhere.{le-or-lt, clash}
+use Rattle.buffers.proofs.Every.{le-or-lt, clash}
 use Rattle.utf8.specs.Formed.{wellFormed, continues, boundary}
 use Rattle.utf8.proofs.Boundaries.{boundary-most, boundary-begins}
 use Rattle.note.specs.Notes.{limit, startAt, endAt}

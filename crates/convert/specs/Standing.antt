@@ -10,7 +10,7 @@ use lib.Dec.{leb, ltb, eqb}
 use lib.ListN.{length, getD, drop, drop-of-length-le}
 use lib.Seq.{drop-cons}
 use borrow.Author.Tests.{le-leb, lt-leb, eqb-true, eqb-false, ltb-false, leb-true}
-use Rattle.runs.proofs.Everywhere.{le-or-lt, true-or-false, clash}
+use Rattle.buffers.proofs.Every.{le-or-lt, true-or-false, clash}
 use Rattle.utf8.specs.Formed.{continues, boundary}
 use Rattle.utf8.proofs.Boundaries.{boundary-at, boundary-zero, boundary-length, boundary-most}
 use Rattle.note.specs.declared.OriginalByte.{OriginalByte}

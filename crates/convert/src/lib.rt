@@ -1,4 +1,5 @@
 // Converting (document 01): a range of the transcript as a range of the cleaned text, and back.
+use buffers::Offset;
 use note::NormalizedByte;
 use note::OriginalByte;
 use note::Refusal;
@@ -52,7 +53,7 @@ pub enum Places {
 }
 
 // The byte at `i` is walked, before a first place is found.
-fn begin(i: NormalizedByte, start: u16, end: u16, from: u32) -> Places
+fn begin(i: NormalizedByte, start: Offset, end: Offset, from: u32) -> Places
     requires { ⌜ i .0 < limit ⌝ }
     ensures { λ r. ⌜ r ≡ begun from (i .0) start end ⌝ }
 {
@@ -67,7 +68,7 @@ fn begin(i: NormalizedByte, start: u16, end: u16, from: u32) -> Places
 }
 
 // The byte at `i` is walked.
-fn step(found: Places, i: NormalizedByte, start: u16, end: u16, from: u32) -> Places
+fn step(found: Places, i: NormalizedByte, start: Offset, end: Offset, from: u32) -> Places
     requires { ⌜ i .0 < limit ⌝ }
     ensures { λ r. ⌜ r ≡ stepped from (i .0) start end found ⌝ }
 {
@@ -79,7 +80,7 @@ fn step(found: Places, i: NormalizedByte, start: u16, end: u16, from: u32) -> Pl
 }
 
 // A first place is found already, or none is at an alignment that starts at `start` or before.
-fn settled(found: Places, start: u16, from: u32) -> bool
+fn settled(found: Places, start: Offset, from: u32) -> bool
     ensures { λ r. ⌜ r ≡ settled from start found ⌝ }
 {
     match found {
@@ -91,7 +92,7 @@ fn settled(found: Places, start: u16, from: u32) -> bool
 
 // The last alignment of a block that one step walks: the block is the next 64, or the one at `i` alone. Neither column ever
 // goes back, so the last of 64 speaks for them all.
-fn block_last(found: Places, starts: &[u16], ends: &[u16], i: usize, from: u32, to: u32) -> usize
+fn block_last(found: Places, starts: &[Offset], ends: &[Offset], i: usize, from: u32, to: u32) -> usize
     requires { ⌜ (Columns (now starts) (now ends)) × (i < length (now ends)) × (getD (now ends) i 0 ≤ to) ⌝ }
     ensures { λ r. ⌜ Block (now (starts .entry)) (now (ends .entry)) from to found i r ⌝ }
 {
@@ -109,7 +110,7 @@ fn block_last(found: Places, starts: &[u16], ends: &[u16], i: usize, from: u32, 
 }
 
 // The alignments are walked up to the first that ends past the target.
-fn walk(starts: &[u16], ends: &[u16], from: u32, to: u32) -> Places
+fn walk(starts: &[Offset], ends: &[Offset], from: u32, to: u32) -> Places
     requires { ⌜ Columns (now starts) (now ends) ⌝ }
     ensures { λ r. ⌜ r ≡ walked (now (starts .entry)) (now (ends .entry)) from to ⌝ }
 {
@@ -133,7 +134,7 @@ fn walk(starts: &[u16], ends: &[u16], from: u32, to: u32) -> Places
 }
 
 // Rust: `expand_alignments`, of the alignments from `from` up to `to`: two reads.
-fn expand_alignments(starts: &[u16], ends: &[u16], from: u32, to: u32) -> Converted
+fn expand_alignments(starts: &[Offset], ends: &[Offset], from: u32, to: u32) -> Converted
     requires { ⌜ (Columns (now starts) (now ends)) × (from < to) ⌝ }
     ensures { λ r. ⌜ r ≡ expanded (now (starts .entry)) (now (ends .entry)) from to ⌝ }
 {
@@ -148,7 +149,7 @@ fn expand_alignments(starts: &[u16], ends: &[u16], from: u32, to: u32) -> Conver
 }
 
 // A range of the cleaned text, in the transcript.
-fn to_original(starts: &[u16], ends: &[u16], from: NormalizedByte, to: NormalizedByte) -> Converted
+fn to_original(starts: &[Offset], ends: &[Offset], from: NormalizedByte, to: NormalizedByte) -> Converted
     requires { ⌜ Columns (now starts) (now ends) ⌝ }
     ensures { λ r. ⌜ r ≡ toOriginal (now (starts .entry)) (now (ends .entry)) from to ⌝ }
 {
@@ -164,7 +165,7 @@ fn to_original(starts: &[u16], ends: &[u16], from: NormalizedByte, to: Normalize
 }
 
 // A range of the transcript, in the cleaned text.
-fn to_normalized(starts: &[u16], ends: &[u16], from: OriginalByte, to: OriginalByte) -> Converted
+fn to_normalized(starts: &[Offset], ends: &[Offset], from: OriginalByte, to: OriginalByte) -> Converted
     requires { ⌜ Columns (now starts) (now ends) ⌝ }
     ensures { λ r. ⌜ r ≡ toNormalized (now (starts .entry)) (now (ends .entry)) from to ⌝ }
 {
@@ -187,7 +188,7 @@ fn to_normalized(starts: &[u16], ends: &[u16], from: OriginalByte, to: OriginalB
 }
 
 // `convert_offsets` for proved callers that have had the note checked: it asks for the columns that a check leaves.
-pub fn convert_checked(starts: &[u16], ends: &[u16], range: Range) -> Converted
+pub fn convert_checked(starts: &[Offset], ends: &[Offset], range: Range) -> Converted
     requires { ⌜ Columns (now starts) (now ends) ⌝ }
     ensures { λ r. ⌜ r ≡ converted (now (starts .entry)) (now (ends .entry)) range ⌝ }
 {
@@ -201,8 +202,8 @@ pub fn convert_checked(starts: &[u16], ends: &[u16], range: Range) -> Converted
 pub fn convert_offsets(
     original: &[u8],
     normalized: &[u8],
-    starts: &[u16],
-    ends: &[u16],
+    starts: &[Offset],
+    ends: &[Offset],
     original_shift: u32,
     range: Range,
 ) -> Converted

@@ -6,7 +6,7 @@ use mathlib.Core.List.{List}
 use lib.Dec.{leb}
 use lib.ListN.{length}
 use borrow.Author.Tests.{le-leb, lt-leb}
-use Rattle.runs.specs.Splice.{overlay}
+use Rattle.buffers.specs.Splice.{overlay}
 use Rattle.utf8.specs.Formed.{wellFormed}
 use Rattle.note.specs.declared.Refusal.the-variants.{IllFormed, TooLong, NoRoom}
 use Rattle.note.specs.Refusals.{verdict}

@@ -7,8 +7,8 @@ use lib.Dec.{eqb}
 use lib.ListN.{length, set, take, take-append-drop}
 use lib.Seq.{sets-eq}
 use borrow.Author.Tests.{lt-ltb, le-ltb, eq-eqb, ne-eqb}
-use Rattle.runs.specs.Splice.{splice}
-use Rattle.runs.proofs.Everywhere.{le-or-lt, true-or-false}
+use Rattle.buffers.specs.Splice.{splice}
+use Rattle.buffers.proofs.Every.{le-or-lt, true-or-false}
 use Rattle.pattern.specs.declared.Place.{Place}
 use Rattle.find.specs.Encoding.{placeBytes, encoded, encodedPlaces}
 use Rattle.find.specs.Matching.{firstFrom, between, matchesFrom, foundPlaces, foundBytes}

@@ -8,7 +8,7 @@ use native.Mathlib.Omega.{arith}
 use lib.Dec.{leb}
 use lib.ListN.{length}
 use borrow.Author.Tests.{le-leb}
-use Rattle.runs.proofs.Everywhere.{le-or-lt}
+use Rattle.buffers.proofs.Every.{le-or-lt}
 use Rattle.find.specs.Encoding.{encodedPlaces}
 use Rattle.find.specs.Matching.{firstFrom, matchesFrom, foundBytes}
 use Rattle.find.specs.Leftmost.{First, first-from}

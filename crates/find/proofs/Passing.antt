@@ -9,8 +9,8 @@ use lib.Dec.{eqb}
 use lib.ListN.{length, getD, drop}
 use lib.Seq.{getD-take, getD-drop}
 use borrow.Author.Tests.{eq-eqb}
-use Rattle.runs.specs.Splice.{part}
-use Rattle.runs.proofs.Everywhere.{le-or-lt, true-or-false, clash}
+use Rattle.buffers.specs.Splice.{part}
+use Rattle.buffers.proofs.Every.{le-or-lt, true-or-false, clash}
 use Rattle.find.specs.Matching.{occursAt, firstFrom}
 use Rattle.find.specs.Leftmost.{first-unique, occurs-inside}
 use Rattle.find.specs.Covered.{occurs-byte}

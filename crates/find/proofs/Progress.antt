@@ -5,9 +5,9 @@ use mathlib.Core.List.{List, [], _++_, append-nil}
 use native.Mathlib.Omega.{arith}
 use lib.ListN.{length, length-append}
 use lib.Seq.{length-take-le}
-use Rattle.runs.specs.Splice.{splice, overlay}
-use Rattle.runs.proofs.Everywhere.{le-or-lt}
-use Rattle.runs.proofs.Laying.{Laying, length-splice, none-laid, piece-laid, all-laid}
+use Rattle.buffers.specs.Splice.{splice, overlay}
+use Rattle.buffers.proofs.Every.{le-or-lt}
+use Rattle.buffers.proofs.Laying.{Laying, length-splice, none-laid, piece-laid, all-laid}
 use Rattle.note.specs.Notes.{limit}
 use Rattle.find.specs.Encoding.{placeBytes, encodedPlaces}
 use Rattle.find.specs.Matching.{firstFrom, between, matchesFrom, foundBytes}

@@ -9,7 +9,7 @@ use lib.Dec.{eqb}
 use lib.ListN.{length, getD, take, drop, length-drop}
 use lib.Seq.{getD-take, getD-drop}
 use borrow.Author.Tests.{eq-eqb, eqb-false, le-leb, lt-ltb, le-ltb}
-use Rattle.runs.proofs.Everywhere.{le-or-lt, true-or-false}
+use Rattle.buffers.proofs.Every.{le-or-lt, true-or-false}
 use Rattle.utf8.specs.Formed.{wellFormed, boundary}
 use Rattle.utf8.proofs.Boundaries.{boundary-at, boundary-begins, boundary-zero, boundary-length, boundary-of-take, formed-drop}
 use Rattle.pattern.specs.declared.Place.{Place}

@@ -7,9 +7,9 @@ use native.Mathlib.Omega.{arith}
 use lib.Dec.{ltb}
 use lib.ListN.{length, length-take, length-drop}
 use borrow.Author.Tests.{le-ltb}
-use Rattle.runs.specs.Splice.{part}
-use Rattle.runs.proofs.Everywhere.{le-or-lt, true-or-false, clash}
-use Rattle.runs.proofs.Sameness.{same-equal}
+use Rattle.buffers.specs.Splice.{part}
+use Rattle.buffers.proofs.Every.{le-or-lt, true-or-false, clash}
+use Rattle.buffers.proofs.Same.{same-equal}
 use Rattle.pattern.specs.declared.Place.the-variants.{Matched}
 use Rattle.find.specs.Matching.{occursAt, firstOf, firstFrom, byte, between, matchesWithin, matchesFrom}
 

@@ -6,15 +6,15 @@ use mathlib.Core.Bool.{Bool, cond, _&&_, _||_, not}
 use mathlib.Core.List.{List, [], _∷_, _++_}
 use lib.Dec.{leb, ltb, eqb}
 use lib.ListN.{length}
-use Rattle.runs.specs.Splice.{part}
-use Rattle.runs.specs.Same.{same}
+use Rattle.buffers.specs.Splice.{part}
+use Rattle.buffers.specs.Same.{same}
 use Rattle.utf8.specs.Formed.{wellFormed}
 use Rattle.note.specs.declared.NormalizedByte.{NormalizedByte}
 use Rattle.note.specs.declared.Refusal.{Refusal}
 use Rattle.note.specs.declared.Refusal.the-variants.{IllFormed, TooLong, NoRoom}
 use Rattle.note.specs.declared.Verdict.{Verdict}
 use Rattle.note.specs.declared.Verdict.the-variants.{Accepted, Refused as Rejected}
-use Rattle.note.specs.Refusals.{none, meets, verdict, left}
+use Rattle.note.specs.Refusals.{none, meets, verdict, after}
 use Rattle.note.specs.Notes.{limit}
 use Rattle.pattern.specs.declared.Place.{Place}
 use Rattle.pattern.specs.declared.Place.the-variants.{Unmatched, Matched}
@@ -79,4 +79,4 @@ answered (Rejected k) n = Refused k
 -- the call: text, literal, the lent bytes before, the answer, the lent bytes after
 pub record Finding (text literal o₀ : List ℕ) (r : Matches) (o₁ : List ℕ) : Type 0 where
   pub answer : r ≡ answered (verdict (findFaults text literal (length o₀))) (length (foundBytes text literal))
-  pub list : o₁ ≡ left (verdict (findFaults text literal (length o₀))) (foundBytes text literal) o₀
+  pub list : o₁ ≡ after (verdict (findFaults text literal (length o₀))) (foundBytes text literal) o₀

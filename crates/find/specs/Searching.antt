@@ -6,7 +6,7 @@ use mathlib.Core.Logic.{_⊎_}
 use mathlib.Core.List.{List}
 use lib.Dec.{eqb}
 use lib.ListN.{length, getD}
-use Rattle.runs.specs.Splice.{splice}
+use Rattle.buffers.specs.Splice.{splice}
 use Rattle.note.specs.Notes.{limit}
 use Rattle.find.specs.Matching.{occursAt, firstFrom}
 

@@ -11,7 +11,7 @@ ghost use mathlib.Core.Path.{_≡_};
 ghost use Prim.Native.Nat.{_+_, _≤_};
 ghost use lib.Dec.{leb};
 ghost use lib.ListN.{length};
-ghost use Rattle.runs.specs.Splice.{overlay, splice};
+ghost use Rattle.buffers.specs.Splice.{overlay, splice};
 ghost use Rattle.note.specs.Notes.{limit};
 ghost use Rattle.find.specs.Encoding.{encodedPlaces, placeBytes};
 ghost use Rattle.find.specs.Matching.{Finding, between, foundBytes};

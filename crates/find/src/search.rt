@@ -1,7 +1,7 @@
 // Where a literal stands next in a text. Of 64 places at once the first is named at which its first byte and, as far on as it is long, its
 // last one stand together, and the literal is tried there; fewer than 64 places are tried one by one. The worst case is the text's length
 // times the literal's, where they nearly match everywhere: a literal a..aba..a in a text a..a.
-use runs::same::same8;
+use buffers::equality::same_bytes;
 ghost use mathlib.Core.Path.{_≡_};
 ghost use mathlib.Core.Bool.{cond};
 ghost use Prim.Native.Nat.{_+_, _≤_, _<_, min};
@@ -17,7 +17,7 @@ fn occurs_at(text: &[u8], literal: &[u8], p: usize) -> bool
     if text[p] != literal[0] {
         return false;
     }
-    same8(&text[p..p + literal.len()], literal)
+    same_bytes(&text[p..p + literal.len()], literal)
 }
 
 fn pick(hit: bool, j: u8) -> u8

@@ -7,8 +7,8 @@ use borrow.Author.Tests.{lt-leb, leb-true, not-true}
 use native.Mathlib.Omega.{arith}
 use lib.Dec.{leb, eqb}
 use lib.ListN.{length, getD, List·getD-eq-default}
-use Rattle.runs.specs.Every.{everyBelow}
-use Rattle.runs.proofs.Everywhere.{and-true, and-left, and-right, true-or-false, le-or-lt, every-suc, every-at, every-all}
+use Rattle.buffers.specs.Every.{everyBelow}
+use Rattle.buffers.proofs.Every.{and-true, and-left, and-right, true-or-false, le-or-lt, every-suc, every-at, every-all}
 use Rattle.utf8.specs.Table.{within}
 use Rattle.utf8.specs.Formed.{continues, boundary}
 use Rattle.utf8.proofs.Boundaries.{boundary-at, boundary-begins}

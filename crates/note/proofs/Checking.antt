@@ -6,7 +6,7 @@ use mathlib.Core.List.{List}
 use borrow.Author.Tests.{le-leb, lt-leb, eq-eqb, ne-eqb}
 use native.Mathlib.Omega.{arith}
 use lib.ListN.{length}
-use Rattle.runs.proofs.Everywhere.{and-true, and-false-l}
+use Rattle.buffers.proofs.Every.{and-true, and-false-l}
 use Rattle.utf8.specs.Formed.{wellFormed}
 use Rattle.validity.specs.Texts.{ascii}
 use Rattle.note.specs.declared.Refusal.the-variants.{IllFormed, TooLong, LengthMismatch, Misaligned}

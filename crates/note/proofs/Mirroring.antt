@@ -8,10 +8,10 @@ use native.Mathlib.Omega.{arith}
 use lib.Dec.{eqb}
 use lib.ListN.{length, getD}
 use lib.Seq.{ext-getD}
-use Rattle.runs.specs.Columns.{column}
-use Rattle.runs.specs.Every.{everyBelow}
-use Rattle.runs.proofs.Everywhere.{and-left, and-right, true-or-false, every-suc, every-at}
-use Rattle.runs.proofs.Filling.{length-column, getD-column}
+use Rattle.buffers.specs.Columns.{column}
+use Rattle.buffers.specs.Every.{everyBelow}
+use Rattle.buffers.proofs.Every.{and-left, and-right, true-or-false, every-suc, every-at}
+use Rattle.buffers.proofs.Columns.{length-column, getD-column}
 use Rattle.utf8.specs.Formed.{wellFormed, continues}
 use Rattle.note.specs.Notes.{aligned}
 use Rattle.note.specs.Starting.{charStart, charEnd, starting}

@@ -6,8 +6,8 @@ use native.Mathlib.Omega.{arith}
 use lib.Dec.{leb, eqb}
 use lib.ListN.{length, getD}
 use borrow.Author.Tests.{leb-true, eqb-true}
-use Rattle.runs.specs.Every.{everyBelow}
-use Rattle.runs.proofs.Everywhere.{and-left, and-right, every-at}
+use Rattle.buffers.specs.Every.{everyBelow}
+use Rattle.buffers.proofs.Every.{and-left, and-right, every-at}
 use Rattle.utf8.specs.Formed.{wellFormed, continues, boundary}
 use Rattle.note.specs.Notes.{Note, paired, textsFormed, startAt, endAt, inside, onBoundaries, shared, forward, aligned, Sound}
 

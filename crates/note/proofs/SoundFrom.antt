@@ -4,7 +4,7 @@ use mathlib.Core.Path.{_≡_, refl}
 use mathlib.Core.Bool.{true}
 use lib.ListN.{length, getD}
 use borrow.Author.Tests.{le-leb, eq-eqb}
-use Rattle.runs.proofs.Everywhere.{and-true, every-all, true-or-false}
+use Rattle.buffers.proofs.Every.{and-true, every-all, true-or-false}
 use Rattle.utf8.specs.Formed.{continues, boundary}
 use Rattle.note.specs.Notes.{Note, startAt, endAt, inside, onBoundaries, shared, forward, aligned}
 

@@ -3,7 +3,7 @@ use Prim.Native.Nat.{ℕ}
 use mathlib.Core.Bool.{Bool, false, cond}
 use mathlib.Core.List.{List, [], _∷_}
 use lib.Dec.{eqb}
-use Rattle.runs.specs.Splice.{overlay}
+use Rattle.buffers.specs.Splice.{overlay}
 use Rattle.note.specs.declared.Refusal.{Refusal}
 use Rattle.note.specs.declared.Refusal.the-variants.{IllFormed, TooLong, LengthMismatch, Misaligned, NotBoundary, BadScript, Exhausted, BadMatches, NoRoom, Missing, CountMismatch}
 use Rattle.note.specs.declared.Verdict.{Verdict}
@@ -50,6 +50,6 @@ unfoldable pub verdict : (Refusal → Bool) → Verdict
 verdict conditions = firstMet order conditions
 
 -- a lent buffer after the call: a refusal leaves it, and beyond the result it keeps its contents
-abbrev pub left : Verdict → List ℕ → List ℕ → List ℕ
-left Accepted result before = overlay result before
-left (Refused k) result before = before
+abbrev pub after : Verdict → List ℕ → List ℕ → List ℕ
+after Accepted result before = overlay result before
+after (Refused k) result before = before

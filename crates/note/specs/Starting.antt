@@ -5,12 +5,12 @@ use mathlib.Core.Bool.{Bool, cond, _&&_, not}
 use mathlib.Core.List.{List}
 use lib.Dec.{leb}
 use lib.ListN.{length, getD}
-use Rattle.runs.specs.Columns.{column}
+use Rattle.buffers.specs.Columns.{column}
 use Rattle.utf8.specs.Formed.{wellFormed, continues, announced}
 use Rattle.note.specs.declared.Refusal.{Refusal}
 use Rattle.note.specs.declared.Refusal.the-variants.{IllFormed, TooLong, NoRoom}
 use Rattle.note.specs.declared.Verdict.{Verdict}
-use Rattle.note.specs.Refusals.{none, meets, verdict, left}
+use Rattle.note.specs.Refusals.{none, meets, verdict, after}
 use Rattle.note.specs.Notes.{Note, limit}
 
 -- where the character of the byte at i begins: at i, or before it where the byte continues a character
@@ -43,5 +43,5 @@ startingFaults s roomS roomE =
 -- the call: text, the lent columns before, the answer, the lent columns after
 pub record Started (s starts₀ ends₀ : List ℕ) (r : Verdict) (starts₁ ends₁ : List ℕ) : Type 0 where
   pub answer : r ≡ verdict (startingFaults s (length starts₀) (length ends₀))
-  pub starts-are : starts₁ ≡ left r (starting s .starts) starts₀
-  pub ends-are : ends₁ ≡ left r (starting s .ends) ends₀
+  pub starts-are : starts₁ ≡ after r (starting s .starts) starts₀
+  pub ends-are : ends₁ ≡ after r (starting s .ends) ends₀

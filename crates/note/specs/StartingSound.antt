@@ -7,8 +7,8 @@ use mathlib.Core.List.{List}
 use native.Mathlib.Omega.{arith}
 use lib.ListN.{length, getD}
 use borrow.Author.Tests.{le-leb, eq-eqb}
-use Rattle.runs.proofs.Everywhere.{and-true, every-all, le-or-lt, true-or-false, clash}
-use Rattle.runs.proofs.Filling.{length-column, getD-column}
+use Rattle.buffers.proofs.Every.{and-true, every-all, le-or-lt, true-or-false, clash}
+use Rattle.buffers.proofs.Columns.{length-column, getD-column}
 use Rattle.utf8.specs.Formed.{wellFormed, continues, announced, boundary}
 use Rattle.utf8.proofs.Boundaries.{CharAt, char-at, boundary-zero, boundary-at, boundary-begins}
 use Rattle.note.specs.declared.Verdict.the-variants.{Accepted}

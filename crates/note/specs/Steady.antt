@@ -4,7 +4,7 @@ use mathlib.Core.Bool.{Bool, _&&_, _||_, not}
 use mathlib.Core.List.{List}
 use lib.Dec.{leb, eqb}
 use lib.ListN.{getD}
-use Rattle.runs.specs.Every.{everyBelow}
+use Rattle.buffers.specs.Every.{everyBelow}
 use Rattle.utf8.specs.Formed.{continues}
 
 -- (s1, e1) at the byte b can follow (s0, e0) at the byte before, over a transcript of `size` bytes

@@ -4,7 +4,7 @@ use mathlib.Core.Bool.{Bool, cond, _&&_}
 use mathlib.Core.List.{List}
 use lib.Dec.{eqb}
 use lib.ListN.{length, getD}
-use Rattle.runs.specs.Every.{everyBelow}
+use Rattle.buffers.specs.Every.{everyBelow}
 use Rattle.utf8.specs.Formed.{continues}
 
 -- at the byte b at i, the start s1 after s0 and the end e0 before e1: carried where b continues a character, else a character begins at i

@@ -1,4 +1,5 @@
 // Whether a note's alignments are sound, for a note whose texts and numbers of alignments were judged before.
+use buffers::Offset;
 use crate::unedited::mirrored;
 use utf8::continues;
 use validity::is_ascii;
@@ -8,7 +9,7 @@ ghost use Rattle.note.specs.Notes.{aligned, Judged};
 ghost use Rattle.note.specs.Steady.{follows, steady, uncut, uncutBelow};
 
 // Whether the alignment (s1, e1) at the byte `b` can follow (s0, e0). It has no branch, so that a loop over it is vectorised.
-fn follows(b: u8, s0: u16, e0: u16, s1: u16, e1: u16, size: u16) -> bool
+fn follows(b: u8, s0: Offset, e0: Offset, s1: Offset, e1: Offset, size: Offset) -> bool
     ensures { λ r. ⌜ r ≡ follows b s0 e0 s1 e1 size ⌝ }
 {
     (s1 <= e1)
@@ -18,7 +19,7 @@ fn follows(b: u8, s0: u16, e0: u16, s1: u16, e1: u16, size: u16) -> bool
         & (e0 <= e1)
 }
 
-fn steady(text: &[u8], starts: &[u16], ends: &[u16], size: u16) -> bool
+fn steady(text: &[u8], starts: &[Offset], ends: &[Offset], size: Offset) -> bool
     requires { ⌜ (length (now starts) ≡ length (now text)) × (length (now ends) ≡ length (now text)) ⌝ }
     ensures { λ r. ⌜ r ≡ steady (now (text .entry)) (now (starts .entry)) (now (ends .entry)) size (length (now (text .entry))) ⌝ }
 {
@@ -43,7 +44,7 @@ fn steady(text: &[u8], starts: &[u16], ends: &[u16], size: u16) -> bool
 }
 
 // Whether no character of the text is cut at `p`.
-fn uncut(original: &[u8], p: u16) -> bool
+fn uncut(original: &[u8], p: Offset) -> bool
     ensures { λ r. ⌜ r ≡ uncut (now (original .entry)) p ⌝ }
 {
     let i = p as usize;
@@ -53,7 +54,7 @@ fn uncut(original: &[u8], p: u16) -> bool
     true
 }
 
-fn all_uncut(original: &[u8], starts: &[u16], ends: &[u16]) -> bool
+fn all_uncut(original: &[u8], starts: &[Offset], ends: &[Offset]) -> bool
     requires { ⌜ length (now ends) ≡ length (now starts) ⌝ }
     ensures { λ r. ⌜ r ≡ uncutBelow (now (original .entry)) (now (starts .entry)) (now (ends .entry)) (length (now (starts .entry))) ⌝ }
 {
@@ -67,7 +68,7 @@ fn all_uncut(original: &[u8], starts: &[u16], ends: &[u16]) -> bool
 }
 
 // Whether the alignments are sound. An inner call: limits, numbers of alignments and texts were judged before.
-pub fn aligned(original: &[u8], normalized: &[u8], starts: &[u16], ends: &[u16], same: bool) -> bool
+pub fn aligned(original: &[u8], normalized: &[u8], starts: &[Offset], ends: &[Offset], same: bool) -> bool
     requires { ⌜ Judged (now original) (now normalized) (now starts) (now ends) same ⌝ }
     ensures { λ r. ⌜ r ≡ aligned (record { original = now (original .entry); normalized = now (normalized .entry); starts = now (starts .entry); ends = now (ends .entry); original-shift = 0 }) ⌝ }
 {
@@ -76,7 +77,7 @@ pub fn aligned(original: &[u8], normalized: &[u8], starts: &[u16], ends: &[u16],
             return true;
         }
     }
-    if !steady(normalized, starts, ends, original.len() as u16) {
+    if !steady(normalized, starts, ends, original.len() as Offset) {
         return false;
     }
     if is_ascii(original) {

@@ -4,7 +4,8 @@ pub mod rewrap;
 pub mod unedited;
 
 use aligned::aligned;
-use runs::same::same8;
+use buffers::Offset;
+use buffers::equality::same_bytes;
 use unedited::texts_formed;
 ghost use mathlib.Core.Path.{_≡_};
 ghost use Rattle.note.specs.Notes.{noteFaults, besideFaults};
@@ -76,8 +77,8 @@ pub const LIMIT: usize = 65535;
 pub fn check_beside(
     original: &[u8],
     normalized: &[u8],
-    starts: &[u16],
-    ends: &[u16],
+    starts: &[Offset],
+    ends: &[Offset],
     original_shift: u32,
     torn: bool,
 ) -> Verdict
@@ -101,7 +102,7 @@ pub fn check_beside(
     if torn {
         return Verdict::Refused(Refusal::IllFormed);
     }
-    let same = same8(original, normalized);
+    let same = same_bytes(original, normalized);
     if !texts_formed(original, normalized, same) {
         return Verdict::Refused(Refusal::IllFormed);
     }
@@ -115,8 +116,8 @@ pub fn check_beside(
 pub fn check_note(
     original: &[u8],
     normalized: &[u8],
-    starts: &[u16],
-    ends: &[u16],
+    starts: &[Offset],
+    ends: &[Offset],
     original_shift: u32,
 ) -> Verdict
     ensures { λ r. ⌜ r ≡ verdict (noteFaults (record { original = now (original .entry); normalized = now (normalized .entry); starts = now (starts .entry); ends = now (ends .entry); original-shift = «original_shift» })) ⌝ }

@@ -1,4 +1,5 @@
 // The note that no edit has touched: its cleaned text is its transcript, each byte aligned to its character's range.
+use buffers::Offset;
 use utf8::continues;
 use validity::well_formed;
 ghost use mathlib.Core.Path.{_≡_};
@@ -25,7 +26,7 @@ pub fn texts_formed(original: &[u8], normalized: &[u8], same: bool) -> bool
 
 // Whether the start s1 and the end e0 are those of characters, by their neighbours and the byte `b` at `i`.
 // It has no branch, so that a loop over it is vectorised.
-fn mirrors(b: u8, s0: u16, s1: u16, e0: u16, e1: u16, i: u16) -> bool
+fn mirrors(b: u8, s0: Offset, s1: Offset, e0: Offset, e1: Offset, i: Offset) -> bool
     ensures { λ r. ⌜ r ≡ mirrors b s0 s1 e0 e1 i ⌝ }
 {
     let more = continues(b);
@@ -33,7 +34,7 @@ fn mirrors(b: u8, s0: u16, s1: u16, e0: u16, e1: u16, i: u16) -> bool
 }
 
 // Whether each byte is aligned to its character's range. An inner function: limit and numbers of alignments were judged before.
-pub fn mirrored(text: &[u8], starts: &[u16], ends: &[u16]) -> bool
+pub fn mirrored(text: &[u8], starts: &[Offset], ends: &[Offset]) -> bool
     requires { ⌜ length (now text) ≤ limit ⌝ }
     requires { ⌜ (length (now starts) ≡ length (now text)) × (length (now ends) ≡ length (now text)) ⌝ }
     ensures { λ r. ⌜ r ≡ mirrored (now (text .entry)) (now (starts .entry)) (now (ends .entry)) (length (now (text .entry))) ⌝ }
@@ -41,7 +42,7 @@ pub fn mirrored(text: &[u8], starts: &[u16], ends: &[u16]) -> bool
     if text.len() == 0 {
         return true;
     }
-    let mut ok = (starts[0] == 0) & (ends[text.len() - 1] == text.len() as u16);
+    let mut ok = (starts[0] == 0) & (ends[text.len() - 1] == text.len() as Offset);
     let mut i = 1;
     while i < text.len() {
         ok = ok
@@ -51,7 +52,7 @@ pub fn mirrored(text: &[u8], starts: &[u16], ends: &[u16]) -> bool
                 starts[i],
                 ends[i - 1],
                 ends[i],
-                i as u16,
+                i as Offset,
             );
         i += 1;
     }

@@ -7,7 +7,7 @@ use native.Mathlib.Omega.{arith}
 use lib.Dec.{leb, eqb}
 use lib.ListN.{length}
 use borrow.Author.Tests.{leb-true, eqb-true}
-use Rattle.runs.proofs.Everywhere.{and-left, and-right}
+use Rattle.buffers.proofs.Every.{and-left, and-right}
 use Rattle.utf8.specs.Formed.{boundary}
 use Rattle.utf8.proofs.Boundaries.{boundary-most}
 use Rattle.note.specs.declared.NormalizedByte.{NormalizedByte}

@@ -7,7 +7,7 @@ use native.Mathlib.Omega.{arith}
 use lib.Dec.{eqb}
 use lib.ListN.{length, drop}
 use borrow.Author.Tests.{le-leb, lt-leb, eq-eqb, ne-eqb}
-use Rattle.runs.proofs.Everywhere.{and-false-l, le-or-lt, true-or-false, clash}
+use Rattle.buffers.proofs.Every.{and-false-l, le-or-lt, true-or-false, clash}
 use Rattle.utf8.specs.Formed.{boundary}
 use Rattle.note.specs.declared.NormalizedByte.{NormalizedByte}
 use Rattle.pattern.specs.declared.Place.{Place}

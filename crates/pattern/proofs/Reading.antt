@@ -6,7 +6,7 @@ use native.Mathlib.Omega.{arith}
 use lib.ListN.{length, getD, drop, length-drop, drop-of-length-le}
 use lib.Seq.{drop-cons, drop-drop, getD-drop}
 use borrow.Author.Tests.{le-leb, lt-leb, ne-eqb}
-use Rattle.runs.proofs.Everywhere.{le-or-lt}
+use Rattle.buffers.proofs.Every.{le-or-lt}
 use Rattle.note.specs.declared.NormalizedByte.{NormalizedByte}
 use Rattle.pattern.specs.declared.Place.the-variants.{Unmatched, Matched, Broken}
 use Rattle.pattern.specs.Places.{offsetAt, placeAt, placesFrom, placesOf}

@@ -7,7 +7,7 @@ use native.Mathlib.Omega.{arith}
 use lib.Dec.{leb}
 use lib.ListN.{length, drop, length-append}
 use borrow.Author.Tests.{le-leb, lt-leb, not-true, not-false}
-use Rattle.runs.proofs.Everywhere.{le-or-lt, and-false-l, and-false-r}
+use Rattle.buffers.proofs.Every.{le-or-lt, and-false-l, and-false-r}
 use Rattle.note.specs.declared.NormalizedByte.{NormalizedByte}
 use Rattle.note.specs.declared.Refusal.the-variants.{BadMatches, NoRoom}
 use Rattle.note.specs.declared.Verdict.the-variants.{Accepted, Refused}

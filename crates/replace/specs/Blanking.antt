@@ -10,8 +10,8 @@ use lib.Dec.{eqb}
 use lib.ListN.{length, getD, take, drop, length-replicate}
 use lib.Seq.{take-append-seam}
 use borrow.Author.Tests.{eqb-true, ne-eqb, not-false}
-use Rattle.runs.specs.Splice.{part, overlay}
-use Rattle.runs.proofs.Everywhere.{le-or-lt, and-left, and-right}
+use Rattle.buffers.specs.Splice.{part, overlay}
+use Rattle.buffers.proofs.Every.{le-or-lt, and-left, and-right}
 use Rattle.note.specs.declared.NormalizedByte.{NormalizedByte}
 use Rattle.note.specs.declared.Refusal.{Refusal}
 use Rattle.note.specs.declared.Refusal.the-variants.{LengthMismatch, BadMatches}
@@ -147,10 +147,10 @@ pub record Taken (n : Note) (list : List ℕ) : Type 0 where
   pub one-end : length (n .ends) ≡ length (n .normalized)
   pub covered : coversFrom (n .normalized) 0 (placesOf list) ≡ true
 
-pub accepted-taken : (n : Note) (list filler : List ℕ) (a b c : ℕ) → verdict (replaceFaults n list filler a b c) ≡ Accepted → Taken n list
+pub accepted-taken : (n : Note) (list content : List ℕ) (a b c : ℕ) → verdict (replaceFaults n list content a b c) ≡ Accepted → Taken n list
 unfolding paired covers
-accepted-taken n list filler a b c e =
-    let faults : (k : Refusal) → replaceFaults n list filler a b c k ≡ false = accepted-meets (replaceFaults n list filler a b c) e in
+accepted-taken n list content a b c e =
+    let faults : (k : Refusal) → replaceFaults n list content a b c k ≡ false = accepted-meets (replaceFaults n list content a b c) e in
     let pairs : paired n ≡ true = not-false (paired n) (faults LengthMismatch) in
     record {
       one-start = eqb-true _ _ (and-left (eqb (length (n .starts)) (length (n .normalized))) _ pairs);
@@ -158,7 +158,7 @@ accepted-taken n list filler a b c e =
       covered = not-false (covers (n .normalized) (placesOf list)) (faults BadMatches);
     }
 
-pub taken : {n : Note} {list filler out₀ starts₀ ends₀ out starts ends : List ℕ} → Replacing n list filler out₀ starts₀ ends₀ Accepted out starts ends → Taken n list
+pub taken : {n : Note} {list content out₀ starts₀ ends₀ out starts ends : List ℕ} → Replacing n list content out₀ starts₀ ends₀ Accepted out starts ends → Taken n list
 taken call = accepted-taken _ _ _ _ _ _ (sym (call .answer))
 
 -- what the filler carries in one column
@@ -188,78 +188,78 @@ SameByte n m p = getD (n .normalized) p 0 ≡ getD (m .normalized) p 0
 abbrev pub SameAlignment : Note → Note → ℕ → Type 0
 SameAlignment n m p = (startAt n p ≡ startAt m p) × (endAt n p ≡ endAt m p)
 
-pub record Agree (n m : Note) (ps : List Place) (filler : List ℕ) : Type 0 where
+pub record Agree (n m : Note) (ps : List Place) (content : List ℕ) : Type 0 where
   -- "the notes agree on each byte and alignment outside the matched places"
   pub outside : (p : ℕ) → p < length (n .normalized) → Outside ps p → SameByte n m p × SameAlignment n m p
   -- "and, where the filler has any character, on the alignment of the byte just before each matched place's end (a place ending at 0 excepted)"
-  pub before-end : 0 < length filler → (start end : NormalizedByte) → List·Memᴰ (Matched start end) ps → 0 < end .0 → SameAlignment n m (end .0 - 1)
+  pub before-end : 0 < length content → (start end : NormalizedByte) → List·Memᴰ (Matched start end) ps → 0 < end .0 → SameAlignment n m (end .0 - 1)
 
 -- both ways, for what the definition makes of the two notes
-module _ (n m : Note) (list filler : List ℕ) (tn : Taken n list) (tm : Taken m list) where
+module _ (n m : Note) (list content : List ℕ) (tn : Taken n list) (tm : Taken m list) where
   same-length : length (n .normalized) ≡ length (m .normalized)
   same-length = covers-length (n .normalized) (m .normalized) 0 (placesOf list) (tn .covered) (tm .covered)
 
-  starts-filled : (e : ℕ) → length (carried (length filler) (n .starts) e) ≡ length (carried (length filler) (m .starts) e)
+  starts-filled : (e : ℕ) → length (carried (length content) (n .starts) e) ≡ length (carried (length content) (m .starts) e)
   starts-filled e = simp length-replicate
 
-  ends-filled : (e : ℕ) → length (carried (length filler) (n .ends) e) ≡ length (carried (length filler) (m .ends) e)
+  ends-filled : (e : ℕ) → length (carried (length content) (n .ends) e) ≡ length (carried (length content) (m .ends) e)
   ends-filled e = simp length-replicate
 
-  pub agree-replaced : Agree n m (placesOf list) filler → Equal (replaced (placesOf list) filler n) (replaced (placesOf list) filler m)
+  pub agree-replaced : Agree n m (placesOf list) content → Equal (replaced (placesOf list) content n) (replaced (placesOf list) content m)
   unfolding replaced
   agree-replaced a =
       let l : length (n .normalized) ≡ length (m .normalized) = same-length in
       record {
-        same-text = agree-laid (n .normalized) (n .normalized) (m .normalized) (λ e. filler) (λ e. filler) refl (sym l) (λ e. refl) 0 (placesOf list) (tn .covered)
+        same-text = agree-laid (n .normalized) (n .normalized) (m .normalized) (λ e. content) (λ e. content) refl (sym l) (λ e. refl) 0 (placesOf list) (tn .covered)
             (record { outside = λ p from to o. a .outside p to o .0; filled = λ start end h. refl });
-        same-starts = agree-laid (n .normalized) (n .starts) (m .starts) (carried (length filler) (n .starts)) (carried (length filler) (m .starts))
+        same-starts = agree-laid (n .normalized) (n .starts) (m .starts) (carried (length content) (n .starts)) (carried (length content) (m .starts))
             (tn .one-start) (tm .one-start ∙ sym l) starts-filled 0 (placesOf list) (tn .covered)
             (record {
               outside = λ p from to o. a .outside p (omega (arith, tn .one-start)) o .1 .0;
-              filled = λ start end h. carried-same (length filler) (n .starts) (m .starts) (end .0) (λ some past. a .before-end some start end h past .0);
+              filled = λ start end h. carried-same (length content) (n .starts) (m .starts) (end .0) (λ some past. a .before-end some start end h past .0);
             });
-        same-ends = agree-laid (n .normalized) (n .ends) (m .ends) (carried (length filler) (n .ends)) (carried (length filler) (m .ends))
+        same-ends = agree-laid (n .normalized) (n .ends) (m .ends) (carried (length content) (n .ends)) (carried (length content) (m .ends))
             (tn .one-end) (tm .one-end ∙ sym l) ends-filled 0 (placesOf list) (tn .covered)
             (record {
               outside = λ p from to o. a .outside p (omega (arith, tn .one-end)) o .1 .1;
-              filled = λ start end h. carried-same (length filler) (n .ends) (m .ends) (end .0) (λ some past. a .before-end some start end h past .1);
+              filled = λ start end h. carried-same (length content) (n .ends) (m .ends) (end .0) (λ some past. a .before-end some start end h past .1);
             });
       }
 
-  pub replaced-agree : Equal (replaced (placesOf list) filler n) (replaced (placesOf list) filler m) → Agree n m (placesOf list) filler
+  pub replaced-agree : Equal (replaced (placesOf list) content n) (replaced (placesOf list) content m) → Agree n m (placesOf list) content
   unfolding replaced
   replaced-agree q =
       let l : length (n .normalized) ≡ length (m .normalized) = same-length in
-      let t : SameColumn (λ e. filler) (λ e. filler) 0 (placesOf list) (n .normalized) (m .normalized) =
-      laid-agree (n .normalized) (n .normalized) (m .normalized) (λ e. filler) (λ e. filler) refl (sym l) (λ e. refl) 0 (placesOf list) (tn .covered) (q .same-text) in
-      let s : SameColumn (carried (length filler) (n .starts)) (carried (length filler) (m .starts)) 0 (placesOf list) (n .starts) (m .starts) =
-      laid-agree (n .normalized) (n .starts) (m .starts) (carried (length filler) (n .starts)) (carried (length filler) (m .starts))
+      let t : SameColumn (λ e. content) (λ e. content) 0 (placesOf list) (n .normalized) (m .normalized) =
+      laid-agree (n .normalized) (n .normalized) (m .normalized) (λ e. content) (λ e. content) refl (sym l) (λ e. refl) 0 (placesOf list) (tn .covered) (q .same-text) in
+      let s : SameColumn (carried (length content) (n .starts)) (carried (length content) (m .starts)) 0 (placesOf list) (n .starts) (m .starts) =
+      laid-agree (n .normalized) (n .starts) (m .starts) (carried (length content) (n .starts)) (carried (length content) (m .starts))
       (tn .one-start) (tm .one-start ∙ sym l) starts-filled 0 (placesOf list) (tn .covered) (q .same-starts) in
-      let e : SameColumn (carried (length filler) (n .ends)) (carried (length filler) (m .ends)) 0 (placesOf list) (n .ends) (m .ends) =
-      laid-agree (n .normalized) (n .ends) (m .ends) (carried (length filler) (n .ends)) (carried (length filler) (m .ends))
+      let e : SameColumn (carried (length content) (n .ends)) (carried (length content) (m .ends)) 0 (placesOf list) (n .ends) (m .ends) =
+      laid-agree (n .normalized) (n .ends) (m .ends) (carried (length content) (n .ends)) (carried (length content) (m .ends))
       (tn .one-end) (tm .one-end ∙ sym l) ends-filled 0 (placesOf list) (tn .covered) (q .same-ends) in
       record {
         outside = λ p to o. (t .outside p (omega arith) to o, (s .outside p (omega arith) (omega (arith, tn .one-start)) o, e .outside p (omega arith) (omega (arith, tn .one-end)) o));
         before-end = λ some start end h past. (
-          carried-value (length filler) (n .starts) (m .starts) (end .0) (s .filled start end h) some past,
-          carried-value (length filler) (n .ends) (m .ends) (end .0) (e .filled start end h) some past,
+          carried-value (length content) (n .starts) (m .starts) (end .0) (s .filled start end h) some past,
+          carried-value (length content) (n .ends) (m .ends) (end .0) (e .filled start end h) some past,
         );
       }
 
 -- what a call has published: the first elements of its lent buffers, as many as the result has
 abbrev pub published : Note → List ℕ → List ℕ → List ℕ → List ℕ → List ℕ → Published
-published n list filler out starts ends =
+published n list content out starts ends =
     record {
-      text = take (length (replaced (placesOf list) filler n .text)) out;
-      starts = take (length (replaced (placesOf list) filler n .starts)) starts;
-      ends = take (length (replaced (placesOf list) filler n .ends)) ends;
+      text = take (length (replaced (placesOf list) content n .text)) out;
+      starts = take (length (replaced (placesOf list) content n .starts)) starts;
+      ends = take (length (replaced (placesOf list) content n .ends)) ends;
     }
 
 take-overlay : (r d o : List ℕ) → o ≡ overlay r d → take (length r) o ≡ r
 unfolding overlay
 take-overlay r d o e = ap (take (length r)) e ∙ take-append-seam r (drop (length r) d)
 
-pub published-is : {n : Note} {list filler out₀ starts₀ ends₀ out starts ends : List ℕ} → Replacing n list filler out₀ starts₀ ends₀ Accepted out starts ends → Equal (published n list filler out starts ends) (replaced (placesOf list) filler n)
+pub published-is : {n : Note} {list content out₀ starts₀ ends₀ out starts ends : List ℕ} → Replacing n list content out₀ starts₀ ends₀ Accepted out starts ends → Equal (published n list content out starts ends) (replaced (placesOf list) content n)
 published-is call =
     record {
       same-text = take-overlay _ _ _ (call .text-is);
@@ -278,23 +278,23 @@ published-is call =
 --  "exactly when"                                                                        the two halves of the pair
 --  "the notes agree on .."                                                               `Agree`, whose two fields are the demand's two clauses
 pub blanking :
-    {n m : Note} {list filler : List ℕ}
+    {n m : Note} {list content : List ℕ}
     {outₙ₀ startsₙ₀ endsₙ₀ outₙ startsₙ endsₙ : List ℕ} {outₘ₀ startsₘ₀ endsₘ₀ outₘ startsₘ endsₘ : List ℕ} →
-    Replacing n list filler outₙ₀ startsₙ₀ endsₙ₀ Accepted outₙ startsₙ endsₙ →
-    Replacing m list filler outₘ₀ startsₘ₀ endsₘ₀ Accepted outₘ startsₘ endsₘ →
-    (Equal (published n list filler outₙ startsₙ endsₙ) (published m list filler outₘ startsₘ endsₘ) → Agree n m (placesOf list) filler)
-    × (Agree n m (placesOf list) filler → Equal (published n list filler outₙ startsₙ endsₙ) (published m list filler outₘ startsₘ endsₘ))
-blanking {n} {m} {list} {filler} a b =
-    let pa : Equal (published n list filler _ _ _) (replaced (placesOf list) filler n) = published-is a in
-    let pb : Equal (published m list filler _ _ _) (replaced (placesOf list) filler m) = published-is b in (
-      (λ e. replaced-agree n m list filler (taken a) (taken b)
+    Replacing n list content outₙ₀ startsₙ₀ endsₙ₀ Accepted outₙ startsₙ endsₙ →
+    Replacing m list content outₘ₀ startsₘ₀ endsₘ₀ Accepted outₘ startsₘ endsₘ →
+    (Equal (published n list content outₙ startsₙ endsₙ) (published m list content outₘ startsₘ endsₘ) → Agree n m (placesOf list) content)
+    × (Agree n m (placesOf list) content → Equal (published n list content outₙ startsₙ endsₙ) (published m list content outₘ startsₘ endsₘ))
+blanking {n} {m} {list} {content} a b =
+    let pa : Equal (published n list content _ _ _) (replaced (placesOf list) content n) = published-is a in
+    let pb : Equal (published m list content _ _ _) (replaced (placesOf list) content m) = published-is b in (
+      (λ e. replaced-agree n m list content (taken a) (taken b)
           (record {
             same-text = sym (pa .same-text) ∙ e .same-text ∙ pb .same-text;
             same-starts = sym (pa .same-starts) ∙ e .same-starts ∙ pb .same-starts;
             same-ends = sym (pa .same-ends) ∙ e .same-ends ∙ pb .same-ends;
           })),
       (λ g.
-          let e : Equal (replaced (placesOf list) filler n) (replaced (placesOf list) filler m) = agree-replaced n m list filler (taken a) (taken b) g in
+          let e : Equal (replaced (placesOf list) content n) (replaced (placesOf list) content m) = agree-replaced n m list content (taken a) (taken b) g in
           record {
             same-text = pa .same-text ∙ e .same-text ∙ sym (pb .same-text);
             same-starts = pa .same-starts ∙ e .same-starts ∙ sym (pb .same-starts);

@@ -5,7 +5,7 @@ use mathlib.Core.List.{List, _++_}
 use native.Mathlib.Omega.{arith}
 use lib.ListN.{length, getD, take, drop, replicate, length-take, length-drop}
 use lib.Seq.{take-at, drop-at, getD-take, getD-drop, ext-getD}
-use Rattle.runs.specs.Splice.{part}
+use Rattle.buffers.specs.Splice.{part}
 
 pub append-cut : (a b c d : List ℕ) → length a ≡ length b → a ++ c ≡ b ++ d → (a ≡ b) × (c ≡ d)
 append-cut a b c d l e = (

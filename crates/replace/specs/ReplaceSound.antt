@@ -9,8 +9,8 @@ use lib.Dec.{leb}
 use lib.ListN.{length, getD, drop, length-append, length-replicate, getD-replicate, List·getD-append}
 use lib.Seq.{getD-take, getD-drop, getD-append-add}
 use borrow.Author.Tests.{eq-eqb, not-false}
-use Rattle.runs.specs.Splice.{part}
-use Rattle.runs.proofs.Everywhere.{and-true, and-left, and-right, le-or-lt, clash}
+use Rattle.buffers.specs.Splice.{part}
+use Rattle.buffers.proofs.Every.{and-true, and-left, and-right, le-or-lt, clash}
 use Rattle.utf8.specs.Formed.{wellFormed, formed, continues, boundary}
 use Rattle.utf8.proofs.Boundaries.{boundary-zero, boundary-begins, formed-part, formed-append}
 use Rattle.note.specs.declared.Refusal.{Refusal}
@@ -205,9 +205,9 @@ module _ (n : Note) (sound : Sound n) where
         high-end = omega arith;
       })
 
-  filler-stretch : (filler : List ℕ) (lo e : ℕ) → wellFormed filler ≡ true → lo ≤ e → e ≤ length (n .normalized) → Stretch n lo e filler (carried (length filler) (n .starts) e) (carried (length filler) (n .ends) e)
-  filler-stretch filler lo e p h most =
-      let w : ℕ = length filler in
+  content-stretch : (content : List ℕ) (lo e : ℕ) → wellFormed content ≡ true → lo ≤ e → e ≤ length (n .normalized) → Stretch n lo e content (carried (length content) (n .starts) e) (carried (length content) (n .ends) e)
+  content-stretch content lo e p h most =
+      let w : ℕ = length content in
       let x : ℕ = beforeEnd (n .starts) e in
       let y : ℕ = beforeEnd (n .ends) e in
       record {
@@ -262,27 +262,27 @@ module _ (n : Note) (sound : Sound n) where
             (record { shares = λ c. shared-at n sound (s + i) (omega arith) c; start-on = on .0; end-on = on .1 });
       }
 
-  stretches : (filler : List ℕ) → wellFormed filler ≡ true → (at : ℕ) (ps : List Place) → coversFrom (n .normalized) at ps ≡ true → boundary (n .normalized) at ≡ true
-      → Stretch n at (length (n .normalized)) (laid (λ end. filler) ps (n .normalized)) (laid (carried (length filler) (n .starts)) ps (n .starts)) (laid (carried (length filler) (n .ends)) ps (n .ends))
+  stretches : (content : List ℕ) → wellFormed content ≡ true → (at : ℕ) (ps : List Place) → coversFrom (n .normalized) at ps ≡ true → boundary (n .normalized) at ≡ true
+      → Stretch n at (length (n .normalized)) (laid (λ end. content) ps (n .normalized)) (laid (carried (length content) (n .starts)) ps (n .starts)) (laid (carried (length content) (n .ends)) ps (n .ends))
   unfolding laid piece formed
-  stretches filler p at [] c b =
+  stretches content p at [] c b =
       record { is-formed = refl; one-start = refl; one-end = refl; each = λ i h. absurd (omega arith); next = λ i h. absurd (omega arith) }
-  stretches filler p at (Unmatched s e ∷ ps) c b =
+  stretches content p at (Unmatched s e ∷ ps) c b =
       let step : Step (n .normalized) at (s .0) (e .0) ps = covers-unmatched (n .normalized) at s e ps c in
       let size : ℕ = length (n .normalized) in
       let low : (beforeEnd (n .starts) at ≤ beforeEnd (n .starts) (e .0)) × (beforeEnd (n .ends) at ≤ beforeEnd (n .ends) (e .0)) = before-le at (e .0) (step .onward) (step .inside) in
       let high : (beforeEnd (n .starts) (e .0) ≤ beforeEnd (n .starts) size) × (beforeEnd (n .ends) (e .0) ≤ beforeEnd (n .ends) size) = before-le (e .0) size (step .inside) (omega arith) in
       rw (step .from)
       (joined n at (e .0) size (part (n .normalized) at (e .0)) (part (n .starts) at (e .0)) (part (n .ends) at (e .0)) _ _ _
-      (kept-stretch at (e .0) (step .onward) b (step .stands) (step .inside)) (stretches filler p (e .0) ps (step .rest) (step .stands)) (low .0) (low .1) (high .0) (high .1))
-  stretches filler p at (Matched s e ∷ ps) c b =
+      (kept-stretch at (e .0) (step .onward) b (step .stands) (step .inside)) (stretches content p (e .0) ps (step .rest) (step .stands)) (low .0) (low .1) (high .0) (high .1))
+  stretches content p at (Matched s e ∷ ps) c b =
       let step : Step (n .normalized) at (s .0) (e .0) ps = covers-matched (n .normalized) at s e ps c in
       let size : ℕ = length (n .normalized) in
       let low : (beforeEnd (n .starts) at ≤ beforeEnd (n .starts) (e .0)) × (beforeEnd (n .ends) at ≤ beforeEnd (n .ends) (e .0)) = before-le at (e .0) (step .onward) (step .inside) in
       let high : (beforeEnd (n .starts) (e .0) ≤ beforeEnd (n .starts) size) × (beforeEnd (n .ends) (e .0) ≤ beforeEnd (n .ends) size) = before-le (e .0) size (step .inside) (omega arith) in
-      joined n at (e .0) size filler (carried (length filler) (n .starts) (e .0)) (carried (length filler) (n .ends) (e .0)) _ _ _
-      (filler-stretch filler at (e .0) p (step .onward) (step .inside)) (stretches filler p (e .0) ps (step .rest) (step .stands)) (low .0) (low .1) (high .0) (high .1)
-  stretches filler p at (Broken ∷ ps) c b = covers-broken (n .normalized) at ps c
+      joined n at (e .0) size content (carried (length content) (n .starts) (e .0)) (carried (length content) (n .ends) (e .0)) _ _ _
+      (content-stretch content at (e .0) p (step .onward) (step .inside)) (stretches content p (e .0) ps (step .rest) (step .stands)) (low .0) (low .1) (high .0) (high .1)
+  stretches content p at (Broken ∷ ps) c b = covers-broken (n .normalized) at ps c
 
 -- the note that a replacement leaves: the transcript and the shift stay
 abbrev pub resulting : Note → Published → Note
@@ -301,11 +301,11 @@ not-or true true e = (refl, refl)
 not-or true false e = clash true refl e
 not-or false b e = clash true refl e
 
-accepted-sound : {n : Note} {list filler out₀ starts₀ ends₀ out starts ends : List ℕ} → Replacing n list filler out₀ starts₀ ends₀ Accepted out starts ends → Sound n × (wellFormed filler ≡ true)
-accepted-sound {n} {list} {filler} {out₀} {starts₀} {ends₀} call =
-    let faults : (k : Refusal) → replaceFaults n list filler (length out₀) (length starts₀) (length ends₀) k ≡ false =
-    accepted-meets (replaceFaults n list filler (length out₀) (length starts₀) (length ends₀)) (sym (call .answer)) in
-    let texts : (textsFormed n ≡ true) × (wellFormed filler ≡ true) = not-or (textsFormed n) (wellFormed filler) (faults IllFormed) in (
+accepted-sound : {n : Note} {list content out₀ starts₀ ends₀ out starts ends : List ℕ} → Replacing n list content out₀ starts₀ ends₀ Accepted out starts ends → Sound n × (wellFormed content ≡ true)
+accepted-sound {n} {list} {content} {out₀} {starts₀} {ends₀} call =
+    let faults : (k : Refusal) → replaceFaults n list content (length out₀) (length starts₀) (length ends₀) k ≡ false =
+    accepted-meets (replaceFaults n list content (length out₀) (length starts₀) (length ends₀)) (sym (call .answer)) in
+    let texts : (textsFormed n ≡ true) × (wellFormed content ≡ true) = not-or (textsFormed n) (wellFormed content) (faults IllFormed) in (
       record {
         has-pairs = not-false (paired n) (faults LengthMismatch);
         has-texts = texts .0;
@@ -315,26 +315,26 @@ accepted-sound {n} {list} {filler} {out₀} {starts₀} {ends₀} call =
     )
 
 -- THE CLAIM: "Every accepted edit and slice leaves a sound note", for replacing; and its texts are within the limits.
-pub replaced-sound : {n : Note} {list filler out₀ starts₀ ends₀ out starts ends : List ℕ} → Replacing n list filler out₀ starts₀ ends₀ Accepted out starts ends
-    → Sound (resulting n (replaced (placesOf list) filler n)) × (fits (resulting n (replaced (placesOf list) filler n)) ≡ true)
+pub replaced-sound : {n : Note} {list content out₀ starts₀ ends₀ out starts ends : List ℕ} → Replacing n list content out₀ starts₀ ends₀ Accepted out starts ends
+    → Sound (resulting n (replaced (placesOf list) content n)) × (fits (resulting n (replaced (placesOf list) content n)) ≡ true)
 unfolding replaced paired textsFormed fits hasRoom
-replaced-sound {n} {list} {filler} {out₀} {starts₀} {ends₀} call =
-    let faults : (k : Refusal) → replaceFaults n list filler (length out₀) (length starts₀) (length ends₀) k ≡ false =
-    accepted-meets (replaceFaults n list filler (length out₀) (length starts₀) (length ends₀)) (sym (call .answer)) in
+replaced-sound {n} {list} {content} {out₀} {starts₀} {ends₀} call =
+    let faults : (k : Refusal) → replaceFaults n list content (length out₀) (length starts₀) (length ends₀) k ≡ false =
+    accepted-meets (replaceFaults n list content (length out₀) (length starts₀) (length ends₀)) (sym (call .answer)) in
     let within : fits n ≡ true = not-false (fits n) (faults TooLong) in
     let near : (leb (length (n .original)) limit && leb (length (n .normalized)) limit) ≡ true = and-left _ (leb (n .original-shift + length (n .original)) limit) within in
-    let p : Published = replaced (placesOf list) filler n in
+    let p : Published = replaced (placesOf list) content n in
     let room : hasRoom p (length out₀) (length starts₀) (length ends₀) ≡ true = not-false (hasRoom p (length out₀) (length starts₀) (length ends₀)) (faults NoRoom) in
     let small : leb (length (p .text)) limit ≡ true =
     and-left _ (leb (length (p .text)) (length out₀)) (and-left _ (leb (length (p .starts)) (length starts₀)) (and-left _ (leb (length (p .ends)) (length ends₀)) room)) in
-    let both : Sound n × (wellFormed filler ≡ true) = accepted-sound call in
+    let both : Sound n × (wellFormed content ≡ true) = accepted-sound call in
     let sound : Sound n = both .0 in
-    let s : Stretch n 0 (length (n .normalized)) (laid (λ end. filler) (placesOf list) (n .normalized)) (laid (carried (length filler) (n .starts)) (placesOf list) (n .starts)) (laid (carried (length filler) (n .ends)) (placesOf list) (n .ends)) =
-    stretches n sound filler (both .1) 0 (placesOf list) (taken call .covered) (boundary-zero (n .normalized) (normalized-formed n sound)) in (
+    let s : Stretch n 0 (length (n .normalized)) (laid (λ end. content) (placesOf list) (n .normalized)) (laid (carried (length content) (n .starts)) (placesOf list) (n .starts)) (laid (carried (length content) (n .ends)) (placesOf list) (n .ends)) =
+    stretches n sound content (both .1) 0 (placesOf list) (taken call .covered) (boundary-zero (n .normalized) (normalized-formed n sound)) in (
       record {
         has-pairs = and-true _ _ (eq-eqb _ _ (s .one-start)) (eq-eqb _ _ (s .one-end));
         has-texts = and-true _ _ (original-formed n sound) (s .is-formed);
-        has-alignments = aligned-from (resulting n (replaced (placesOf list) filler n))
+        has-alignments = aligned-from (resulting n (replaced (placesOf list) content n))
             (record {
               in-order = λ i h. s .each i h .in-order;
               most = λ i h. s .each i h .most;

@@ -6,12 +6,12 @@ use mathlib.Core.Bool.{Bool, cond, _&&_, not}
 use mathlib.Core.List.{List, [], _∷_, _++_}
 use lib.Dec.{leb, eqb}
 use lib.ListN.{length, getD, replicate}
-use Rattle.runs.specs.Splice.{part}
+use Rattle.buffers.specs.Splice.{part}
 use Rattle.utf8.specs.Formed.{wellFormed}
 use Rattle.note.specs.declared.Refusal.{Refusal}
 use Rattle.note.specs.declared.Refusal.the-variants.{BadMatches, NoRoom}
 use Rattle.note.specs.declared.Verdict.{Verdict}
-use Rattle.note.specs.Refusals.{meets, verdict, left}
+use Rattle.note.specs.Refusals.{meets, verdict, after}
 use Rattle.note.specs.Notes.{Note, limit, besideFaults}
 use Rattle.pattern.specs.declared.Place.{Place}
 use Rattle.pattern.specs.declared.Place.the-variants.{Unmatched, Matched, Broken}
@@ -43,11 +43,11 @@ pub record Published : Type 0 where
   pub ends : List ℕ
 
 unfoldable pub replaced : List Place → List ℕ → Note → Published
-replaced ps filler n =
+replaced ps content n =
     record {
-      text = laid (λ end. filler) ps (n .normalized);
-      starts = laid (carried (length filler) (n .starts)) ps (n .starts);
-      ends = laid (carried (length filler) (n .ends)) ps (n .ends);
+      text = laid (λ end. content) ps (n .normalized);
+      starts = laid (carried (length content) (n .starts)) ps (n .starts);
+      ends = laid (carried (length content) (n .ends)) ps (n .ends);
     }
 
 -- 9: "the result exceeds a lent buffer, or its cleaned text 65,535 bytes"
@@ -57,14 +57,14 @@ hasRoom p roomT roomS roomE =
 
 -- the refusals: those of a note, 1 also of the filler, 8, 9
 abbrev pub replaceFaults : Note → List ℕ → List ℕ → ℕ → ℕ → ℕ → Refusal → Bool
-replaceFaults n list filler roomT roomS roomE =
+replaceFaults n list content roomT roomS roomE =
     meets BadMatches (not (covers (n .normalized) (placesOf list)))
-    (meets NoRoom (not (hasRoom (replaced (placesOf list) filler n) roomT roomS roomE))
-    (besideFaults n (not (wellFormed filler))))
+    (meets NoRoom (not (hasRoom (replaced (placesOf list) content n) roomT roomS roomE))
+    (besideFaults n (not (wellFormed content))))
 
 -- the call: note, list and filler, the lent buffers before, the answer, the lent buffers after
-pub record Replacing (n : Note) (list filler out₀ starts₀ ends₀ : List ℕ) (r : Verdict) (out starts ends : List ℕ) : Type 0 where
-  pub answer : r ≡ verdict (replaceFaults n list filler (length out₀) (length starts₀) (length ends₀))
-  pub text-is : out ≡ left r (replaced (placesOf list) filler n .text) out₀
-  pub starts-are : starts ≡ left r (replaced (placesOf list) filler n .starts) starts₀
-  pub ends-are : ends ≡ left r (replaced (placesOf list) filler n .ends) ends₀
+pub record Replacing (n : Note) (list content out₀ starts₀ ends₀ : List ℕ) (r : Verdict) (out starts ends : List ℕ) : Type 0 where
+  pub answer : r ≡ verdict (replaceFaults n list content (length out₀) (length starts₀) (length ends₀))
+  pub text-is : out ≡ after r (replaced (placesOf list) content n .text) out₀
+  pub starts-are : starts ≡ after r (replaced (placesOf list) content n .starts) starts₀
+  pub ends-are : ends ≡ after r (replaced (placesOf list) content n .ends) ends₀

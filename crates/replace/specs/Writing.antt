@@ -5,7 +5,7 @@ use mathlib.Core.Bool.{Bool, true, cond, _&&_}
 use mathlib.Core.List.{List, [], _∷_}
 use lib.Dec.{leb}
 use lib.ListN.{length}
-use Rattle.runs.specs.Splice.{part, splice, overlay}
+use Rattle.buffers.specs.Splice.{part, splice, overlay}
 use Rattle.note.specs.declared.Refusal.the-variants.{BadMatches, NoRoom}
 use Rattle.note.specs.declared.Verdict.{Verdict}
 use Rattle.note.specs.declared.Verdict.the-variants.{Accepted, Refused}
@@ -52,46 +52,46 @@ pub record Kept (text starts ends : List ℕ) (from to : ℕ) (out₀ starts₀ 
   pub ends-are : ends₁ ≡ splice ends₀ at (part ends from to)
 
 -- the filler with the alignment of the byte before `to`, and room for it
-pub record Filling (starts ends : List ℕ) (to : ℕ) (filler out starts₀ ends₀ : List ℕ) (at : ℕ) : Type 0 where
+pub record Filling (starts ends : List ℕ) (to : ℕ) (content out starts₀ ends₀ : List ℕ) (at : ℕ) : Type 0 where
   pub in-starts : to ≤ length starts
   pub in-ends : to ≤ length ends
-  pub text-room : at + length filler ≤ length out
-  pub starts-room : at + length filler ≤ length starts₀
-  pub ends-room : at + length filler ≤ length ends₀
+  pub text-room : at + length content ≤ length out
+  pub starts-room : at + length content ≤ length starts₀
+  pub ends-room : at + length content ≤ length ends₀
 
-pub record Filled (starts ends : List ℕ) (to : ℕ) (filler out₀ starts₀ ends₀ : List ℕ) (at : ℕ) (out starts₁ ends₁ : List ℕ) : Type 0 where
-  pub text-is : out ≡ splice out₀ at filler
-  pub starts-are : starts₁ ≡ splice starts₀ at (carried (length filler) starts to)
-  pub ends-are : ends₁ ≡ splice ends₀ at (carried (length filler) ends to)
+pub record Filled (starts ends : List ℕ) (to : ℕ) (content out₀ starts₀ ends₀ : List ℕ) (at : ℕ) (out starts₁ ends₁ : List ℕ) : Type 0 where
+  pub text-is : out ≡ splice out₀ at content
+  pub starts-are : starts₁ ≡ splice starts₀ at (carried (length content) starts to)
+  pub ends-are : ends₁ ≡ splice ends₀ at (carried (length content) ends to)
 
 -- a place that fits the text at some place, and room for what it gives
-pub record Fitting (text starts ends filler : List ℕ) (p : Place) (out starts₀ ends₀ : List ℕ) (at : ℕ) : Type 0 where
+pub record Fitting (text starts ends content : List ℕ) (p : Place) (out starts₀ ends₀ : List ℕ) (at : ℕ) : Type 0 where
   pub one-start : length starts ≡ length text
   pub one-end : length ends ≡ length text
   pub from : ℕ
   pub fits : fitsAt text from p ≡ true
-  pub text-room : at + sizeOf (length filler) p ≤ length out
-  pub starts-room : at + sizeOf (length filler) p ≤ length starts₀
-  pub ends-room : at + sizeOf (length filler) p ≤ length ends₀
+  pub text-room : at + sizeOf (length content) p ≤ length out
+  pub starts-room : at + sizeOf (length content) p ≤ length starts₀
+  pub ends-room : at + sizeOf (length content) p ≤ length ends₀
 
 -- what it gives stands in the buffers from `at` on
-pub record PlaceLaid (text starts ends filler : List ℕ) (p : Place) (out₀ starts₀ ends₀ : List ℕ) (at r : ℕ) (out starts₁ ends₁ : List ℕ) : Type 0 where
-  pub reached : r ≡ at + sizeOf (length filler) p
-  pub text-is : out ≡ splice out₀ at (piece (λ end. filler) p text)
-  pub starts-are : starts₁ ≡ splice starts₀ at (piece (carried (length filler) starts) p starts)
-  pub ends-are : ends₁ ≡ splice ends₀ at (piece (carried (length filler) ends) p ends)
+pub record PlaceLaid (text starts ends content : List ℕ) (p : Place) (out₀ starts₀ ends₀ : List ℕ) (at r : ℕ) (out starts₁ ends₁ : List ℕ) : Type 0 where
+  pub reached : r ≡ at + sizeOf (length content) p
+  pub text-is : out ≡ splice out₀ at (piece (λ end. content) p text)
+  pub starts-are : starts₁ ≡ splice starts₀ at (piece (carried (length content) starts) p starts)
+  pub ends-are : ends₁ ≡ splice ends₀ at (piece (carried (length content) ends) p ends)
 
 -- a list that covers the text, and room for the whole result
-pub record Ready (text starts ends list filler out starts₀ ends₀ : List ℕ) : Type 0 where
+pub record Ready (text starts ends list content out starts₀ ends₀ : List ℕ) : Type 0 where
   pub one-start : length starts ≡ length text
   pub one-end : length ends ≡ length text
   pub covered : covers text (placesOf list) ≡ true
-  pub text-room : sizes (length filler) (placesOf list) ≤ length out
-  pub starts-room : sizes (length filler) (placesOf list) ≤ length starts₀
-  pub ends-room : sizes (length filler) (placesOf list) ≤ length ends₀
+  pub text-room : sizes (length content) (placesOf list) ≤ length out
+  pub starts-room : sizes (length content) (placesOf list) ≤ length starts₀
+  pub ends-room : sizes (length content) (placesOf list) ≤ length ends₀
 
 -- the whole result stands in front
-pub record AllLaid (text starts ends list filler out₀ starts₀ ends₀ out starts₁ ends₁ : List ℕ) : Type 0 where
-  pub text-is : out ≡ overlay (laid (λ end. filler) (placesOf list) text) out₀
-  pub starts-are : starts₁ ≡ overlay (laid (carried (length filler) starts) (placesOf list) starts) starts₀
-  pub ends-are : ends₁ ≡ overlay (laid (carried (length filler) ends) (placesOf list) ends) ends₀
+pub record AllLaid (text starts ends list content out₀ starts₀ ends₀ out starts₁ ends₁ : List ℕ) : Type 0 where
+  pub text-is : out ≡ overlay (laid (λ end. content) (placesOf list) text) out₀
+  pub starts-are : starts₁ ≡ overlay (laid (carried (length content) starts) (placesOf list) starts) starts₀
+  pub ends-are : ends₁ ≡ overlay (laid (carried (length content) ends) (placesOf list) ends) ends₀

@@ -1,4 +1,5 @@
 // Replacing (document 01; Rust: `NormalizedString::replace`): matched places of the cleaned text give way to a filler.
+use buffers::Offset;
 use note::LIMIT;
 use note::Refusal;
 use note::Verdict;
@@ -6,9 +7,9 @@ use note::check_beside;
 use pattern::Place;
 use pattern::covers;
 use pattern::place_at;
-use runs::copy8;
-use runs::copy16;
-use runs::fill16;
+use buffers::copy_bytes;
+use buffers::copy_offsets;
+use buffers::fill_offsets;
 use validity::well_formed;
 ghost use mathlib.Core.Path.{_≡_};
 ghost use Prim.Native.Nat.{_≤_, min};
@@ -92,7 +93,7 @@ fn judge(
 }
 
 // What a column has for the byte before `end`, 0 if that is 0. An inner function: `end` is no further than the column.
-pub fn before_end(column: &[u16], end: usize) -> u16
+pub fn before_end(column: &[Offset], end: usize) -> Offset
     requires { ⌜ end ≤ length (now column) ⌝ }
     ensures { λ r. ⌜ r ≡ beforeEnd (now (column .entry)) end ⌝ }
 {
@@ -105,58 +106,58 @@ pub fn before_end(column: &[u16], end: usize) -> u16
 // An unmatched place's bytes with their alignments, laid into the buffers from `at` on.
 fn keep(
     normalized: &[u8],
-    starts: &[u16],
-    ends: &[u16],
+    starts: &[Offset],
+    ends: &[Offset],
     from: usize,
     to: usize,
     out: &mut [u8],
-    out_starts: &mut [u16],
-    out_ends: &mut [u16],
+    out_starts: &mut [Offset],
+    out_ends: &mut [Offset],
     at: usize,
 )
     requires { ⌜ Keeping (now normalized) (now starts) (now ends) from to (now out) (now «out_starts») (now «out_ends») at ⌝ }
     ensures { λ _. ⌜ Kept (now (normalized .entry)) (now (starts .entry)) (now (ends .entry)) from to
         (now (out .entry)) (now («out_starts» .entry)) (now («out_ends» .entry)) at (now (out .exit)) (now («out_starts» .exit)) (now («out_ends» .exit)) ⌝ }
 {
-    copy8(&normalized[from..to], out, at);
-    copy16(&starts[from..to], out_starts, at);
-    copy16(&ends[from..to], out_ends, at);
+    copy_bytes(&normalized[from..to], out, at);
+    copy_offsets(&starts[from..to], out_starts, at);
+    copy_offsets(&ends[from..to], out_ends, at);
 }
 
 // The filler in the place of a matched one that ends at `to`.
 fn fill(
-    starts: &[u16],
-    ends: &[u16],
+    starts: &[Offset],
+    ends: &[Offset],
     to: usize,
-    filler: &[u8],
+    content: &[u8],
     out: &mut [u8],
-    out_starts: &mut [u16],
-    out_ends: &mut [u16],
+    out_starts: &mut [Offset],
+    out_ends: &mut [Offset],
     at: usize,
 )
-    requires { ⌜ Filling (now starts) (now ends) to (now filler) (now out) (now «out_starts») (now «out_ends») at ⌝ }
-    ensures { λ _. ⌜ Filled (now (starts .entry)) (now (ends .entry)) to (now (filler .entry))
+    requires { ⌜ Filling (now starts) (now ends) to (now content) (now out) (now «out_starts») (now «out_ends») at ⌝ }
+    ensures { λ _. ⌜ Filled (now (starts .entry)) (now (ends .entry)) to (now (content .entry))
         (now (out .entry)) (now («out_starts» .entry)) (now («out_ends» .entry)) at (now (out .exit)) (now («out_starts» .exit)) (now («out_ends» .exit)) ⌝ }
 {
-    copy8(filler, out, at);
-    fill16(before_end(starts, to), filler.len(), out_starts, at);
-    fill16(before_end(ends, to), filler.len(), out_ends, at);
+    copy_bytes(content, out, at);
+    fill_offsets(before_end(starts, to), content.len(), out_starts, at);
+    fill_offsets(before_end(ends, to), content.len(), out_ends, at);
 }
 
 // One place of a judged list, laid into the buffers from `at` on; how far they reach then.
 fn lay_place(
     normalized: &[u8],
-    starts: &[u16],
-    ends: &[u16],
-    filler: &[u8],
+    starts: &[Offset],
+    ends: &[Offset],
+    content: &[u8],
     place: Place,
     out: &mut [u8],
-    out_starts: &mut [u16],
-    out_ends: &mut [u16],
+    out_starts: &mut [Offset],
+    out_ends: &mut [Offset],
     at: usize,
 ) -> usize
-    requires { ⌜ Fitting (now normalized) (now starts) (now ends) (now filler) place (now out) (now «out_starts») (now «out_ends») at ⌝ }
-    ensures { λ r. ⌜ PlaceLaid (now (normalized .entry)) (now (starts .entry)) (now (ends .entry)) (now (filler .entry)) place
+    requires { ⌜ Fitting (now normalized) (now starts) (now ends) (now content) place (now out) (now «out_starts») (now «out_ends») at ⌝ }
+    ensures { λ r. ⌜ PlaceLaid (now (normalized .entry)) (now (starts .entry)) (now (ends .entry)) (now (content .entry)) place
         (now (out .entry)) (now («out_starts» .entry)) (now («out_ends» .entry)) at r (now (out .exit)) (now («out_starts» .exit)) (now («out_ends» .exit)) ⌝ }
 {
     match place {
@@ -178,8 +179,8 @@ fn lay_place(
         }
         Place::Matched(_, end) => {
             let to = end.0 as usize;
-            fill(starts, ends, to, filler, out, out_starts, out_ends, at);
-            at + filler.len()
+            fill(starts, ends, to, content, out, out_starts, out_ends, at);
+            at + content.len()
         }
         Place::Broken => at,
     }
@@ -188,16 +189,16 @@ fn lay_place(
 // Every place of a list that covers the text, one behind the other. An inner function: there is room for the result.
 pub fn lay_out(
     normalized: &[u8],
-    starts: &[u16],
-    ends: &[u16],
+    starts: &[Offset],
+    ends: &[Offset],
     list: &[u8],
-    filler: &[u8],
+    content: &[u8],
     out: &mut [u8],
-    out_starts: &mut [u16],
-    out_ends: &mut [u16],
+    out_starts: &mut [Offset],
+    out_ends: &mut [Offset],
 )
-    requires { ⌜ Ready (now normalized) (now starts) (now ends) (now list) (now filler) (now out) (now «out_starts») (now «out_ends») ⌝ }
-    ensures { λ _. ⌜ AllLaid (now (normalized .entry)) (now (starts .entry)) (now (ends .entry)) (now (list .entry)) (now (filler .entry))
+    requires { ⌜ Ready (now normalized) (now starts) (now ends) (now list) (now content) (now out) (now «out_starts») (now «out_ends») ⌝ }
+    ensures { λ _. ⌜ AllLaid (now (normalized .entry)) (now (starts .entry)) (now (ends .entry)) (now (list .entry)) (now (content .entry))
         (now (out .entry)) (now («out_starts» .entry)) (now («out_ends» .entry)) (now (out .exit)) (now («out_starts» .exit)) (now («out_ends» .exit)) ⌝ }
 {
     let mut at = 0;
@@ -207,7 +208,7 @@ pub fn lay_out(
             normalized,
             starts,
             ends,
-            filler,
+            content,
             place_at(list, i),
             out,
             out_starts,
@@ -222,21 +223,21 @@ pub fn lay_out(
 pub fn judged(
     original: &[u8],
     normalized: &[u8],
-    starts: &[u16],
-    ends: &[u16],
+    starts: &[Offset],
+    ends: &[Offset],
     original_shift: u32,
     list: &[u8],
-    filler: &[u8],
+    content: &[u8],
     room: usize,
     starts_room: usize,
     ends_room: usize,
 ) -> Verdict
     ensures { λ r. ⌜ r ≡ verdict (replaceFaults (record { original = now (original .entry); normalized = now (normalized .entry); starts = now (starts .entry); ends = now (ends .entry); original-shift = «original_shift» })
-        (now (list .entry)) (now (filler .entry)) room «starts_room» «ends_room») ⌝ }
+        (now (list .entry)) (now (content .entry)) room «starts_room» «ends_room») ⌝ }
 {
-    let torn = !well_formed(filler);
+    let torn = !well_formed(content);
     match check_beside(original, normalized, starts, ends, original_shift, torn) {
-        Verdict::Accepted => judge(normalized, list, filler.len(), room, starts_room, ends_room),
+        Verdict::Accepted => judge(normalized, list, content.len(), room, starts_room, ends_room),
         Verdict::Refused(k) => Verdict::Refused(k),
     }
 }
@@ -245,17 +246,17 @@ pub fn judged(
 pub fn replace(
     original: &[u8],
     normalized: &[u8],
-    starts: &[u16],
-    ends: &[u16],
+    starts: &[Offset],
+    ends: &[Offset],
     original_shift: u32,
     list: &[u8],
-    filler: &[u8],
+    content: &[u8],
     out: &mut [u8],
-    out_starts: &mut [u16],
-    out_ends: &mut [u16],
+    out_starts: &mut [Offset],
+    out_ends: &mut [Offset],
 ) -> Verdict
     ensures { λ r. ⌜ Replacing (record { original = now (original .entry); normalized = now (normalized .entry); starts = now (starts .entry); ends = now (ends .entry); original-shift = «original_shift» })
-        (now (list .entry)) (now (filler .entry)) (now (out .entry)) (now («out_starts» .entry)) (now («out_ends» .entry)) r (now (out .exit)) (now («out_starts» .exit)) (now («out_ends» .exit)) ⌝ }
+        (now (list .entry)) (now (content .entry)) (now (out .entry)) (now («out_starts» .entry)) (now («out_ends» .entry)) r (now (out .exit)) (now («out_starts» .exit)) (now («out_ends» .exit)) ⌝ }
 {
     match judged(
         original,
@@ -264,7 +265,7 @@ pub fn replace(
         ends,
         original_shift,
         list,
-        filler,
+        content,
         out.len(),
         out_starts.len(),
         out_ends.len(),
@@ -275,7 +276,7 @@ pub fn replace(
                 starts,
                 ends,
                 list,
-                filler,
+                content,
                 out,
                 out_starts,
                 out_ends,

@@ -6,8 +6,8 @@ use crate::list::byte;
 use crate::list::long;
 use crate::list::text;
 use note::OriginalByte;
-use positions::CharOffsets;
-use positions::letters::LetterCount;
+use char_offsets::CharOffsets;
+use char_offsets::letters::LetterCount;
 
 // A text; 1 where it is well-formed, 0 where it is not.
 pub fn well_formed(list: &[u8], at: usize) -> Outcome {
@@ -32,7 +32,7 @@ pub fn letter_count(list: &[u8], at: usize) -> Outcome {
     let answer = after(list, t.at, 8);
     let refusal = byte(list, answer) as u32;
     let count = long(list, after(list, answer, 1));
-    let agrees = match positions::letters::letter_count(&bytes[..len], start, end) {
+    let agrees = match char_offsets::letters::letter_count(&bytes[..len], start, end) {
         LetterCount::Letters(n) => refusal == 0 && count == n,
         LetterCount::Unread(k) => refusal == note::number(k) && count == 0,
     };
@@ -53,7 +53,7 @@ pub fn char_offsets(list: &[u8], at: usize) -> Outcome {
     let refusal = byte(list, answer) as u32;
     let first = long(list, after(list, answer, 1));
     let last = long(list, after(list, answer, 5));
-    let agrees = match positions::convert(&bytes[..len], start, end) {
+    let agrees = match char_offsets::convert(&bytes[..len], start, end) {
         CharOffsets::Chars(a, b) => (refusal == 0) & (first == a.0) & (last == b.0),
         CharOffsets::Refused(k) => (refusal == note::number(k)) & (first == 0) & (last == 0),
     };

@@ -22,7 +22,7 @@ fn started(
     if ends.len() < ends_len {
         return 256;
     }
-    note::answer(starting::from_text(text, &mut starts[..starts_len], &mut ends[..ends_len]))
+    note::answer(from_text::from_text(text, &mut starts[..starts_len], &mut ends[..ends_len]))
 }
 
 // A text, the lengths of the lent starts and ends; the refusal, the written starts, the written ends (empty where it is refused).

@@ -4,8 +4,8 @@ use crate::calls::ROOM;
 use crate::list::column;
 use crate::list::longs;
 use crate::list::text;
-use runs::same::same8;
-use runs::same::same16;
+use buffers::equality::same_bytes;
+use buffers::equality::same_offsets;
 
 // The numbers of a buffer that is lent for a list of numbers: more than a list's count of one byte.
 pub const FEW: usize = 256;
@@ -60,7 +60,7 @@ pub fn wrote8(list: &[u8], at: usize, lent: &[u8]) -> Outcome {
     let t = text(list, at, &mut expected);
     Outcome {
         at: t.at,
-        agrees: same8(lent, &expected),
+        agrees: same_bytes(lent, &expected),
     }
 }
 
@@ -70,7 +70,7 @@ pub fn wrote16(list: &[u8], at: usize, lent: &[u16]) -> Outcome {
     let c = column(list, at, &mut expected);
     Outcome {
         at: c.at,
-        agrees: same16(lent, &expected),
+        agrees: same_offsets(lent, &expected),
     }
 }
 

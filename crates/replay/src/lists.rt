@@ -11,7 +11,7 @@ use crate::list::after;
 use crate::list::byte;
 use crate::list::longs;
 use crate::list::text;
-use batch::OffsetReferential;
+use convert_list::OffsetReferential;
 
 // 1 for the transcript, 0 for the cleaned text.
 fn side_at(list: &[u8], at: usize) -> OffsetReferential {
@@ -61,7 +61,7 @@ fn char_offsets_in(
     if ends.len() < ends_room {
         return 256;
     }
-    note::answer(positions::convert_all(
+    note::answer(char_offsets::convert_all(
         text,
         from,
         to,
@@ -132,7 +132,7 @@ fn converted_in(
     if ends.len() < ends_room {
         return 256;
     }
-    note::answer(batch::convert_all(
+    note::answer(convert_list::convert_all(
         original,
         normalized,
         note_starts,

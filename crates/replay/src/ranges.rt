@@ -9,7 +9,7 @@ use convert::Converted;
 use convert::Range;
 use note::NormalizedByte;
 use note::OriginalByte;
-use runs::same::same8;
+use buffers::equality::same_bytes;
 
 // The text that a range names (1 the transcript, 0 the cleaned text), start, end: 9 bytes.
 fn range_at(list: &[u8], at: usize) -> Range {
@@ -65,8 +65,8 @@ fn called(
 ) -> Converted {
     match call {
         5 => convert::convert_offsets(original, normalized, starts, ends, shift, range),
-        6 => reading::get_range(original, normalized, starts, ends, shift, range),
-        _ => reading::get_range_original(original, normalized, starts, ends, shift, range),
+        6 => get_range::get_range(original, normalized, starts, ends, shift, range),
+        _ => get_range::get_range_original(original, normalized, starts, ends, shift, range),
     }
 }
 
@@ -99,11 +99,11 @@ pub fn part(list: &[u8], at: usize) -> Outcome {
     let n_len = n.len;
     let e_len = e.len;
     let range = range_at(list, n.at);
-    let verdict = reading::part_verdict(&original[..o_len], &normalized[..n_len], range);
-    let read = reading::part_of(&original[..o_len], &normalized[..n_len], range);
+    let verdict = get_range::part_verdict(&original[..o_len], &normalized[..n_len], range);
+    let read = get_range::part_of(&original[..o_len], &normalized[..n_len], range);
     Outcome {
         at: e.at,
         agrees: (note::answer(verdict) == byte(list, answer) as u32)
-            & same8(read, &expected[..e_len]),
+            & same_bytes(read, &expected[..e_len]),
     }
 }

@@ -11,7 +11,7 @@ use crate::list::column;
 use crate::list::long;
 use crate::list::short;
 use crate::list::text;
-use alike::Comparison;
+use indistinguishable::Comparison;
 use find::Matches;
 
 // What finding answers where it is lent only the first of a buffer; a size that no list has where it has fewer.
@@ -174,7 +174,7 @@ fn alike_beside(
     let f = text(list, p.at, &mut filler);
     let p_len = p.len;
     let f_len = f.len;
-    let answer = alike::published_alike(
+    let answer = indistinguishable::published_alike(
         original,
         normalized,
         starts,

@@ -9,8 +9,8 @@ use lib.Dec.{leb, ltb, eqb}
 use lib.ListN.{length, getD, take, drop, length-append, length-drop, List·getD-eq-default, List·getD-append}
 use lib.Seq.{drop-cons, drop-nil, take-nil, getD-drop, getD-append-add}
 use borrow.Author.Tests.{ltb-true, leb-true, le-leb, lt-leb, le-ltb, lt-ltb, eq-eqb, ne-eqb, not-true}
-use Rattle.runs.specs.Splice.{part}
-use Rattle.runs.proofs.Everywhere.{and-true, and-left, and-right, and-false-l, and-false-r, le-or-lt}
+use Rattle.buffers.specs.Splice.{part}
+use Rattle.buffers.proofs.Every.{and-true, and-left, and-right, and-false-l, and-false-r, le-or-lt}
 use Rattle.utf8.specs.Table.{Bytes, bytes, within, trail}
 use Rattle.utf8.specs.Formed.{announced, second, asked, formed, wellFormed, continues, boundary}
 use Rattle.utf8.specs.Lengths.{CharLen}

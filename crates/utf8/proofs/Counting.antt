@@ -8,8 +8,8 @@ use native.Mathlib.Omega.{arith}
 use mir.Val.{boolByte}
 use lib.ListN.{length, getD, take, drop, length-take}
 use lib.Seq.{drop-cons, take-suc, take-add, take-all}
-use Rattle.runs.specs.Splice.{part}
-use Rattle.runs.proofs.Everywhere.{and-left, and-right}
+use Rattle.buffers.specs.Splice.{part}
+use Rattle.buffers.proofs.Every.{and-left, and-right}
 use Rattle.utf8.specs.Table.{Bytes, within}
 use Rattle.utf8.specs.Formed.{asked, formed, wellFormed, continues}
 use Rattle.utf8.specs.Letters.{lettersFrom, letters, leadAt, leads}

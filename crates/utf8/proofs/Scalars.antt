@@ -8,7 +8,7 @@ use native.Mathlib.Omega.{arith}
 use lib.Dec.{leb}
 use lib.ListN.{length}
 use borrow.Author.Tests.{lt-ltb, le-ltb, le-leb, leb-true, leb-false, not-true}
-use Rattle.runs.proofs.Everywhere.{and-left, and-right, le-or-lt}
+use Rattle.buffers.proofs.Every.{and-left, and-right, le-or-lt}
 use Rattle.utf8.specs.Table.{Bytes, bytes, within, trail, rows, ofRow, ofSome}
 use Rattle.utf8.specs.Formed.{wellFormed}
 use Rattle.utf8.specs.Scalar.{scalar, sixBits, encoded, bytesOf}

@@ -7,8 +7,8 @@ use mathlib.Core.List.{List, [], _∷_, _++_, append-nil}
 use native.Mathlib.Omega.{arith}
 use lib.Dec.{leb, ltb, eqb}
 use borrow.Author.Tests.{eqb-true, ltb-true, lt-leb, le-ltb}
-use Rattle.runs.specs.Every.{everyBelow}
-use Rattle.runs.proofs.Everywhere.{and-true, and-left, and-right, and-false-l, and-false-r, every-at, le-or-lt}
+use Rattle.buffers.specs.Every.{everyBelow}
+use Rattle.buffers.proofs.Every.{and-true, and-left, and-right, and-false-l, and-false-r, every-at, le-or-lt}
 use Rattle.utf8.specs.Table.{Bytes, bytes, within, rows, ofRow, ofSome, WellFormed, none, next}
 use Rattle.utf8.specs.Formed.{announced, second, asked, formed, wellFormed}
 

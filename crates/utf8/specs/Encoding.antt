@@ -2,7 +2,7 @@
 use Prim.Native.Nat.{ℕ}
 use mathlib.Core.Path.{_≡_}
 use lib.ListN.{length, replicate}
-use Rattle.runs.specs.Splice.{overlay}
+use Rattle.buffers.specs.Splice.{overlay}
 use Rattle.utf8.specs.Scalar.{bytesOf}
 use Rattle.utf8.specs.declared.Encoded.{Encoded}
 

@@ -6,8 +6,8 @@ use mathlib.Core.List.{List, _++_}
 use lib.Dec.{eqb}
 use lib.ListN.{length, getD, replicate}
 use borrow.Author.Tests.{eqb-true}
-use Rattle.runs.specs.Every.{everyBelow}
-use Rattle.runs.proofs.Everywhere.{every-at}
+use Rattle.buffers.specs.Every.{everyBelow}
+use Rattle.buffers.proofs.Every.{every-at}
 use Rattle.utf8.specs.Formed.{announced, wellFormed, boundary}
 
 -- document 01, Characters: a constant table of 256 entries

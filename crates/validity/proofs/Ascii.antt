@@ -8,12 +8,12 @@ use native.Mathlib.Omega.{arith}
 use lib.Dec.{ltb}
 use lib.ListN.{length, getD, take, drop, length-drop}
 use lib.Seq.{drop-drop, take-length}
-use Rattle.runs.specs.Every.{everyBelow}
-use Rattle.runs.specs.Splice.{part}
-use Rattle.runs.proofs.Everywhere.{le-or-lt, every-cons, every-at}
+use Rattle.buffers.specs.Every.{everyBelow}
+use Rattle.buffers.specs.Splice.{part}
+use Rattle.buffers.proofs.Every.{le-or-lt, every-cons, every-at}
 use Rattle.utf8.specs.Formed.{formed, wellFormed}
-use Rattle.windows.specs.Windows.{largest}
-use Rattle.windows.proofs.Bounds.{largest-parts}
+use Rattle.validity_blocks.specs.Windows.{largest}
+use Rattle.validity_blocks.proofs.Bounds.{largest-parts}
 use Rattle.validity.specs.Texts.{ascii}
 use Rattle.validity.proofs.FastForm.{announced-ascii, asked-none}
 

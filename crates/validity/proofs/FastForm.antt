@@ -9,12 +9,12 @@ use native.Mathlib.Nat.{suc-add}
 use native.Mathlib.Omega.{arith}
 use lib.Dec.{leb, ltb, eqb}
 use lib.ListN.{length, drop}
-use Rattle.runs.specs.Every.{everyBelow}
-use Rattle.runs.proofs.Everywhere.{and-right, and-cong, clash, true-or-false, le-or-lt, every-cons}
+use Rattle.buffers.specs.Every.{everyBelow}
+use Rattle.buffers.proofs.Every.{and-right, and-cong, clash, true-or-false, le-or-lt, every-cons}
 use Rattle.utf8.specs.Table.{Bytes, within, trail}
 use Rattle.utf8.specs.Formed.{announced, second, secondLow, secondHigh, asked, formed, wellFormed}
-use Rattle.windows.specs.Windows.{pending, never, faulty, calm}
-use Rattle.windows.proofs.Calmness.{second-plain, pending-1, pending-2, pending-3, pending-none}
+use Rattle.validity_blocks.specs.Windows.{pending, never, faulty, calm}
+use Rattle.validity_blocks.proofs.Calmness.{second-plain, pending-1, pending-2, pending-3, pending-none}
 use Rattle.validity.specs.Texts.{calmAt}
 
 or-right : (a b : Bool) → (a || b) ≡ false → b ≡ false

@@ -7,12 +7,12 @@ use native.Mathlib.Nat.{zero-add}
 use native.Mathlib.Omega.{arith}
 use lib.ListN.{length, getD, drop, length-take, length-drop, List·getD-eq-default}
 use lib.Seq.{getD-take, getD-drop}
-use Rattle.runs.specs.Every.{everyBelow}
-use Rattle.runs.specs.Splice.{part}
-use Rattle.runs.proofs.Everywhere.{every-suc, every-not, every-add, every-ext, and-true, and-false-l}
+use Rattle.buffers.specs.Every.{everyBelow}
+use Rattle.buffers.specs.Splice.{part}
+use Rattle.buffers.proofs.Every.{every-suc, every-not, every-add, every-ext, and-true, and-false-l}
 use Rattle.utf8.specs.Formed.{wellFormed}
-use Rattle.windows.specs.Windows.{faulty, calm, calmFirst}
-use Rattle.windows.proofs.Calmness.{calm-read}
+use Rattle.validity_blocks.specs.Windows.{faulty, calm, calmFirst}
+use Rattle.validity_blocks.proofs.Calmness.{calm-read}
 use Rattle.validity.specs.Texts.{paddedAt, calmAt, calmFrom}
 use Rattle.validity.proofs.FastForm.{formed-calm}
 

@@ -4,8 +4,8 @@ use mathlib.Core.Bool.{Bool}
 use mathlib.Core.List.{List, _∷_}
 use lib.Dec.{ltb}
 use lib.ListN.{length, getD, drop}
-use Rattle.runs.specs.Every.{everyBelow}
-use Rattle.windows.specs.Windows.{calm}
+use Rattle.buffers.specs.Every.{everyBelow}
+use Rattle.validity_blocks.specs.Windows.{calm}
 
 -- every byte is below 80
 unfoldable pub ascii : List ℕ → Bool

@@ -1,8 +1,8 @@
 // Whether a text is well-formed UTF-8, judged in blocks: each byte by itself and the three before it.
-use windows::blocks::block_formed;
-use windows::blocks::calm_four;
-use windows::extremes::largest;
-use windows::faults::faulty;
+use validity_blocks::blocks::block_formed;
+use validity_blocks::blocks::calm_four;
+use validity_blocks::extremes::largest;
+use validity_blocks::faults::faulty;
 ghost use mathlib.Core.Path.{_≡_};
 ghost use Prim.Native.Nat.{_+_, _-_, _≤_, _<_};
 ghost use lib.ListN.{length};

@@ -8,24 +8,24 @@ use Rattle.note.specs.declared.Verdict.{Verdict}
 use Rattle.note.specs.Refusals.{numberOf, answerOf, verdict}
 use Rattle.note.specs.Starting.{Started}
 use Rattle.note.specs.declared.CharIndex.{CharIndex}
-use Rattle.positions.specs.declared.CharOffsets.{CharOffsets}
-use Rattle.positions.specs.declared.CharOffsets.the-variants.{Chars, Refused}
-use Rattle.positions.specs.declared.letters.LetterCount.{LetterCount}
-use Rattle.positions.specs.declared.letters.LetterCount.the-variants.{Letters, Unread}
-use Rattle.positions.specs.Positions.{ConvertedAll}
+use Rattle.char_offsets.specs.declared.CharOffsets.{CharOffsets}
+use Rattle.char_offsets.specs.declared.CharOffsets.the-variants.{Chars, Refused}
+use Rattle.char_offsets.specs.declared.letters.LetterCount.{LetterCount}
+use Rattle.char_offsets.specs.declared.letters.LetterCount.the-variants.{Letters, Unread}
+use Rattle.char_offsets.specs.Positions.{ConvertedAll}
 use Rattle.note.specs.Notes.{Note}
 use Rattle.convert.specs.declared.Range.{Range}
 use Rattle.convert.specs.declared.Converted.{Converted}
 use Rattle.convert.specs.declared.Converted.the-variants.{Found, Refused as NotFound}
 use Rattle.convert.specs.Converting.{startOf, endOf}
-use Rattle.reading.specs.Reading.{partFaults}
-use Rattle.batch.specs.declared.OffsetReferential.{OffsetReferential}
-use Rattle.batch.specs.Ranges.{rangeOf, ConvertedAll as Batch}
+use Rattle.get_range.specs.Reading.{partFaults}
+use Rattle.convert_list.specs.declared.OffsetReferential.{OffsetReferential}
+use Rattle.convert_list.specs.Ranges.{rangeOf, ConvertedAll as Batch}
 use borrow.Author.Tests.{leb-true, not-false}
 use native.Mathlib.Omega.{arith}
 use lib.Dec.{leb}
 use lib.ListN.{length}
-use Rattle.runs.proofs.Everywhere.{and-left}
+use Rattle.buffers.proofs.Every.{and-left}
 use Rattle.note.specs.declared.Refusal.the-variants.{NoRoom}
 use Rattle.note.specs.declared.Verdict.the-variants.{Accepted, Refused as Rejected}
 use Rattle.note.proofs.Verdicts.{accepted-meets}
@@ -35,14 +35,14 @@ use Rattle.replace.specs.Writing.{sizes}
 use Rattle.replace.specs.Blanking.{taken}
 use Rattle.replace.proofs.Sizes.{length-laid}
 use mir.Val.{boolByte}
-use Rattle.alike.specs.declared.Comparison.{Comparison}
-use Rattle.alike.specs.declared.Comparison.the-variants.{Compared, Uncompared}
+use Rattle.indistinguishable.specs.declared.Comparison.{Comparison}
+use Rattle.indistinguishable.specs.declared.Comparison.the-variants.{Compared, Uncompared}
 use Rattle.find.specs.declared.Matches.{Matches}
 use Rattle.find.specs.declared.Matches.the-variants.{Written, Refused as Unlisted}
 use Rattle.find.specs.Matching.{Finding}
-use Rattle.redaction.specs.declared.Redaction.{Redaction}
-use Rattle.redaction.specs.declared.Redaction.the-variants.{Published, Refused as Unpublished}
-use Rattle.redaction.specs.Redacting.{Redacted}
+use Rattle.redact.specs.declared.Redaction.{Redaction}
+use Rattle.redact.specs.declared.Redaction.the-variants.{Published, Refused as Unpublished}
+use Rattle.redact.specs.Redacting.{Redacted}
 use Rattle.zulmyren.specs.declared.Offsets.{Offsets}
 use Rattle.zulmyren.specs.Calls.{countOf, charsOf, comparedOf, sideOf, offsetsOf, lengthIn, StartedCall, ConvertedCall, BatchCall, FindCall, ReplaceCall, listedOf, publishedOf, RedactCall}
 
@@ -86,32 +86,32 @@ pub batch-side : (n : Note) (side : OffsetReferential) (b : Bool) (from to n₀ 
 batch-side n side b from to n₀ s₀ e₀ v r n₁ s₁ e₁ p s e = batch-call n (sideOf b) from to n₀ s₀ e₀ v r n₁ s₁ e₁ (rw p at s) e
 
 -- what an accepted replacement measures is what it publishes
-published-size : (n : Note) (list filler out₀ starts₀ ends₀ out starts ends : List ℕ) (m : ℕ) → Replacing n list filler out₀ starts₀ ends₀ Accepted out starts ends → m ≡ min 65536 (sizes (length filler) (placesOf list)) → m ≡ length (replaced (placesOf list) filler n .text)
+published-size : (n : Note) (list content out₀ starts₀ ends₀ out starts ends : List ℕ) (m : ℕ) → Replacing n list content out₀ starts₀ ends₀ Accepted out starts ends → m ≡ min 65536 (sizes (length content) (placesOf list)) → m ≡ length (replaced (placesOf list) content n .text)
 unfolding replaced hasRoom
-published-size n list filler out₀ starts₀ ends₀ out starts ends m call e =
-    let long : length (laid (λ (end : ℕ). filler) (placesOf list) (n .normalized)) ≡ sizes (length filler) (placesOf list) =
-    length-laid (n .normalized) (n .normalized) (λ (end : ℕ). filler) (length filler) 0 (placesOf list) refl (λ end. refl) (taken call .covered) in
-    let room : hasRoom (replaced (placesOf list) filler n) (length out₀) (length starts₀) (length ends₀) ≡ true =
-    not-false _ (accepted-meets (replaceFaults n list filler (length out₀) (length starts₀) (length ends₀)) (sym (call .answer)) NoRoom) in
-    let t = length (laid (λ (end : ℕ). filler) (placesOf list) (n .normalized)) in
+published-size n list content out₀ starts₀ ends₀ out starts ends m call e =
+    let long : length (laid (λ (end : ℕ). content) (placesOf list) (n .normalized)) ≡ sizes (length content) (placesOf list) =
+    length-laid (n .normalized) (n .normalized) (λ (end : ℕ). content) (length content) 0 (placesOf list) refl (λ end. refl) (taken call .covered) in
+    let room : hasRoom (replaced (placesOf list) content n) (length out₀) (length starts₀) (length ends₀) ≡ true =
+    not-false _ (accepted-meets (replaceFaults n list content (length out₀) (length starts₀) (length ends₀)) (sym (call .answer)) NoRoom) in
+    let t = length (laid (λ (end : ℕ). content) (placesOf list) (n .normalized)) in
     let short : t ≤ 65535 = leb-true t 65535 (and-left (leb t 65535) _ (and-left (leb t 65535 && leb t (length out₀)) _ (and-left _ _ room))) in
     e ∙ omega arith
 
-pub replace-told : (n : Note) (list filler out₀ starts₀ ends₀ : List ℕ) (v : Verdict) (out starts ends : List ℕ) (m : ℕ) → Replacing n list filler out₀ starts₀ ends₀ v out starts ends → v ≡ Accepted → m ≡ min 65536 (sizes (length filler) (placesOf list)) → ReplaceCall n list filler out₀ starts₀ ends₀ (record { refusal = 0; count = m }) out starts ends
-replace-told n list filler out₀ starts₀ ends₀ v out starts ends m call a e =
-    let yes : Replacing n list filler out₀ starts₀ ends₀ Accepted out starts ends = rw a at call in
+pub replace-told : (n : Note) (list content out₀ starts₀ ends₀ : List ℕ) (v : Verdict) (out starts ends : List ℕ) (m : ℕ) → Replacing n list content out₀ starts₀ ends₀ v out starts ends → v ≡ Accepted → m ≡ min 65536 (sizes (length content) (placesOf list)) → ReplaceCall n list content out₀ starts₀ ends₀ (record { refusal = 0; count = m }) out starts ends
+replace-told n list content out₀ starts₀ ends₀ v out starts ends m call a e =
+    let yes : Replacing n list content out₀ starts₀ ends₀ Accepted out starts ends = rw a at call in
     record {
       number = ap answerOf (yes .answer);
-      size = published-size n list filler out₀ starts₀ ends₀ out starts ends m yes e ∙ ap (λ (w : Verdict). lengthIn w (length (replaced (placesOf list) filler n .text))) (yes .answer);
+      size = published-size n list content out₀ starts₀ ends₀ out starts ends m yes e ∙ ap (λ (w : Verdict). lengthIn w (length (replaced (placesOf list) content n .text))) (yes .answer);
       buffers = rw (yes .answer) at yes;
     }
 
-pub replace-refused : (n : Note) (list filler out₀ starts₀ ends₀ : List ℕ) (v : Verdict) (out starts ends : List ℕ) (k : Refusal) (r : ℕ) → Replacing n list filler out₀ starts₀ ends₀ v out starts ends → v ≡ Rejected k → r ≡ numberOf k → ReplaceCall n list filler out₀ starts₀ ends₀ (record { refusal = r; count = 0 }) out starts ends
-replace-refused n list filler out₀ starts₀ ends₀ v out starts ends k r call a e =
-    let no : Replacing n list filler out₀ starts₀ ends₀ (Rejected k) out starts ends = rw a at call in
+pub replace-refused : (n : Note) (list content out₀ starts₀ ends₀ : List ℕ) (v : Verdict) (out starts ends : List ℕ) (k : Refusal) (r : ℕ) → Replacing n list content out₀ starts₀ ends₀ v out starts ends → v ≡ Rejected k → r ≡ numberOf k → ReplaceCall n list content out₀ starts₀ ends₀ (record { refusal = r; count = 0 }) out starts ends
+replace-refused n list content out₀ starts₀ ends₀ v out starts ends k r call a e =
+    let no : Replacing n list content out₀ starts₀ ends₀ (Rejected k) out starts ends = rw a at call in
     record {
       number = e ∙ ap answerOf (no .answer);
-      size = ap (λ (w : Verdict). lengthIn w (length (replaced (placesOf list) filler n .text))) (no .answer);
+      size = ap (λ (w : Verdict). lengthIn w (length (replaced (placesOf list) content n .text))) (no .answer);
       buffers = rw (no .answer) at no;
     }
 
@@ -127,9 +127,9 @@ find-told text literal o₀ o₁ v n f l = record { numbers = sym (ap listedOf (
 pub find-refused : (text literal o₀ o₁ : List ℕ) (v : Matches) (k : Refusal) (r : ℕ) → Finding text literal o₀ v o₁ → v ≡ Unlisted k → r ≡ numberOf k → FindCall text literal o₀ (record { refusal = r; len = 0 }) o₁
 find-refused text literal o₀ o₁ v k r f l q = record { numbers = rw q (sym (ap listedOf (sym (f .answer) ∙ l))); list = f .list }
 
-module _ (text literal filler starts₀ ends₀ list₀ out₀ outStarts₀ outEnds₀ : List ℕ) (v : Redaction) (starts ends list out outStarts outEnds : List ℕ) (call : Redacted text literal filler starts₀ ends₀ list₀ out₀ outStarts₀ outEnds₀ v starts ends list out outStarts outEnds) where
-  pub redact-told : (n : ℕ) → v ≡ Published n → RedactCall text literal filler starts₀ ends₀ list₀ out₀ outStarts₀ outEnds₀ (record { refusal = 0; count = n }) starts ends list out outStarts outEnds
+module _ (text literal content starts₀ ends₀ list₀ out₀ outStarts₀ outEnds₀ : List ℕ) (v : Redaction) (starts ends list out outStarts outEnds : List ℕ) (call : Redacted text literal content starts₀ ends₀ list₀ out₀ outStarts₀ outEnds₀ v starts ends list out outStarts outEnds) where
+  pub redact-told : (n : ℕ) → v ≡ Published n → RedactCall text literal content starts₀ ends₀ list₀ out₀ outStarts₀ outEnds₀ (record { refusal = 0; count = n }) starts ends list out outStarts outEnds
   redact-told n is = record { answer = v; numbers = sym (ap publishedOf is); buffers = call }
 
-  pub redact-refused : (k : Refusal) (r : ℕ) → v ≡ Unpublished k → r ≡ numberOf k → RedactCall text literal filler starts₀ ends₀ list₀ out₀ outStarts₀ outEnds₀ (record { refusal = r; count = 0 }) starts ends list out outStarts outEnds
+  pub redact-refused : (k : Refusal) (r : ℕ) → v ≡ Unpublished k → r ≡ numberOf k → RedactCall text literal content starts₀ ends₀ list₀ out₀ outStarts₀ outEnds₀ (record { refusal = r; count = 0 }) starts ends list out outStarts outEnds
   redact-refused k r is e = record { answer = v; numbers = rw e (sym (ap publishedOf is)); buffers = call }

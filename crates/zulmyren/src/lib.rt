@@ -1,24 +1,25 @@
 // The exported calls, for C and Rust: include/zulmyren.h says what each means. Nothing else is exported.
-use alike::Comparison;
-use batch::OffsetReferential;
-use batch::range_of;
+use buffers::Offset;
+use indistinguishable::Comparison;
+use convert_list::OffsetReferential;
+use convert_list::range_of;
 use convert::Converted;
 use find::Matches;
 use note::OriginalByte;
 use note::Verdict;
-use positions::CharOffsets;
-use positions::letters::LetterCount;
-use redaction::Redaction;
+use char_offsets::CharOffsets;
+use char_offsets::letters::LetterCount;
+use redact::Redaction;
 ghost use mathlib.Core.Path.{_≡_};
 ghost use Rattle.utf8.specs.Formed.{wellFormed};
 ghost use Rattle.note.specs.Notes.{noteFaults};
 ghost use Rattle.note.specs.Refusals.{answerOf, verdict};
-ghost use Rattle.positions.specs.Counting.{letterCount};
-ghost use Rattle.positions.specs.Positions.{converted};
+ghost use Rattle.char_offsets.specs.Counting.{letterCount};
+ghost use Rattle.char_offsets.specs.Positions.{converted};
 ghost use Rattle.convert.specs.Converting.{convertOffsets};
-ghost use Rattle.reading.specs.Reading.{getRange, getRangeOriginal, partFaults};
-ghost use Rattle.alike.specs.Alike.{says};
-ghost use Rattle.batch.specs.Ranges.{rangeOf};
+ghost use Rattle.get_range.specs.Reading.{getRange, getRangeOriginal, partFaults};
+ghost use Rattle.indistinguishable.specs.Alike.{says};
+ghost use Rattle.convert_list.specs.Ranges.{rangeOf};
 ghost use Rattle.zulmyren.specs.Calls.{countOf, charsOf, comparedOf, sideOf, offsetsOf, BatchCall, ConvertedCall, FindCall, RedactCall, ReplaceCall, StartedCall};
 
 #[no_mangle]
@@ -32,8 +33,8 @@ pub extern "C" fn zulmyren_well_formed(text: &[u8]) -> bool
 pub extern "C" fn zulmyren_check_note(
     original: &[u8],
     normalized: &[u8],
-    starts: &[u16],
-    ends: &[u16],
+    starts: &[Offset],
+    ends: &[Offset],
     original_shift: u32,
 ) -> u32
     ensures { λ r. ⌜ r ≡ answerOf (verdict (noteFaults (record { original = now (original .entry); normalized = now (normalized .entry); starts = now (starts .entry); ends = now (ends .entry); original-shift = «original_shift» }))) ⌝ }
@@ -42,10 +43,10 @@ pub extern "C" fn zulmyren_check_note(
 }
 
 #[no_mangle]
-pub extern "C" fn zulmyren_from_text(text: &[u8], starts: &mut [u16], ends: &mut [u16]) -> u32
+pub extern "C" fn zulmyren_from_text(text: &[u8], starts: &mut [Offset], ends: &mut [Offset]) -> u32
     ensures { λ r. ⌜ StartedCall (now (text .entry)) (now (starts .entry)) (now (ends .entry)) r (now (starts .exit)) (now (ends .exit)) ⌝ }
 {
-    note::answer(starting::from_text(text, starts, ends))
+    note::answer(from_text::from_text(text, starts, ends))
 }
 
 // The answer of a count: the refusal's number, or 0 and the count.
@@ -59,7 +60,7 @@ pub struct Count {
 pub extern "C" fn zulmyren_letter_count(text: &[u8], start: u32, end: u32) -> Count
     ensures { λ r. ⌜ r ≡ countOf (letterCount (now (text .entry)) start end) ⌝ }
 {
-    match positions::letters::letter_count(text, start, end) {
+    match char_offsets::letters::letter_count(text, start, end) {
         LetterCount::Letters(count) => Count { refusal: 0, count },
         LetterCount::Unread(k) => Count {
             refusal: note::number(k),
@@ -80,7 +81,7 @@ pub struct Offsets {
 pub extern "C" fn zulmyren_char_offsets(text: &[u8], start: u32, end: u32) -> Offsets
     ensures { λ r. ⌜ r ≡ charsOf (converted (now (text .entry)) start end) ⌝ }
 {
-    match positions::convert(text, OriginalByte(start), OriginalByte(end)) {
+    match char_offsets::convert(text, OriginalByte(start), OriginalByte(end)) {
         CharOffsets::Chars(first, last) => Offsets {
             refusal: 0,
             start: first.0,
@@ -105,7 +106,7 @@ pub extern "C" fn zulmyren_char_offsets_all(
 ) -> u32
     ensures { λ r. ⌜ ConvertedCall (now (text .entry)) (now (starts .entry)) (now (ends .entry)) (now (numbers .entry)) (now («char_starts» .entry)) (now («char_ends» .entry)) r (now (numbers .exit)) (now («char_starts» .exit)) (now («char_ends» .exit)) ⌝ }
 {
-    note::answer(positions::convert_all(text, starts, ends, numbers, char_starts, char_ends))
+    note::answer(char_offsets::convert_all(text, starts, ends, numbers, char_starts, char_ends))
 }
 
 // The text that a range is in.
@@ -139,8 +140,8 @@ fn in_numbers(answer: Converted) -> Offsets
 pub extern "C" fn zulmyren_convert_offsets(
     original: &[u8],
     normalized: &[u8],
-    starts: &[u16],
-    ends: &[u16],
+    starts: &[Offset],
+    ends: &[Offset],
     original_shift: u32,
     of_original: bool,
     start: u32,
@@ -156,8 +157,8 @@ pub extern "C" fn zulmyren_convert_offsets(
 pub extern "C" fn zulmyren_get_range(
     original: &[u8],
     normalized: &[u8],
-    starts: &[u16],
-    ends: &[u16],
+    starts: &[Offset],
+    ends: &[Offset],
     original_shift: u32,
     of_original: bool,
     start: u32,
@@ -166,15 +167,15 @@ pub extern "C" fn zulmyren_get_range(
     ensures { λ r. ⌜ r ≡ offsetsOf (getRange (record { original = now (original .entry); normalized = now (normalized .entry); starts = now (starts .entry); ends = now (ends .entry); original-shift = «original_shift» }) (rangeOf (sideOf «of_original») start end)) ⌝ }
 {
     let range = range_of(side_of(of_original), start, end);
-    in_numbers(reading::get_range(original, normalized, starts, ends, original_shift, range))
+    in_numbers(get_range::get_range(original, normalized, starts, ends, original_shift, range))
 }
 
 #[no_mangle]
 pub extern "C" fn zulmyren_get_range_original(
     original: &[u8],
     normalized: &[u8],
-    starts: &[u16],
-    ends: &[u16],
+    starts: &[Offset],
+    ends: &[Offset],
     original_shift: u32,
     of_original: bool,
     start: u32,
@@ -183,7 +184,7 @@ pub extern "C" fn zulmyren_get_range_original(
     ensures { λ r. ⌜ r ≡ offsetsOf (getRangeOriginal (record { original = now (original .entry); normalized = now (normalized .entry); starts = now (starts .entry); ends = now (ends .entry); original-shift = «original_shift» }) (rangeOf (sideOf «of_original») start end)) ⌝ }
 {
     let range = range_of(side_of(of_original), start, end);
-    in_numbers(reading::get_range_original(
+    in_numbers(get_range::get_range_original(
         original,
         normalized,
         starts,
@@ -204,15 +205,15 @@ pub extern "C" fn zulmyren_part_verdict(
     ensures { λ r. ⌜ r ≡ answerOf (verdict (partFaults (now (original .entry)) (now (normalized .entry)) (rangeOf (sideOf «of_original») start end))) ⌝ }
 {
     let range = range_of(side_of(of_original), start, end);
-    note::answer(reading::part_verdict(original, normalized, range))
+    note::answer(get_range::part_verdict(original, normalized, range))
 }
 
 #[no_mangle]
 pub extern "C" fn zulmyren_convert_all(
     original: &[u8],
     normalized: &[u8],
-    starts: &[u16],
-    ends: &[u16],
+    starts: &[Offset],
+    ends: &[Offset],
     original_shift: u32,
     of_original: bool,
     from: &[u32],
@@ -224,7 +225,7 @@ pub extern "C" fn zulmyren_convert_all(
     ensures { λ r. ⌜ BatchCall (record { original = now (original .entry); normalized = now (normalized .entry); starts = now (starts .entry); ends = now (ends .entry); original-shift = «original_shift» }) (sideOf «of_original») (now (from .entry)) (now (to .entry)) (now (numbers .entry)) (now («out_starts» .entry)) (now («out_ends» .entry)) r (now (numbers .exit)) (now («out_starts» .exit)) (now («out_ends» .exit)) ⌝ }
 {
     let side = side_of(of_original);
-    note::answer(batch::convert_all(
+    note::answer(convert_list::convert_all(
         original,
         normalized,
         starts,
@@ -243,16 +244,16 @@ pub extern "C" fn zulmyren_convert_all(
 pub extern "C" fn zulmyren_replace(
     original: &[u8],
     normalized: &[u8],
-    starts: &[u16],
-    ends: &[u16],
+    starts: &[Offset],
+    ends: &[Offset],
     original_shift: u32,
     list: &[u8],
-    filler: &[u8],
+    content: &[u8],
     out: &mut [u8],
-    out_starts: &mut [u16],
-    out_ends: &mut [u16],
+    out_starts: &mut [Offset],
+    out_ends: &mut [Offset],
 ) -> Count
-    ensures { λ r. ⌜ ReplaceCall (record { original = now (original .entry); normalized = now (normalized .entry); starts = now (starts .entry); ends = now (ends .entry); original-shift = «original_shift» }) (now (list .entry)) (now (filler .entry)) (now (out .entry)) (now («out_starts» .entry)) (now («out_ends» .entry)) r (now (out .exit)) (now («out_starts» .exit)) (now («out_ends» .exit)) ⌝ }
+    ensures { λ r. ⌜ ReplaceCall (record { original = now (original .entry); normalized = now (normalized .entry); starts = now (starts .entry); ends = now (ends .entry); original-shift = «original_shift» }) (now (list .entry)) (now (content .entry)) (now (out .entry)) (now («out_starts» .entry)) (now («out_ends» .entry)) r (now (out .exit)) (now («out_starts» .exit)) (now («out_ends» .exit)) ⌝ }
 {
     match replace::replace(
         original,
@@ -261,14 +262,14 @@ pub extern "C" fn zulmyren_replace(
         ends,
         original_shift,
         list,
-        filler,
+        content,
         out,
         out_starts,
         out_ends,
     ) {
         Verdict::Accepted => Count {
             refusal: 0,
-            count: replace::measure(list, filler.len()) as u32,
+            count: replace::measure(list, content.len()) as u32,
         },
         Verdict::Refused(k) => Count {
             refusal: note::number(k),
@@ -281,20 +282,20 @@ pub extern "C" fn zulmyren_replace(
 pub extern "C" fn zulmyren_published_alike(
     original: &[u8],
     normalized: &[u8],
-    starts: &[u16],
-    ends: &[u16],
+    starts: &[Offset],
+    ends: &[Offset],
     original_shift: u32,
     other_original: &[u8],
     other: &[u8],
-    other_starts: &[u16],
-    other_ends: &[u16],
+    other_starts: &[Offset],
+    other_ends: &[Offset],
     other_shift: u32,
     list: &[u8],
-    filler: &[u8],
+    content: &[u8],
 ) -> Count
-    ensures { λ r. ⌜ r ≡ comparedOf (says (record { original = now (original .entry); normalized = now (normalized .entry); starts = now (starts .entry); ends = now (ends .entry); original-shift = «original_shift» }) (record { original = now («other_original» .entry); normalized = now (other .entry); starts = now («other_starts» .entry); ends = now («other_ends» .entry); original-shift = «other_shift» }) (now (list .entry)) (now (filler .entry))) ⌝ }
+    ensures { λ r. ⌜ r ≡ comparedOf (says (record { original = now (original .entry); normalized = now (normalized .entry); starts = now (starts .entry); ends = now (ends .entry); original-shift = «original_shift» }) (record { original = now («other_original» .entry); normalized = now (other .entry); starts = now («other_starts» .entry); ends = now («other_ends» .entry); original-shift = «other_shift» }) (now (list .entry)) (now (content .entry))) ⌝ }
 {
-    match alike::published_alike(
+    match indistinguishable::published_alike(
         original,
         normalized,
         starts,
@@ -306,7 +307,7 @@ pub extern "C" fn zulmyren_published_alike(
         other_ends,
         other_shift,
         list,
-        filler,
+        content,
     ) {
         Comparison::Compared(same) => Count {
             refusal: 0,
@@ -343,20 +344,20 @@ pub extern "C" fn zulmyren_find_matches(text: &[u8], literal: &[u8], out: &mut [
 pub extern "C" fn zulmyren_redact(
     text: &[u8],
     literal: &[u8],
-    filler: &[u8],
-    starts: &mut [u16],
-    ends: &mut [u16],
+    content: &[u8],
+    starts: &mut [Offset],
+    ends: &mut [Offset],
     list: &mut [u8],
     out: &mut [u8],
-    out_starts: &mut [u16],
-    out_ends: &mut [u16],
+    out_starts: &mut [Offset],
+    out_ends: &mut [Offset],
 ) -> Count
-    ensures { λ r. ⌜ RedactCall (now (text .entry)) (now (literal .entry)) (now (filler .entry)) (now (starts .entry)) (now (ends .entry)) (now (list .entry)) (now (out .entry)) (now («out_starts» .entry)) (now («out_ends» .entry)) r (now (starts .exit)) (now (ends .exit)) (now (list .exit)) (now (out .exit)) (now («out_starts» .exit)) (now («out_ends» .exit)) ⌝ }
+    ensures { λ r. ⌜ RedactCall (now (text .entry)) (now (literal .entry)) (now (content .entry)) (now (starts .entry)) (now (ends .entry)) (now (list .entry)) (now (out .entry)) (now («out_starts» .entry)) (now («out_ends» .entry)) r (now (starts .exit)) (now (ends .exit)) (now (list .exit)) (now (out .exit)) (now («out_starts» .exit)) (now («out_ends» .exit)) ⌝ }
 {
-    match redaction::redact(
+    match redact::redact(
         text,
         literal,
-        filler,
+        content,
         starts,
         ends,
         list,

@@ -1,8 +1,8 @@
 -- Each way out is the first condition met.
 use mathlib.Core.Path.{sym, _∙_}
 use borrow.Author.Tests.{not-true, not-false}
-use Rattle.runs.proofs.Everywhere.{and-right}
-use Rattle.runs.proofs.Sameness.{same-equal}
+use Rattle.buffers.proofs.Every.{and-right}
+use Rattle.buffers.proofs.Same.{same-equal}
 use Rattle.utf8.specs.Formed.{wellFormed}
 use Rattle.note.proofs.Checking.{too-long, unpaired, ill-formed, misaligned, accepted, fits-not-1, fits-not-2, fits-not-3, fits-so, paired-not-1, paired-not-2, paired-so, torn-so, torn-texts, torn-not, aligned-shift}
 use borrow.Author.Needs.{needs}
@@ -30,11 +30,11 @@ returns-5 c = unpaired _ _ (fits-so _ _ _ _ _ (c .before .before .before .before
 returns-6 : tie.Need-returns-6
 returns-6 c = ill-formed _ _ (fits-so _ _ _ _ _ (c .before .before .before .before .before .if1 .left) (c .before .before .before .before .if2 .left) (c .before .before .before .if3 .left)) (paired-so _ _ _ _ _ (c .before .before .if4 .left) (c .before .if5 .left)) (torn-so _ _ _ _ _ _ (c .if6 .taken))
 
-same8-requires : tie.Need-same8-requires
-same8-requires c κs = search needs
+same-bytes-requires : tie.Need-same-bytes-requires
+same-bytes-requires c κs = search needs
 
 texts-formed-requires : tie.Need-texts-formed-requires
-texts-formed-requires c κs = λ t. same-equal _ _ (sym (c .same8 .ensures) ∙ t)
+texts-formed-requires c κs = λ t. same-equal _ _ (sym (c .same-bytes .ensures) ∙ t)
 
 returns-7 : tie.Need-returns-7
 returns-7 c = ill-formed _ _ (fits-so _ _ _ _ _ (c .before .before .before .before .before .before .before .before .if1 .left) (c .before .before .before .before .before .before .before .if2 .left) (c .before .before .before .before .before .before .if3 .left)) (paired-so _ _ _ _ _ (c .before .before .before .before .before .if4 .left) (c .before .before .before .before .if5 .left)) (torn-texts _ _ _ _ _ _ (sym (c .before .texts-formed .ensures) ∙ not-true _ (c .if7 .taken)))
@@ -47,7 +47,7 @@ aligned-requires c κs =
       starts-paired = c .before .before .before .before .before .if4 .left;
       ends-paired = c .before .before .before .before .if5 .left;
       formed = and-right (wellFormed (c .before .before .before .before .before .before .before .before .before .before .before .before .before .args .original .now)) _ (sym (c .before .texts-formed .ensures) ∙ not-false _ (c .if7 .left));
-      alike = λ t. same-equal _ _ (sym (c .before .before .same8 .ensures) ∙ t);
+      alike = λ t. same-equal _ _ (sym (c .before .before .same-bytes .ensures) ∙ t);
     }
 
 returns-8 : tie.Need-returns-8
@@ -67,7 +67,7 @@ check-beside-spec =
     returns-4
     returns-5
     returns-6
-    same8-requires
+    same-bytes-requires
     texts-formed-requires
     returns-7
     aligned-requires

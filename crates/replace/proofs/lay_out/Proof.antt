@@ -8,10 +8,10 @@ use Rattle.replace.proofs.lay_out.Statement.{statement}
 use Rattle.replace.proofs.lay_out.Tie as tie
 
 abbrev Inv-loop : tie.InvT-loop
-Inv-loop normalized starts ends list filler out₀ out-starts₀ out-ends₀ at₀ i₀ out out-starts out-ends at i = Going normalized starts ends list filler out₀ out-starts₀ out-ends₀ at i out out-starts out-ends
+Inv-loop normalized starts ends list content out₀ out-starts₀ out-ends₀ at₀ i₀ out out-starts out-ends at i = Going normalized starts ends list content out₀ out-starts₀ out-ends₀ at i out out-starts out-ends
 
 abbrev μ-loop : tie.MeasureT-loop
-μ-loop normalized starts ends list filler out₀ out-starts₀ out-ends₀ at₀ i₀ out out-starts out-ends at i = length list - i
+μ-loop normalized starts ends list content out₀ out-starts₀ out-ends₀ at₀ i₀ out out-starts out-ends at i = length list - i
 
 loop-holds : tie.Need-loop-holds Inv-loop μ-loop
 loop-holds c = none-going _ _ _ _ _ _ _ _ (c .before .before .before .before .before .before .before .before .pre)

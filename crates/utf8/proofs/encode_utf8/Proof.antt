@@ -5,7 +5,7 @@ use Prim.Native.Nat.{ℕ}
 use native.Mathlib.Omega.{arith}
 use lib.ListN.{length, replicate}
 use borrow.Author.Tests.{not-true, not-false}
-use Rattle.runs.specs.Splice.{overlay}
+use Rattle.buffers.specs.Splice.{overlay}
 use Rattle.utf8.specs.Scalar.{bytesOf}
 use Rattle.utf8.specs.declared.Encoded.{Encoded}
 use Rattle.utf8.specs.Encoding.{EncodedAs}

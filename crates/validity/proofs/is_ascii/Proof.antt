@@ -3,7 +3,7 @@ use Prim.Native.Nat.{_≤_, _-_}
 use mathlib.Core.Path.{_≡_, sym}
 use lib.Dec.{ltb}
 use lib.ListN.{length, drop}
-use Rattle.windows.specs.Windows.{largest}
+use Rattle.validity_blocks.specs.Windows.{largest}
 use Rattle.validity.specs.Texts.{ascii}
 use Rattle.validity.proofs.Ascii.{largest-ascii, ascii-more, ascii-fault, ascii-done}
 use native.Mathlib.Omega.{arith}

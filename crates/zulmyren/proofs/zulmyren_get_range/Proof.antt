@@ -1,5 +1,5 @@
 -- The call's answer, in numbers.
-use Rattle.reading.specs.Reading.{getRange}
+use Rattle.get_range.specs.Reading.{getRange}
 use Rattle.zulmyren.proofs.Numbers.{range-call}
 use borrow.Author.Needs.{needs}
 use Rattle.zulmyren.proofs.zulmyren_get_range.Statement.{statement}

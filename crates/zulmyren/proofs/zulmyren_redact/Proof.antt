@@ -1,6 +1,6 @@
 -- The verdict's number, the published size, and the buffers of the call.
 use native.Mathlib.Omega.{arith}
-use Rattle.redaction.specs.Publishing.{published-short}
+use Rattle.redact.specs.Publishing.{published-short}
 use Rattle.zulmyren.proofs.Numbers.{redact-told, redact-refused}
 use borrow.Author.Needs.{needs}
 use Rattle.zulmyren.proofs.zulmyren_redact.Statement.{statement}

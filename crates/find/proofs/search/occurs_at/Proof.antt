@@ -15,24 +15,24 @@ shared-slice-read-if1-2 c = search needs
 returns : tie.Need-returns
 returns c = occurs-not _ _ _ (omega arith) (c .if1 .taken)
 
-add-same8 : tie.Need-add-same8
-add-same8 c = search needs
+add-same-bytes : tie.Need-add-same-bytes
+add-same-bytes c = search needs
 
-sub-same8 : tie.Need-sub-same8
-sub-same8 c = search needs
+sub-same-bytes : tie.Need-sub-same-bytes
+sub-same-bytes c = search needs
 
-part-same8-start : tie.Need-part-same8-start
-part-same8-start c = search needs
+part-same-bytes-start : tie.Need-part-same-bytes-start
+part-same-bytes-start c = search needs
 
-part-same8-end : tie.Need-part-same8-end
-part-same8-end c = search needs
+part-same-bytes-end : tie.Need-part-same-bytes-end
+part-same-bytes-end c = search needs
 
-same8-requires : tie.Need-same8-requires
-same8-requires c κs = search needs
+same-bytes-requires : tie.Need-same-bytes-requires
+same-bytes-requires c κs = search needs
 
 returns-2 : tie.Need-returns-2
 unfolding occursAt
-returns-2 c = c .same8 .ensures
+returns-2 c = c .same-bytes .ensures
 
 pub occurs-at-spec : {M : Type 1} → statement M
 occurs-at-spec =
@@ -41,9 +41,9 @@ occurs-at-spec =
     shared-slice-read-if1
     shared-slice-read-if1-2
     returns
-    add-same8
-    sub-same8
-    part-same8-start
-    part-same8-end
-    same8-requires
+    add-same-bytes
+    sub-same-bytes
+    part-same-bytes-start
+    part-same-bytes-end
+    same-bytes-requires
     returns-2)

@@ -1,0 +1,6 @@
+-- Laws that belong to no one function.
+pub mod Written
+pub mod Every
+pub mod Laying
+pub mod Columns
+pub mod Same

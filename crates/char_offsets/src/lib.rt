@@ -1,0 +1,165 @@
+// Character positions (document 01; Rust: `BytesToCharOffsetConverter::convert`): which character a byte of a text belongs to.
+// A walk over the text, no table: from a byte whose character is known, the bytes between that begin a character are counted.
+pub mod letters;
+
+use note::CharIndex;
+use note::LIMIT;
+use note::OriginalByte;
+use note::Refusal;
+use note::Verdict;
+use utf8::count::count_leads;
+use validity::well_formed;
+ghost use mathlib.Core.Path.{_≡_};
+ghost use Prim.Native.Nat.{_<_};
+ghost use lib.ListN.{length};
+ghost use Rattle.char_offsets.specs.Positions.{ConvertedAll, Known, Pairs, Room, Stepped, indexOf, converted};
+
+// What converting a pair answers.
+pub enum CharOffsets {
+    Chars(CharIndex, CharIndex),
+    Refused(Refusal),
+}
+
+// The index of the character of the byte `to`, from that of the byte `at`, wherever the two stand.
+fn index_from(text: &[u8], at: usize, index: u32, to: usize) -> u32
+    requires { ⌜ Known (now text) at index ⌝ }
+    requires { ⌜ to < length (now text) ⌝ }
+    ensures { λ r. ⌜ r ≡ indexOf (now (text .entry)) to ⌝ }
+{
+    if at <= to {
+        return index + count_leads(&text[at + 1..to + 1]) as u32;
+    }
+    index - count_leads(&text[to + 1..at + 1]) as u32
+}
+
+// One pair's answer in numbers, and a byte whose character is known: where the next pair starts from.
+pub struct Step {
+    pub number: u8,
+    pub start: u32,
+    pub end: u32,
+    pub at: usize,
+    pub index: u32,
+}
+
+// One pair of a well-formed text, from a byte whose character is known.
+fn convert_from(text: &[u8], at: usize, index: u32, start: u32, end: u32) -> Step
+    requires { ⌜ Known (now text) at index ⌝ }
+    ensures { λ r. ⌜ Stepped (now (text .entry)) start end r ⌝ }
+{
+    let from = start as usize;
+    let to = end as usize;
+    if text.len() <= from {
+        return Step {
+            number: 10,
+            start: 0,
+            end: 0,
+            at,
+            index,
+        };
+    }
+    let first = index_from(text, at, index, from);
+    if to < text.len() {
+        let last = index_from(text, from, first, to);
+        return Step {
+            number: 0,
+            start: first,
+            end: last,
+            at: to,
+            index: last,
+        };
+    }
+    if to == text.len() {
+        let last = index_from(text, from, first, to - 1);
+        return Step {
+            number: 0,
+            start: first,
+            end: last + 1,
+            at: to - 1,
+            index: last,
+        };
+    }
+    Step {
+        number: 0,
+        start: first,
+        end: first + 2,
+        at: from,
+        index: first,
+    }
+}
+
+// The answers of a list of pairs, in three columns. An inner call: text, pairs and room were judged before.
+fn write_pairs(
+    text: &[u8],
+    starts: &[u32],
+    ends: &[u32],
+    numbers: &mut [u8],
+    char_starts: &mut [u32],
+    char_ends: &mut [u32],
+)
+    requires { ⌜ Room (now text) (now starts) (now ends) (now numbers) (now «char_starts») (now «char_ends») ⌝ }
+    ensures { λ _. ⌜ Pairs (now (text .entry)) (now (starts .entry)) (now (ends .entry)) (now (numbers .entry)) (now («char_starts» .entry)) (now («char_ends» .entry)) (now (numbers .exit)) (now («char_starts» .exit)) (now («char_ends» .exit)) ⌝ }
+{
+    let mut at = 0;
+    let mut index: u32 = 0;
+    let mut i = 0;
+    while i < starts.len() {
+        let step = convert_from(text, at, index, starts[i], ends[i]);
+        numbers[i] = step.number;
+        char_starts[i] = step.start;
+        char_ends[i] = step.end;
+        at = step.at;
+        index = step.index;
+        i += 1;
+    }
+}
+
+// A pair of bytes of the text as a pair of its characters. Refusals, in this order: 2, 1, 10.
+pub fn convert(text: &[u8], start: OriginalByte, end: OriginalByte) -> CharOffsets
+    ensures { λ r. ⌜ r ≡ converted (now (text .entry)) (start .0) (end .0) ⌝ }
+{
+    if LIMIT < text.len() {
+        return CharOffsets::Refused(Refusal::TooLong);
+    }
+    if !well_formed(text) {
+        return CharOffsets::Refused(Refusal::IllFormed);
+    }
+    if text.len() <= start.0 as usize {
+        return CharOffsets::Refused(Refusal::Missing);
+    }
+    let step = convert_from(text, 0, 0, start.0, end.0);
+    CharOffsets::Chars(CharIndex(step.start), CharIndex(step.end))
+}
+
+// A list of pairs, in one pass where they are in order: for each 0 and its two characters, or 10 beside 0 and 0.
+// Refusals, in this order: 2, 3 (starts and ends of the pairs differ in number), 1, 9.
+pub fn convert_all(
+    text: &[u8],
+    starts: &[u32],
+    ends: &[u32],
+    numbers: &mut [u8],
+    char_starts: &mut [u32],
+    char_ends: &mut [u32],
+) -> Verdict
+    ensures { λ r. ⌜ ConvertedAll (now (text .entry)) (now (starts .entry)) (now (ends .entry)) (now (numbers .entry)) (now («char_starts» .entry)) (now («char_ends» .entry)) r (now (numbers .exit)) (now («char_starts» .exit)) (now («char_ends» .exit)) ⌝ }
+{
+    if LIMIT < text.len() {
+        return Verdict::Refused(Refusal::TooLong);
+    }
+    if starts.len() != ends.len() {
+        return Verdict::Refused(Refusal::LengthMismatch);
+    }
+    if !well_formed(text) {
+        return Verdict::Refused(Refusal::IllFormed);
+    }
+    if numbers.len() < starts.len() {
+        return Verdict::Refused(Refusal::NoRoom);
+    }
+    if char_starts.len() < starts.len() {
+        return Verdict::Refused(Refusal::NoRoom);
+    }
+    if char_ends.len() < starts.len() {
+        return Verdict::Refused(Refusal::NoRoom);
+    }
+    write_pairs(text, starts, ends, numbers, char_starts, char_ends);
+    Verdict::Accepted
+}

@@ -1,0 +1,18 @@
+-- What reading a note answers: no more bytes than the buffer has.
+use Prim.Native.Nat.{ℕ, _≤_}
+use mathlib.Core.Path.{_≡_}
+use mathlib.Core.List.{List}
+use lib.ListN.{length}
+use Rattle.redact_main.specs.declared.input.Input.{Input}
+use Rattle.redact_main.specs.declared.input.Input.the-variants.{Bytes, Unread}
+
+abbrev pub Counted : Input → List ℕ → Type 0
+Counted (Bytes n) buf = n ≤ length buf
+Counted Unread buf = Unit {0}
+
+pub record Within (r : Input) (before after : List ℕ) : Type 0 where
+  pub counted : Counted r after
+  pub same : length after ≡ length before
+
+pub bytes-within : (r : Input) (before after : List ℕ) (n : ℕ) → Within r before after → r ≡ Bytes n → n ≤ length after
+bytes-within r before after n w is = let v : Within (Bytes n) before after = rw is at w in v .counted

@@ -1,0 +1,76 @@
+-- `bad` says whether one of the windows so far has a fault.
+use Prim.Native.Nat.{_-_}
+use lib.ListN.{length}
+use Rattle.validity_blocks.proofs.Tiers.{Judged, judged-none, judged-more, judged-done, read-two, part-below}
+use native.Mathlib.Omega.{arith}
+use Rattle.validity_blocks.proofs.blocks.calm_two.Statement.{statement}
+use Rattle.validity_blocks.proofs.blocks.calm_two.Tie as tie
+
+abbrev Inv-loop : tie.InvT-loop
+Inv-loop w w1 w0 bad₀ j₀ bad j = Judged w bad j
+
+abbrev μ-loop : tie.MeasureT-loop
+μ-loop w w1 w0 bad₀ j₀ bad j = length w - j
+
+sub-w1 : tie.Need-sub-w1 Inv-loop μ-loop
+sub-w1 c = omega arith
+
+part-w1-start : tie.Need-part-w1-start Inv-loop μ-loop
+part-w1-start c = omega arith
+
+part-w1-end : tie.Need-part-w1-end Inv-loop μ-loop
+part-w1-end c = omega arith
+
+sub-w0 : tie.Need-sub-w0 Inv-loop μ-loop
+sub-w0 c = omega arith
+
+part-w0-start : tie.Need-part-w0-start Inv-loop μ-loop
+part-w0-start c = omega arith
+
+part-w0-end : tie.Need-part-w0-end Inv-loop μ-loop
+part-w0-end c = omega arith
+
+loop-holds : tie.Need-loop-holds Inv-loop μ-loop
+loop-holds c = judged-none _
+
+shared-slice-read-faulty-two : tie.Need-shared-slice-read-faulty-two Inv-loop μ-loop
+shared-slice-read-faulty-two c = omega arith
+
+shared-slice-read-faulty-two-2 : tie.Need-shared-slice-read-faulty-two-2 Inv-loop μ-loop
+shared-slice-read-faulty-two-2 c = omega arith
+
+faulty-two-requires : tie.Need-faulty-two-requires Inv-loop μ-loop
+faulty-two-requires c κs = (part-below _ 2 _ 0xE0 (c .before .before .before .before .before .before .before .pre .1), part-below _ 3 _ 0xE0 (c .before .before .before .before .before .before .before .pre .1))
+
+add-j : tie.Need-add-j Inv-loop μ-loop
+add-j c = omega arith
+
+loop-less : tie.Need-loop-less Inv-loop μ-loop
+loop-less c = omega arith
+
+loop-again : tie.Need-loop-again Inv-loop μ-loop
+loop-again c = judged-more _ _ _ _ (c .before .before .before .before .loop .inv) (c .before .before .before .loop-test .taken) (read-two _ _ _ (c .before .before .before .before .before .before .before .before .pre .1) (c .faulty-two .ensures))
+
+returns : tie.Need-returns Inv-loop μ-loop
+returns c = judged-done _ _ _ (c .before .loop .inv) (c .loop-test .left)
+
+pub calm-two-spec : {M : Type 1} → statement M
+calm-two-spec =
+    tie.close
+    (tie.spec
+    Inv-loop
+    μ-loop
+    sub-w1
+    part-w1-start
+    part-w1-end
+    sub-w0
+    part-w0-start
+    part-w0-end
+    loop-holds
+    shared-slice-read-faulty-two
+    shared-slice-read-faulty-two-2
+    faulty-two-requires
+    add-j
+    loop-less
+    loop-again
+    returns)

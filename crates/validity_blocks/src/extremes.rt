@@ -1,0 +1,48 @@
+// The largest byte of a text, and its least lead byte: which test a block asks for.
+ghost use mathlib.Core.Path.{_≡_};
+ghost use Prim.Native.Nat.{max, min};
+ghost use Rattle.validity_blocks.specs.Windows.{largest, leastLead};
+
+pub fn max(a: u8, b: u8) -> u8
+    ensures { λ r. ⌜ r ≡ max a b ⌝ }
+{
+    if a < b {
+        return b;
+    }
+    a
+}
+
+fn min(a: u8, b: u8) -> u8
+    ensures { λ r. ⌜ r ≡ min a b ⌝ }
+{
+    if b < a {
+        return b;
+    }
+    a
+}
+
+// The largest byte, or 0.
+pub fn largest(s: &[u8]) -> u8
+    ensures { λ r. ⌜ r ≡ largest (now (s .entry)) ⌝ }
+{
+    let mut most: u8 = 0;
+    let mut i = 0;
+    while i < s.len() {
+        most = max(most, s[i]);
+        i += 1;
+    }
+    most
+}
+
+// The least lead byte, counted from C0 on, or 0x40: counted so, and around past FF, the lead bytes are the least of all.
+pub fn least_lead(s: &[u8]) -> u8
+    ensures { λ r. ⌜ r ≡ leastLead (now (s .entry)) ⌝ }
+{
+    let mut least: u8 = 0x40;
+    let mut i = 0;
+    while i < s.len() {
+        least = min(least, std::num::wrapping_add_u8(s[i], 0x40));
+        i += 1;
+    }
+    least
+}
