@@ -92,7 +92,14 @@ fn settled(found: Places, start: Offset, from: u32) -> bool
 
 // The last alignment of a block that one step walks: the block is the next 64, or the one at `i` alone. Neither column ever
 // goes back, so the last of 64 speaks for them all.
-fn block_last(found: Places, starts: &[Offset], ends: &[Offset], i: usize, from: u32, to: u32) -> usize
+fn block_last(
+    found: Places,
+    starts: &[Offset],
+    ends: &[Offset],
+    i: usize,
+    from: u32,
+    to: u32,
+) -> usize
     requires { ⌜ (Columns (now starts) (now ends)) × (i < length (now ends)) × (getD (now ends) i 0 ≤ to) ⌝ }
     ensures { λ r. ⌜ Block (now (starts .entry)) (now (ends .entry)) from to found i r ⌝ }
 {
@@ -149,7 +156,12 @@ fn expand_alignments(starts: &[Offset], ends: &[Offset], from: u32, to: u32) -> 
 }
 
 // A range of the cleaned text, in the transcript.
-fn to_original(starts: &[Offset], ends: &[Offset], from: NormalizedByte, to: NormalizedByte) -> Converted
+fn to_original(
+    starts: &[Offset],
+    ends: &[Offset],
+    from: NormalizedByte,
+    to: NormalizedByte,
+) -> Converted
     requires { ⌜ Columns (now starts) (now ends) ⌝ }
     ensures { λ r. ⌜ r ≡ toOriginal (now (starts .entry)) (now (ends .entry)) from to ⌝ }
 {
@@ -165,7 +177,12 @@ fn to_original(starts: &[Offset], ends: &[Offset], from: NormalizedByte, to: Nor
 }
 
 // A range of the transcript, in the cleaned text.
-fn to_normalized(starts: &[Offset], ends: &[Offset], from: OriginalByte, to: OriginalByte) -> Converted
+fn to_normalized(
+    starts: &[Offset],
+    ends: &[Offset],
+    from: OriginalByte,
+    to: OriginalByte,
+) -> Converted
     requires { ⌜ Columns (now starts) (now ends) ⌝ }
     ensures { λ r. ⌜ r ≡ toNormalized (now (starts .entry)) (now (ends .entry)) from to ⌝ }
 {

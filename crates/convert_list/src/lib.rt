@@ -1,5 +1,6 @@
 // Converting a list of ranges over one note, which is checked once.
 use buffers::Offset;
+use buffers::fill_bytes;
 use convert::Converted;
 use convert::Range;
 use convert::convert_checked;
@@ -11,7 +12,6 @@ use note::Refusal;
 use note::Verdict;
 use note::check_note;
 use note::number;
-use buffers::fill_bytes;
 ghost use mathlib.Core.Path.{_≡_};
 ghost use Prim.Native.Nat.{_-_, _≤_, _<_};
 ghost use lib.ListN.{length, getD};

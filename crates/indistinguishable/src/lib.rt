@@ -1,13 +1,13 @@
 // Whether two notes publish the same under one list and one filler (demand 3, as a call), found by walking the list.
 use buffers::Offset;
+use buffers::equality::same_bytes;
+use buffers::equality::same_offsets;
 use note::Refusal;
 use note::Verdict;
 use pattern::Place;
 use pattern::place_at;
 use replace::before_end;
 use replace::judged;
-use buffers::equality::same_bytes;
-use buffers::equality::same_offsets;
 ghost use mathlib.Core.Path.{_≡_};
 ghost use Rattle.buffers.specs.Same.{same};
 ghost use Rattle.buffers.specs.Splice.{part};

@@ -76,7 +76,14 @@ fn write_field(number: usize, after: u8, out: &mut [u8], at: usize) -> usize
 }
 
 // The line of a run.
-fn write_line(first: usize, count: usize, start: Offset, end: Offset, out: &mut [u8], at: usize) -> usize
+fn write_line(
+    first: usize,
+    count: usize,
+    start: Offset,
+    end: Offset,
+    out: &mut [u8],
+    at: usize,
+) -> usize
     requires { ⌜ (first < 100000) × (count < 100000) × (at + 24 ≤ length (now out)) ⌝ }
     ensures { λ r. ⌜ Laid (lineOf first count start end) (now (out .entry)) at r (now (out .exit)) ⌝ }
 {

@@ -89,5 +89,9 @@ fn main() {
         say(b"redact: the content has more than 4,096 bytes; take a shorter one\n");
         return;
     }
-    run(&literal[..literal_size], &content[..filler_size], alignments);
+    run(
+        &literal[..literal_size],
+        &content[..filler_size],
+        alignments,
+    );
 }

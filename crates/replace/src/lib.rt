@@ -1,5 +1,8 @@
 // Replacing (document 01; Rust: `NormalizedString::replace`): matched places of the cleaned text give way to a filler.
 use buffers::Offset;
+use buffers::copy_bytes;
+use buffers::copy_offsets;
+use buffers::fill_offsets;
 use note::LIMIT;
 use note::Refusal;
 use note::Verdict;
@@ -7,9 +10,6 @@ use note::check_beside;
 use pattern::Place;
 use pattern::covers;
 use pattern::place_at;
-use buffers::copy_bytes;
-use buffers::copy_offsets;
-use buffers::fill_offsets;
 use validity::well_formed;
 ghost use mathlib.Core.Path.{_≡_};
 ghost use Prim.Native.Nat.{_≤_, min};
@@ -237,7 +237,14 @@ pub fn judged(
 {
     let torn = !well_formed(content);
     match check_beside(original, normalized, starts, ends, original_shift, torn) {
-        Verdict::Accepted => judge(normalized, list, content.len(), room, starts_room, ends_room),
+        Verdict::Accepted => judge(
+            normalized,
+            list,
+            content.len(),
+            room,
+            starts_room,
+            ends_room,
+        ),
         Verdict::Refused(k) => Verdict::Refused(k),
     }
 }

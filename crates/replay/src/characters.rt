@@ -5,9 +5,9 @@ use crate::list::after;
 use crate::list::byte;
 use crate::list::long;
 use crate::list::text;
-use note::OriginalByte;
 use char_offsets::CharOffsets;
 use char_offsets::letters::LetterCount;
+use note::OriginalByte;
 
 // A text; 1 where it is well-formed, 0 where it is not.
 pub fn well_formed(list: &[u8], at: usize) -> Outcome {

@@ -5,11 +5,11 @@ use crate::list::after;
 use crate::list::byte;
 use crate::list::long;
 use crate::list::text;
+use buffers::equality::same_bytes;
 use convert::Converted;
 use convert::Range;
 use note::NormalizedByte;
 use note::OriginalByte;
-use buffers::equality::same_bytes;
 
 // The text that a range names (1 the transcript, 0 the cleaned text), start, end: 9 bytes.
 fn range_at(list: &[u8], at: usize) -> Range {

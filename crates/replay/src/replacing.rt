@@ -11,8 +11,8 @@ use crate::list::column;
 use crate::list::long;
 use crate::list::short;
 use crate::list::text;
-use indistinguishable::Comparison;
 use find::Matches;
+use indistinguishable::Comparison;
 
 // What finding answers where it is lent only the first of a buffer; a size that no list has where it has fewer.
 fn found_in(text: &[u8], literal: &[u8], out: &mut [u8], room: usize) -> Matches {

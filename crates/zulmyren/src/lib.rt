@@ -1,14 +1,14 @@
 // The exported calls, for C and Rust: include/zulmyren.h says what each means. Nothing else is exported.
 use buffers::Offset;
-use indistinguishable::Comparison;
-use convert_list::OffsetReferential;
-use convert_list::range_of;
-use convert::Converted;
-use find::Matches;
-use note::OriginalByte;
-use note::Verdict;
 use char_offsets::CharOffsets;
 use char_offsets::letters::LetterCount;
+use convert::Converted;
+use convert_list::OffsetReferential;
+use convert_list::range_of;
+use find::Matches;
+use indistinguishable::Comparison;
+use note::OriginalByte;
+use note::Verdict;
 use redact::Redaction;
 ghost use mathlib.Core.Path.{_≡_};
 ghost use Rattle.utf8.specs.Formed.{wellFormed};

@@ -1,5 +1,5 @@
--- The note of a fresh text is sound, and accepted where the text is: each byte's alignment is the range of its character.
--- Before it, the laws of that range: it holds the byte, its ends are boundaries, and it is the next byte's range or ends before it.
+-- Laws of `starting`: each byte's alignment is the range of its character, which holds the byte, ends on boundaries, and is the next byte's
+-- range or ends before it. So the note is sound, and accepted where the text is.
 use Prim.Native.Nat.{ℕ, zero, suc, _+_, _≤_, _<_}
 use mathlib.Core.Path.{_≡_, refl, sym}
 use mathlib.Core.Bool.{true, false}
@@ -11,10 +11,9 @@ use Rattle.buffers.proofs.Every.{and-true, every-all, le-or-lt, true-or-false, 
 use Rattle.buffers.proofs.Columns.{length-column, getD-column}
 use Rattle.utf8.specs.Formed.{wellFormed, continues, announced, boundary}
 use Rattle.utf8.proofs.Boundaries.{CharAt, char-at, boundary-zero, boundary-at, boundary-begins}
-use Rattle.note.specs.declared.Verdict.the-variants.{Accepted}
 use Rattle.note.specs.Refusals.{verdict}
-use Rattle.note.specs.Notes.{limit, fits, paired, textsFormed, startAt, endAt, inside, onBoundaries, shared, forward, aligned, Sound, noteFaults}
-use Rattle.note.specs.Starting.{charStart, charEnd, starting}
+use Rattle.note.specs.Notes.{fits, paired, textsFormed, startAt, endAt, inside, onBoundaries, shared, forward, aligned}
+use Rattle.note.specs.Starting.{charStart, charEnd, starting, StartingSound, StartingAccepted}
 
 -- the next byte's range: the same where the byte continues the character
 pub charStart-continues : (s : List ℕ) (i : ℕ) → continues (getD s (suc i) 0) ≡ true → charStart s (suc i) ≡ charStart s i
@@ -151,17 +150,15 @@ module _ (s : List ℕ) (p : wellFormed s ≡ true) where
   unfolding starting textsFormed
   starting-formed = and-true _ _ p p
 
-starting-fits : (s : List ℕ) → length s ≤ limit → fits (starting s) ≡ true
-unfolding starting fits
-starting-fits s h = rw (le-leb (length s) limit h, le-leb (0 + length s) limit (omega arith))
-
--- The note of a fresh well-formed text is sound.
-pub starting-sound : (s : List ℕ) → wellFormed s ≡ true → Sound (starting s)
+pub starting-sound : StartingSound
 starting-sound s p =
     record { has-pairs = starting-paired s p; has-texts = starting-formed s p; has-alignments = starting-aligned s p }
 
--- Every call that is lent the note of a fresh well-formed text within the limit accepts it.
-pub starting-accepted : (s : List ℕ) → wellFormed s ≡ true → length s ≤ limit → verdict (noteFaults (starting s)) ≡ Accepted
+starting-fits : (most : ℕ) (s : List ℕ) → length s ≤ most → fits most (starting s) ≡ true
+unfolding starting fits
+starting-fits most s h = rw (le-leb (length s) most h, le-leb (0 + length s) most (omega arith))
+
+pub starting-accepted : StartingAccepted
 unfolding verdict
-starting-accepted s p h =
-    simp (starting-fits s h, starting-paired s p, starting-formed s p, starting-aligned s p)
+starting-accepted most s p h =
+    simp (starting-fits most s h, starting-paired s p, starting-formed s p, starting-aligned s p)

@@ -1,6 +1,6 @@
 // Whether a note's alignments are sound, for a note whose texts and numbers of alignments were judged before.
-use buffers::Offset;
 use crate::unedited::mirrored;
+use buffers::Offset;
 use utf8::continues;
 use validity::is_ascii;
 ghost use mathlib.Core.Path.{_≡_};
@@ -68,7 +68,13 @@ fn all_uncut(original: &[u8], starts: &[Offset], ends: &[Offset]) -> bool
 }
 
 // Whether the alignments are sound. An inner call: limits, numbers of alignments and texts were judged before.
-pub fn aligned(original: &[u8], normalized: &[u8], starts: &[Offset], ends: &[Offset], same: bool) -> bool
+pub fn aligned(
+    original: &[u8],
+    normalized: &[u8],
+    starts: &[Offset],
+    ends: &[Offset],
+    same: bool,
+) -> bool
     requires { ⌜ Judged (now original) (now normalized) (now starts) (now ends) same ⌝ }
     ensures { λ r. ⌜ r ≡ aligned (record { original = now (original .entry); normalized = now (normalized .entry); starts = now (starts .entry); ends = now (ends .entry); original-shift = 0 }) ⌝ }
 {
