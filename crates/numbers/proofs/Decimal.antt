@@ -1,15 +1,15 @@
 -- Laws of `decimal`: it is read back; how many digits there are; digits that are being laid from the last one back.
 use Prim.Native.Nat.{ℕ, zero, suc, _+_, _*_, _-_, _/_, _%_, _^_, _≤_, _<_}
 use mathlib.Core.Path.{_≡_, _∙_, ap, refl, sym}
-use mathlib.Core.List.{List, [], _∷_, _++_, append-nil}
+use mathlib.Core.List.{List, [], _∷_, _++_}
 use native.Mathlib.Numerals.{add-one}
 use native.Mathlib.Nat.{pow-suc}
 use native.Mathlib.Omega.{arith}
 use borrow.Author.Tests.{lt-ltb, le-ltb}
-use lib.ListN.{length, set, take, length-append, length-set, take-append-drop}
+use lib.ListN.{length, set, length-append, length-set}
 use Rattle.buffers.specs.Splice.{splice, Laid}
 use Rattle.buffers.proofs.Splice.{store-before, splice-nil}
-use Rattle.buffers.proofs.Every.{le-or-lt}
+use Rattle.buffers.proofs.Cases.{le-or-lt}
 use Rattle.numbers.specs.Decimal.{digits, decimal, readFrom, readDecimal, DecimalReadBack, DecimalBounded}
 
 -- more steps than there are digits change nothing
@@ -111,8 +111,8 @@ pub record Shrinking (n : ℕ) (d₀ : List ℕ) (at : ℕ) (d : List ℕ) (afte
   pub room : at + i ≤ length d
   pub same : length d ≡ length d₀
 
-pub none-laid : {n : ℕ} {d : List ℕ} {at count : ℕ} → count ≡ length (decimal n) → at + length (decimal n) ≤ length d → Shrinking n d at d n count
-none-laid {n = n} {d = d} {at = at} is room =
+pub no-digit : {n : ℕ} {d : List ℕ} {at count : ℕ} → count ≡ length (decimal n) → at + length (decimal n) ≤ length d → Shrinking n d at d n count
+no-digit {n = n} {d = d} {at = at} is room =
     record { rest = ap (splice d at) (rw is (sym (decimal-last n))); room = omega arith; same = refl }
 
 pub digit-laid : {n : ℕ} {d₀ : List ℕ} {at : ℕ} {d : List ℕ} {after i : ℕ} → Shrinking n d₀ at d after i → 0 < i → Shrinking n d₀ at (set d (at + (i - 1)) (0x30 + after % 10)) (after / 10) (i - 1)
@@ -128,8 +128,8 @@ digit-laid {at = at} {d = d} {after = after} {i = suc k} s h =
       same = simp length-set (s .same);
     })
 
-pub all-laid : {n : ℕ} {d₀ : List ℕ} {at count : ℕ} {d : List ℕ} {after i : ℕ} → Shrinking n d₀ at d after i → i ≤ 0 → count ≡ length (decimal n) → Laid (decimal n) d₀ at (at + count) d
+pub digits-laid : {n : ℕ} {d₀ : List ℕ} {at count : ℕ} {d : List ℕ} {after i : ℕ} → Shrinking n d₀ at d after i → i ≤ 0 → count ≡ length (decimal n) → Laid (decimal n) d₀ at (at + count) d
 unfolding lastDigits
-all-laid {at = at} {d = d} {i = i} s none is =
+digits-laid {at = at} {d = d} {i = i} s none is =
     let done : i ≡ 0 = omega arith in
     record { reach = ap (_+_ at) is; holds = sym (splice-nil d at) ∙ (rw done at (s .rest)) }

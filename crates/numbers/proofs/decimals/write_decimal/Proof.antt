@@ -1,5 +1,5 @@
 -- Each turn lays the last digit of what is left.
-use Rattle.numbers.proofs.Decimal.{Shrinking, none-laid, digit-laid, all-laid}
+use Rattle.numbers.proofs.Decimal.{Shrinking, no-digit, digit-laid, digits-laid}
 use native.Mathlib.Omega.{arith}
 use borrow.Author.Needs.{needs}
 use Rattle.numbers.proofs.decimals.write_decimal.Statement.{statement}
@@ -18,7 +18,7 @@ write-decimal-spec =
     Inv-loop
     μ-loop
     (λ c κs. search needs)
-    (λ c. none-laid (c .count-digits .ensures) (c .before .before .pre))
+    (λ c. no-digit (c .count-digits .ensures) (c .before .before .pre))
     (λ c. omega arith)
     (λ c. omega arith)
     (λ c. omega arith)
@@ -28,4 +28,4 @@ write-decimal-spec =
     (λ c. digit-laid (c .before .loop .inv) (c .loop-test .taken))
     (λ c. omega arith)
     (λ c. c .before .loop .inv .same)
-    (λ c. all-laid (c .before .loop .inv) (c .loop-test .left) (c .before .before .count-digits .ensures)))
+    (λ c. digits-laid (c .before .loop .inv) (c .loop-test .left) (c .before .before .count-digits .ensures)))

@@ -30,4 +30,4 @@ get-u16-le-spec =
     cast-result-2
     mul-result
     add-result-2
-    (λ c. value-at _ _ (c .before .before .pre)))
+    (λ c. let given = c .before .before .args in value-at (given .bytes .now) (given .at)))
