@@ -3,11 +3,12 @@ use Prim.Native.Nat.{ℕ, _+_, _-_, _≤_, _<_}
 use mathlib.Core.Path.{_≡_, _∙_, ap, refl, sym}
 use mathlib.Core.Bool.{Bool, true, false, cond, _&&_, not}
 use mathlib.Core.List.{List}
+use mathlib.Mathlib.Data.Bool.Basic.{and-elim-left, and-elim-right}
 use borrow.Author.Tests.{le-leb, lt-leb, leb-true, eqb-true, not-true, not-false}
 use native.Mathlib.Omega.{arith}
 use lib.Dec.{leb, eqb}
 use lib.ListN.{length}
-use Rattle.buffers.proofs.Every.{and-left, and-right, le-or-lt}
+use Rattle.buffers.proofs.Cases.{le-or-lt}
 use Rattle.utf8.specs.Formed.{wellFormed}
 use Rattle.note.specs.declared.Refusal.the-variants.{IllFormed, TooLong, LengthMismatch, Misaligned}
 use Rattle.note.specs.declared.Verdict.{Verdict}
@@ -37,21 +38,21 @@ module _ (most o m shift : ℕ) where
 
   pub fit-original : lengthsFit most o m shift ≡ true → o ≤ most
   unfolding lengthsFit
-  fit-original e = leb-true o most (and-left _ (leb m most) (and-left _ (leb (shift + o) most) e))
+  fit-original e = leb-true o most (and-elim-left _ (leb m most) (and-elim-left _ (leb (shift + o) most) e))
 
   pub fit-normalized : lengthsFit most o m shift ≡ true → m ≤ most
   unfolding lengthsFit
-  fit-normalized e = leb-true m most (and-right (leb o most) _ (and-left _ (leb (shift + o) most) e))
+  fit-normalized e = leb-true m most (and-elim-right (leb o most) _ (and-elim-left _ (leb (shift + o) most) e))
 
 -- the numbers of alignments
 module _ (m s e : ℕ) (t : lengthsPaired m s e ≡ true) where
   pub pair-starts : s ≡ m
   unfolding lengthsPaired
-  pair-starts = eqb-true s m (and-left _ (eqb e m) t)
+  pair-starts = eqb-true s m (and-elim-left _ (eqb e m) t)
 
   pub pair-ends : e ≡ m
   unfolding lengthsPaired
-  pair-ends = eqb-true e m (and-right (eqb s m) _ t)
+  pair-ends = eqb-true e m (and-elim-right (eqb s m) _ t)
 
 -- the two texts, by what the code tests
 module _ (o m : List ℕ) {r : Bool} (e : r ≡ wellFormed o) where

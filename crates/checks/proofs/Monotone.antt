@@ -3,12 +3,15 @@ use Prim.Native.Nat.{ℕ, zero, suc, _+_, _-_, _≤_, _<_}
 use mathlib.Core.Path.{_≡_, _∙_, ap, refl, sym}
 use mathlib.Core.Bool.{Bool, true, false, _&&_, _||_, not}
 use mathlib.Core.List.{List}
+use mathlib.Mathlib.Data.Bool.Basic.{and-intro, and-elim-left, and-elim-right}
 use borrow.Author.Tests.{lt-leb, leb-true, not-true, not-false}
 use native.Mathlib.Omega.{arith}
 use lib.Dec.{leb, eqb}
 use lib.ListN.{length, getD, List·getD-eq-default}
 use Rattle.buffers.specs.Every.{everyBelow}
-use Rattle.buffers.proofs.Every.{and-true, and-left, and-right, and-false-l, true-or-false, le-or-lt, every-suc, every-at, every-all}
+use Rattle.buffers.proofs.Cases.{true-or-false, le-or-lt}
+use Rattle.buffers.proofs.Booleans.{and-false-l}
+use Rattle.buffers.proofs.Every.{every-suc, every-at, every-all}
 use Rattle.utf8.specs.Table.{within}
 use Rattle.utf8.specs.Formed.{continues, boundary}
 use Rattle.utf8.proofs.Boundaries.{boundary-at, boundary-begins}
@@ -60,7 +63,7 @@ uncut-ascii original p e =
 
 pub all-ascii : (original starts ends : List ℕ) (n : ℕ) → ascii original ≡ true → uncutBelow original starts ends n ≡ true
 unfolding uncutBelow
-all-ascii original starts ends n e = every-all n _ (λ i below. and-true _ _ (uncut-ascii original _ e) (uncut-ascii original _ e))
+all-ascii original starts ends n e = every-all n _ (λ i below. and-intro (uncut-ascii original _ e) (uncut-ascii original _ e))
 
 bool-ext : (a b : Bool) → (a ≡ true → b ≡ true) → (b ≡ true → a ≡ true) → a ≡ b
 bool-ext true b f g = sym (f refl)
@@ -76,7 +79,7 @@ module _ (n : Note) where
   unfolding monotoneAt follows inside shared forward
   monotone-from zero a b c = a
   monotone-from (suc i) a b c =
-      and-true _ _ (and-true _ _ (and-true _ _ a b) (and-left (leb (startAt n i) (startAt n (suc i))) _ c)) (and-right (leb (startAt n i) (startAt n (suc i))) _ c)
+      and-intro (and-intro (and-intro a b) (and-elim-left (leb (startAt n i) (startAt n (suc i))) _ c)) (and-elim-right (leb (startAt n i) (startAt n (suc i))) _ c)
 
   -- and back
   monotone-inside : (i : ℕ) → monotoneAt (n .normalized) (n .starts) (n .ends) (length (n .original)) i ≡ true → inside n i ≡ true
@@ -85,14 +88,14 @@ module _ (n : Note) where
   monotone-inside (suc i) e =
       let low = leb (startAt n i) (startAt n (suc i)) in
       let same = not (continues (getD (n .normalized) (suc i) 0)) || (eqb (startAt n i) (startAt n (suc i)) && eqb (endAt n i) (endAt n (suc i))) in
-      and-left (leb (startAt n (suc i)) (endAt n (suc i)) && leb (endAt n (suc i)) (length (n .original))) same (and-left _ low (and-left _ (leb (endAt n i) (endAt n (suc i))) e))
+      and-elim-left (leb (startAt n (suc i)) (endAt n (suc i)) && leb (endAt n (suc i)) (length (n .original))) same (and-elim-left _ low (and-elim-left _ (leb (endAt n i) (endAt n (suc i))) e))
 
   monotone-shared : (i : ℕ) → monotoneAt (n .normalized) (n .starts) (n .ends) (length (n .original)) i ≡ true → shared n i ≡ true
   unfolding monotoneAt follows shared
   monotone-shared zero e = refl
   monotone-shared (suc i) e =
       let low = leb (startAt n i) (startAt n (suc i)) in
-      and-right (leb (startAt n (suc i)) (endAt n (suc i)) && leb (endAt n (suc i)) (length (n .original))) _ (and-left _ low (and-left _ (leb (endAt n i) (endAt n (suc i))) e))
+      and-elim-right (leb (startAt n (suc i)) (endAt n (suc i)) && leb (endAt n (suc i)) (length (n .original))) _ (and-elim-left _ low (and-elim-left _ (leb (endAt n i) (endAt n (suc i))) e))
 
   monotone-forward : (i : ℕ) → monotoneAt (n .normalized) (n .starts) (n .ends) (length (n .original)) i ≡ true → forward n i ≡ true
   unfolding monotoneAt follows forward
@@ -100,23 +103,23 @@ module _ (n : Note) where
   monotone-forward (suc i) e =
       let inner = leb (startAt n (suc i)) (endAt n (suc i)) && leb (endAt n (suc i)) (length (n .original)) && (not (continues (getD (n .normalized) (suc i) 0)) || (eqb (startAt n i) (startAt n (suc i)) && eqb (endAt n i) (endAt n (suc i)))) in
       let most = inner && leb (startAt n i) (startAt n (suc i)) in
-      and-true _ _ (and-right inner (leb (startAt n i) (startAt n (suc i))) (and-left most (leb (endAt n i) (endAt n (suc i))) e)) (and-right most (leb (endAt n i) (endAt n (suc i))) e)
+      and-intro (and-elim-right inner (leb (startAt n i) (startAt n (suc i))) (and-elim-left most (leb (endAt n i) (endAt n (suc i))) e)) (and-elim-right most (leb (endAt n i) (endAt n (suc i))) e)
 
   bounds-from : (i : ℕ) → onBoundaries n i ≡ true → (uncut (n .original) (startAt n i) && uncut (n .original) (endAt n i)) ≡ true
   unfolding onBoundaries uncut
   bounds-from i e =
       let at : (p : ℕ) → boundary (n .original) p ≡ true → not (continues (getD (n .original) p 0)) ≡ true = λ p b. ap not (boundary-begins (n .original) p b) in
-      and-true _ _ (at (startAt n i) (and-left (boundary (n .original) (startAt n i)) _ e)) (at (endAt n i) (and-right (boundary (n .original) (startAt n i)) _ e))
+      and-intro (at (startAt n i) (and-elim-left (boundary (n .original) (startAt n i)) _ e)) (at (endAt n i) (and-elim-right (boundary (n .original) (startAt n i)) _ e))
 
   bounds-back : (i : ℕ) → inside n i ≡ true → (uncut (n .original) (startAt n i) && uncut (n .original) (endAt n i)) ≡ true → onBoundaries n i ≡ true
   unfolding inside onBoundaries uncut
   bounds-back i a e =
-      let low : startAt n i ≤ endAt n i = leb-true _ _ (and-left (leb (startAt n i) (endAt n i)) _ a) in
-      let high : endAt n i ≤ length (n .original) = leb-true _ _ (and-right (leb (startAt n i) (endAt n i)) _ a) in
+      let low : startAt n i ≤ endAt n i = leb-true _ _ (and-elim-left (leb (startAt n i) (endAt n i)) _ a) in
+      let high : endAt n i ≤ length (n .original) = leb-true _ _ (and-elim-right (leb (startAt n i) (endAt n i)) _ a) in
       let first = not (continues (getD (n .original) (startAt n i) 0)) in
-      and-true _ _
-      (boundary-at (n .original) (startAt n i) (omega arith) (not-true _ (and-left first _ e)))
-      (boundary-at (n .original) (endAt n i) high (not-true _ (and-right first _ e)))
+      and-intro
+      (boundary-at (n .original) (startAt n i) (omega arith) (not-true _ (and-elim-left first _ e)))
+      (boundary-at (n .original) (endAt n i) high (not-true _ (and-elim-right first _ e)))
 
   -- the alignments are sound exactly when each can follow the one before it and none cuts a character
   pub aligned-forms : aligned n ≡ (monotone (n .normalized) (n .starts) (n .ends) (length (n .original)) (length (n .normalized)) && uncutBelow (n .original) (n .starts) (n .ends) (length (n .normalized)))
@@ -131,18 +134,18 @@ module _ (n : Note) where
       let un : ℕ → Bool = λ i. uncut (n .original) (getD (n .starts) i 0) && uncut (n .original) (getD (n .ends) i 0) in
       bool-ext _ _
       (λ all.
-      let abc = and-left (a && b && c) d all in
-      let ab = and-left (a && b) c abc in
-      and-true _ _
-      (every-all m st (λ i h. monotone-from i (every-at m (inside n) (and-left a b ab) i h) (every-at m (shared n) (and-right (a && b) c abc) i h) (every-at m (forward n) (and-right (a && b && c) d all) i h)))
-      (every-all m un (λ i h. bounds-from i (every-at m (onBoundaries n) (and-right a b ab) i h))))
+      let abc = and-elim-left (a && b && c) d all in
+      let ab = and-elim-left (a && b) c abc in
+      and-intro
+      (every-all m st (λ i h. monotone-from i (every-at m (inside n) (and-elim-left a b ab) i h) (every-at m (shared n) (and-elim-right (a && b) c abc) i h) (every-at m (forward n) (and-elim-right (a && b && c) d all) i h)))
+      (every-all m un (λ i h. bounds-from i (every-at m (onBoundaries n) (and-elim-right a b ab) i h))))
       (λ both.
-      let s = and-left (everyBelow m st) (everyBelow m un) both in
-      let u = and-right (everyBelow m st) (everyBelow m un) both in
+      let s = and-elim-left (everyBelow m st) (everyBelow m un) both in
+      let u = and-elim-right (everyBelow m st) (everyBelow m un) both in
       let ins : (i : ℕ) → i < m → inside n i ≡ true = λ i h. monotone-inside i (every-at m st s i h) in
-      and-true _ _
-      (and-true _ _
-      (and-true _ _ (every-all m (inside n) ins) (every-all m (onBoundaries n) (λ i h. bounds-back i (ins i h) (every-at m un u i h))))
+      and-intro
+      (and-intro
+      (and-intro (every-all m (inside n) ins) (every-all m (onBoundaries n) (λ i h. bounds-back i (ins i h) (every-at m un u i h))))
       (every-all m (shared n) (λ i h. monotone-shared i (every-at m st s i h))))
       (every-all m (forward n) (λ i h. monotone-forward i (every-at m st s i h))))
 
@@ -152,7 +155,7 @@ module _ (o m s e : List ℕ) where
   not-monotone {r} is f = sym (aligned-forms (lent o m s e 0) ∙ and-false-l (monotone m s e (length o) (length m)) _ (sym is ∙ not-true r f))
 
   pub monotone-ascii : {r : Bool} → r ≡ monotone m s e (length o) (length m) → not r ≡ false → ascii o ≡ true → true ≡ aligned (lent o m s e 0)
-  monotone-ascii {r} is t a = sym (aligned-forms (lent o m s e 0) ∙ and-true _ _ (sym is ∙ not-false r t) (all-ascii o s e (length m) a))
+  monotone-ascii {r} is t a = sym (aligned-forms (lent o m s e 0) ∙ and-intro (sym is ∙ not-false r t) (all-ascii o s e (length m) a))
 
   pub monotone-uncut : {r q : Bool} → r ≡ monotone m s e (length o) (length m) → not r ≡ false → q ≡ uncutBelow o s e (length s) → length s ≡ length m → q ≡ aligned (lent o m s e 0)
   monotone-uncut {r} is t u same =

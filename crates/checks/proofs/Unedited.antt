@@ -3,6 +3,7 @@ use Prim.Native.Nat.{ℕ, zero, suc, _+_, _-_, _≤_, _<_}
 use mathlib.Core.Path.{_≡_, _∙_, refl, sym}
 use mathlib.Core.Bool.{Bool, true, false, cond, _&&_, _||_, not}
 use mathlib.Core.List.{List}
+use mathlib.Mathlib.Data.Bool.Basic.{and-elim-left, and-elim-right}
 use borrow.Author.Tests.{eqb-true}
 use native.Mathlib.Omega.{arith}
 use lib.Dec.{eqb}
@@ -10,7 +11,8 @@ use lib.ListN.{length, getD}
 use lib.Seq.{ext-getD}
 use Rattle.buffers.specs.Columns.{column}
 use Rattle.buffers.specs.Every.{everyBelow}
-use Rattle.buffers.proofs.Every.{and-left, and-right, true-or-false, every-suc, every-at}
+use Rattle.buffers.proofs.Cases.{true-or-false}
+use Rattle.buffers.proofs.Every.{every-suc, every-at}
 use Rattle.buffers.proofs.Columns.{length-column, getD-column}
 use Rattle.utf8.specs.Formed.{wellFormed, continues}
 use Rattle.note.specs.Notes.{lent, aligned}
@@ -48,11 +50,11 @@ carries-flags b s0 s1 e0 e1 i more e = rw (flagged more s1 s0 i, flagged more e0
 module _ (b s0 s1 e0 e1 i : ℕ) (e : carries b s0 s1 e0 e1 i ≡ true) where
   carries-start : s1 ≡ cond (continues b) s0 i
   unfolding carries
-  carries-start = eqb-true _ _ (and-left (eqb s1 (cond (continues b) s0 i)) _ e)
+  carries-start = eqb-true _ _ (and-elim-left (eqb s1 (cond (continues b) s0 i)) _ e)
 
   carries-end : e0 ≡ cond (continues b) e1 i
   unfolding carries
-  carries-end = eqb-true _ _ (and-right (eqb s1 (cond (continues b) s0 i)) _ e)
+  carries-end = eqb-true _ _ (and-elim-right (eqb s1 (cond (continues b) s0 i)) _ e)
 
 -- the columns, number by number: the starts forwards, the ends backwards
 module _ (text starts ends : List ℕ) (p : wellFormed text ≡ true) (e : unedited text starts ends (length text) ≡ true) where
@@ -60,7 +62,7 @@ module _ (text starts ends : List ℕ) (p : wellFormed text ≡ true) (e : unedi
   unfolding unedited uneditedAt
   at-first some =
       let both = every-at (length text) (uneditedAt text starts ends) e 0 some in
-      (eqb-true _ _ (and-left (eqb (getD starts 0 0) 0) _ both), eqb-true _ _ (and-right (eqb (getD starts 0 0) 0) _ both))
+      (eqb-true _ _ (and-elim-left (eqb (getD starts 0 0) 0) _ both), eqb-true _ _ (and-elim-right (eqb (getD starts 0 0) 0) _ both))
 
   at-next : (i : ℕ) → suc i < length text → carries (getD text (suc i) 0) (getD starts i 0) (getD starts (suc i) 0) (getD ends i 0) (getD ends (suc i) 0) (suc i) ≡ true
   unfolding unedited uneditedAt

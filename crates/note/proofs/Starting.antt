@@ -4,10 +4,12 @@ use Prim.Native.Nat.{ℕ, zero, suc, _+_, _≤_, _<_}
 use mathlib.Core.Path.{_≡_, refl, sym}
 use mathlib.Core.Bool.{true, false}
 use mathlib.Core.List.{List}
+use mathlib.Mathlib.Data.Bool.Basic.{and-intro}
 use native.Mathlib.Omega.{arith}
 use lib.ListN.{length, getD}
 use borrow.Author.Tests.{le-leb, eq-eqb}
-use Rattle.buffers.proofs.Every.{and-true, every-all, le-or-lt, true-or-false, clash}
+use Rattle.buffers.proofs.Cases.{le-or-lt, true-or-false, clash}
+use Rattle.buffers.proofs.Every.{every-all}
 use Rattle.buffers.proofs.Columns.{length-column, getD-column}
 use Rattle.utf8.specs.Formed.{wellFormed, continues, announced, boundary}
 use Rattle.utf8.proofs.Boundaries.{CharAt, char-at, boundary-zero, boundary-at, boundary-begins}
@@ -103,13 +105,13 @@ module _ (s : List ℕ) (p : wellFormed s ≡ true) where
   starting-inside i h =
       let r : Ranged s i = ranged s i p h in
       rw (starting-start s i h, starting-end s i h)
-      (and-true _ _ (le-leb (charStart s i) (charEnd s i) (omega arith)) (le-leb _ _ (r .most)))
+      (and-intro (le-leb (charStart s i) (charEnd s i) (omega arith)) (le-leb _ _ (r .most)))
 
   starting-boundaries : (i : ℕ) → i < length s → onBoundaries (starting s) i ≡ true
   unfolding starting onBoundaries
   starting-boundaries i h =
       let r : Ranged s i = ranged s i p h in
-      rw (starting-start s i h, starting-end s i h) (and-true _ _ (r .begins) (r .ends))
+      rw (starting-start s i h, starting-end s i h) (and-intro (r .begins) (r .ends))
 
   starting-shared : (i : ℕ) → i < length s → shared (starting s) i ≡ true
   unfolding starting shared
@@ -117,7 +119,7 @@ module _ (s : List ℕ) (p : wellFormed s ≡ true) where
   starting-shared (suc i) h =
       rw (starting-start s i (omega arith), starting-start s (suc i) h, starting-end s i (omega arith), starting-end s (suc i) h)
       (true-or-false (continues (getD s (suc i) 0))
-      (λ more. rw more (and-true _ _ (eq-eqb _ _ (sym (charStart-continues s i more))) (eq-eqb _ _ (sym (charEnd-continues s i more)))))
+      (λ more. rw more (and-intro (eq-eqb _ _ (sym (charStart-continues s i more))) (eq-eqb _ _ (sym (charEnd-continues s i more)))))
       (λ new. rw new))
 
   starting-forward : (i : ℕ) → i < length s → forward (starting s) i ≡ true
@@ -131,24 +133,24 @@ module _ (s : List ℕ) (p : wellFormed s ≡ true) where
       (λ more. (omega (arith, charStart-continues s i more), omega (arith, charEnd-continues s i more)))
       (λ new. (omega (arith, charStart-begins s (suc i) new), omega (arith, charEnd-begins s i r new))) in
       rw (starting-start s i (omega arith), starting-start s (suc i) h, starting-end s i (omega arith), starting-end s (suc i) h)
-      (and-true _ _ (le-leb _ _ (ahead .0)) (le-leb _ _ (ahead .1)))
+      (and-intro (le-leb _ _ (ahead .0)) (le-leb _ _ (ahead .1)))
 
   starting-aligned : aligned (starting s) ≡ true
   unfolding starting aligned
   starting-aligned =
-      and-true _ _
-      (and-true _ _
-      (and-true _ _ (every-all _ _ starting-inside) (every-all _ _ starting-boundaries))
+      and-intro
+      (and-intro
+      (and-intro (every-all _ _ starting-inside) (every-all _ _ starting-boundaries))
       (every-all _ _ starting-shared))
       (every-all _ _ starting-forward)
 
   starting-paired : paired (starting s) ≡ true
   unfolding starting paired
-  starting-paired = and-true _ _ (eq-eqb _ _ (length-column (length s) (charStart s))) (eq-eqb _ _ (length-column (length s) (charEnd s)))
+  starting-paired = and-intro (eq-eqb _ _ (length-column (length s) (charStart s))) (eq-eqb _ _ (length-column (length s) (charEnd s)))
 
   starting-formed : textsFormed (starting s) ≡ true
   unfolding starting textsFormed
-  starting-formed = and-true _ _ p p
+  starting-formed = and-intro p p
 
 pub starting-sound : StartingSound
 starting-sound s p =

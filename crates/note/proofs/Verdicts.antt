@@ -5,11 +5,12 @@ use mathlib.Core.Path.{_≡_, _∙_, ap, refl, sym}
 use mathlib.Core.Bool.{Bool, true, false, cond, _&&_, _||_, not, or-false, or-true}
 use mathlib.Core.List.{List, [], _∷_, _++_, List·Memᴰ, List·Memᴰ·head, List·Memᴰ·tail, List·Memᴰ·not-nil, List·Memᴰ·cases-cons}
 use mathlib.Core.Logic.{⊎-elim}
+use mathlib.Mathlib.Data.Bool.Basic.{and-elim-left, and-elim-right}
 use native.Mathlib.Omega.{arith}
 use lib.Dec.{eqb, ltb}
 use lib.ListN.{take, drop, take-append-drop}
 use borrow.Author.Tests.{eqb-true, eq-eqb, not-true, lt-ltb, le-ltb, ltb-true, ltb-false}
-use Rattle.buffers.proofs.Every.{and-left, and-right, clash, true-or-false}
+use Rattle.buffers.proofs.Cases.{clash, true-or-false}
 use Rattle.note.specs.declared.Refusal.{Refusal}
 use Rattle.note.specs.declared.Refusal.the-variants.{IllFormed, TooLong, LengthMismatch, Misaligned, NotBoundary, BadScript, Exhausted, BadMatches, NoRoom, Missing, CountMismatch}
 use Rattle.note.specs.declared.Verdict.{Verdict}
@@ -105,16 +106,16 @@ met-append (k ∷ xs) ys f = true-or-false (f k) (λ t. rw t) (λ u. rw u (met-a
 
 met-unmet : (ks : List Refusal) (f : Refusal → Bool) → unmet ks f ≡ true → firstMet ks f ≡ Accepted
 met-unmet [] f u = refl
-met-unmet (k ∷ ks) f u = rw (not-true (f k) (and-left (not (f k)) (unmet ks f) u)) (met-unmet ks f (and-right (not (f k)) _ u))
+met-unmet (k ∷ ks) f u = rw (not-true (f k) (and-elim-left (not (f k)) (unmet ks f) u)) (met-unmet ks f (and-elim-right (not (f k)) _ u))
 
 met-first : (ks : List Refusal) (f g : Refusal → Bool) → unmet ks g ≡ true → firstMet ks (also f g) ≡ firstMet ks f
 met-first [] f g u = refl
 met-first (k ∷ ks) f g u =
-    rw (not-true (g k) (and-left (not (g k)) (unmet ks g) u), or-false (f k), met-first ks f g (and-right (not (g k)) _ u))
+    rw (not-true (g k) (and-elim-left (not (g k)) (unmet ks g) u), or-false (f k), met-first ks f g (and-elim-right (not (g k)) _ u))
 
 met-second : (ks : List Refusal) (f g : Refusal → Bool) → unmet ks f ≡ true → firstMet ks (also f g) ≡ firstMet ks g
 met-second [] f g u = refl
-met-second (k ∷ ks) f g u = rw (not-true (f k) (and-left (not (f k)) (unmet ks f) u), met-second ks f g (and-right (not (f k)) _ u))
+met-second (k ∷ ks) f g u = rw (not-true (f k) (and-elim-left (not (f k)) (unmet ks f) u), met-second ks f g (and-elim-right (not (f k)) _ u))
 
 then-accepted : (v : Verdict) → then v Accepted ≡ v
 then-accepted Accepted = refl

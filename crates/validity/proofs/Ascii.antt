@@ -10,7 +10,8 @@ use lib.ListN.{length, getD, take, drop, length-drop}
 use lib.Seq.{drop-drop, take-length}
 use Rattle.buffers.specs.Every.{everyBelow}
 use Rattle.buffers.specs.Splice.{part}
-use Rattle.buffers.proofs.Every.{le-or-lt, every-cons, every-at}
+use Rattle.buffers.proofs.Cases.{le-or-lt}
+use Rattle.buffers.proofs.Every.{every-cons, every-at}
 use Rattle.utf8.specs.Formed.{formed, wellFormed}
 use Rattle.validity_blocks.specs.Windows.{largest}
 use Rattle.validity_blocks.proofs.Bounds.{largest-parts}

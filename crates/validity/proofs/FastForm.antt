@@ -4,13 +4,16 @@ use Prim.Native.Nat.{ℕ, _+_, _≤_, _<_}
 use mathlib.Core.Path.{_≡_, _∙_, ap, refl, sym}
 use mathlib.Core.Bool.{Bool, true, false, cond, xor, _&&_, _||_, not}
 use mathlib.Core.List.{List, [], _∷_}
+use mathlib.Mathlib.Data.Bool.Basic.{and-elim-right}
 use borrow.Author.Tests.{le-leb, lt-leb, lt-ltb, le-ltb, leb-true, not-true}
 use native.Mathlib.Nat.{suc-add}
 use native.Mathlib.Omega.{arith}
 use lib.Dec.{leb, ltb, eqb}
 use lib.ListN.{length, drop}
 use Rattle.buffers.specs.Every.{everyBelow}
-use Rattle.buffers.proofs.Every.{and-right, and-cong, clash, true-or-false, le-or-lt, every-cons}
+use Rattle.buffers.proofs.Cases.{clash, true-or-false, le-or-lt}
+use Rattle.buffers.proofs.Booleans.{and-cong}
+use Rattle.buffers.proofs.Every.{every-cons}
 use Rattle.utf8.specs.Table.{Bytes, within, trail}
 use Rattle.utf8.specs.Formed.{announced, second, secondLow, secondHigh, asked, formed, wellFormed}
 use Rattle.validity_blocks.specs.Windows.{pending, never, faulty, calm}
@@ -60,7 +63,7 @@ low-least false false = omega arith
 within-high : (a b : ℕ) → within (second a) b ≡ true → b < 0xC0
 unfolding second within
 within-high a b e =
-    omega (arith, leb-true b (secondHigh a) (and-right (leb (secondLow a) b) (leb b (secondHigh a)) e), high-most (eqb a 0xED) (eqb a 0xF4))
+    omega (arith, leb-true b (secondHigh a) (and-elim-right (leb (secondLow a) b) (leb b (secondHigh a)) e), high-most (eqb a 0xED) (eqb a 0xF4))
 
 never-low : (b : ℕ) → b < 0xC0 → never b ≡ false
 unfolding never

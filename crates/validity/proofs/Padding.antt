@@ -3,13 +3,15 @@ use Prim.Native.Nat.{ℕ, zero, suc, _+_, _-_, _≤_, _<_}
 use mathlib.Core.Path.{_≡_, _∙_, ap, refl, sym}
 use mathlib.Core.Bool.{Bool, true, false, _&&_, not}
 use mathlib.Core.List.{List, _∷_}
+use mathlib.Mathlib.Data.Bool.Basic.{and-intro}
 use native.Mathlib.Nat.{zero-add}
 use native.Mathlib.Omega.{arith}
 use lib.ListN.{length, getD, drop, length-take, length-drop, List·getD-eq-default}
 use lib.Seq.{getD-take, getD-drop}
 use Rattle.buffers.specs.Every.{everyBelow}
 use Rattle.buffers.specs.Splice.{part}
-use Rattle.buffers.proofs.Every.{every-suc, every-not, every-add, every-ext, and-true, and-false-l}
+use Rattle.buffers.proofs.Booleans.{and-false-l}
+use Rattle.buffers.proofs.Every.{every-suc, every-not, every-add, every-ext}
 use Rattle.utf8.specs.Formed.{wellFormed}
 use Rattle.validity_blocks.specs.Windows.{faulty, calm, calmFirst}
 use Rattle.validity_blocks.proofs.Calmness.{calm-read}
@@ -64,7 +66,7 @@ from-none s i = refl
 
 pub from-more : (s : List ℕ) (i n : ℕ) → calmFrom s i n ≡ true → calmAt s (i + n) ≡ true → calmFrom s i (n + 1) ≡ true
 unfolding calmFrom
-from-more s i n p q = every-suc n (λ j. calmAt s (i + j)) ∙ and-true _ _ p q
+from-more s i n p q = every-suc n (λ j. calmAt s (i + j)) ∙ and-intro p q
 
 pub from-fault : (s : List ℕ) (i n k : ℕ) → k < n → calmAt s (i + k) ≡ false → calmFrom s i n ≡ false
 unfolding calmFrom
