@@ -15,9 +15,6 @@ pub every-suc : (n : ℕ) (f : ℕ → Bool) → everyBelow (n + 1) f ≡ (every
 unfolding everyBelow
 every-suc n f = rw add-one refl
 
-pub every-more : (n : ℕ) (f : ℕ → Bool) → everyBelow n f ≡ true → f n ≡ true → everyBelow (n + 1) f ≡ true
-every-more n f p q = every-suc n f ∙ and-intro p q
-
 -- the first index apart
 pub every-cons : (n : ℕ) (f : ℕ → Bool) → everyBelow (suc n) f ≡ (f 0 && everyBelow n (λ i. f (suc i)))
 unfolding everyBelow
