@@ -39,8 +39,8 @@ pub fn write_place(place: Place, out: &mut [u8], i: usize) -> usize
 {
     let start = place.start;
     let end = place.end;
-    out[i] = command_of(place.matched);
     put_u16_le(start.0 as u16, out, i + 1);
     put_u16_le(end.0 as u16, out, i + 3);
+    out[i] = command_of(place.matched);
     i + 5
 }

@@ -1,0 +1,4 @@
+-- Laws of match lists.
+pub mod Entries
+pub mod Places
+pub mod Encoding
