@@ -4,3 +4,4 @@ pub mod Sound
 pub mod BeforeEnd
 pub mod Faults
 pub mod Starting
+pub mod Stretch

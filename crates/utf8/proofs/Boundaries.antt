@@ -13,7 +13,7 @@ use Rattle.buffers.specs.Splice.{part}
 use Rattle.buffers.proofs.Cases.{le-or-lt}
 use Rattle.buffers.proofs.Booleans.{and-false-l}
 use Rattle.utf8.specs.Table.{within}
-use Rattle.utf8.specs.Formed.{announced, asked, formed, wellFormed, continues, boundary}
+use Rattle.utf8.specs.Formed.{announced, asked, formed, wellFormed, continues, boundary, BoundaryCuts}
 use Rattle.utf8.specs.Lengths.{CharLen}
 use Rattle.utf8.proofs.Formed.{none, announced-small, length-asked, asked-later, formed-lead, formed-rest, formed-cut, begins-after, asked-inside, asked-continue, asked-end}
 
@@ -56,6 +56,9 @@ formed-drop s i p e = formed-cut [] s i none p (boundary-begins s i e) .1
 
 pub boundary-of-take : (s : List ℕ) (i : ℕ) → wellFormed s ≡ true → i ≤ length s → wellFormed (take i s) ≡ true → boundary s i ≡ true
 boundary-of-take s i p h q = boundary-at s i h (begins-after [] s i p q)
+
+pub boundary-cuts : BoundaryCuts
+boundary-cuts s i p h = ((λ e. (formed-take s i p e, formed-drop s i p e)), boundary-of-take s i p h)
 
 pub boundary-zero : (s : List ℕ) → wellFormed s ≡ true → boundary s 0 ≡ true
 unfolding formed

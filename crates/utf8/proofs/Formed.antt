@@ -1,7 +1,7 @@
 -- Laws of what a lead byte announces and asks, and of a text that is well-formed from a place on at which columns are
 -- still asked: each of them lies within 80..BF (`Later`).
 use Prim.Native.Nat.{ℕ, zero, suc, _-_, _≤_, _<_}
-use mathlib.Core.Path.{_≡_, ap, refl}
+use mathlib.Core.Path.{_≡_, refl}
 use mathlib.Core.Bool.{Bool, true, false, cond, false≢true}
 use mathlib.Core.List.{List, [], _∷_, _++_}
 use mathlib.Mathlib.Data.Bool.Basic.{and-intro, and-elim-left, and-elim-right}
@@ -9,7 +9,7 @@ use native.Mathlib.Omega.{arith}
 use lib.Dec.{leb, ltb, eqb}
 use lib.ListN.{length, getD, take, drop}
 use lib.Seq.{drop-nil, take-nil}
-use borrow.Author.Tests.{leb-true, leb-false, le-leb, lt-leb, le-ltb, lt-ltb, ne-eqb}
+use borrow.Author.Tests.{leb-true, le-leb, lt-leb, le-ltb, lt-ltb, ne-eqb}
 use Rattle.buffers.proofs.Cases.{clash, le-or-lt}
 use Rattle.buffers.proofs.Booleans.{and-false-l, and-false-r}
 use Rattle.utf8.specs.Table.{Bytes, bytes, within, trail}

@@ -11,7 +11,7 @@ use lib.ListN.{length, getD, take, drop, length-take}
 use lib.Seq.{drop-cons, take-suc, take-add, take-all}
 use Rattle.buffers.specs.Splice.{part}
 use Rattle.utf8.specs.Table.{Bytes, within}
-use Rattle.utf8.specs.Formed.{asked, formed, wellFormed, continues}
+use Rattle.utf8.specs.Formed.{asked, formed, continues}
 use Rattle.utf8.specs.Letters.{lettersFrom, letters, leadAt, leads, LettersLeads}
 use Rattle.utf8.proofs.Formed.{Later, none, asked-later, length-asked, lead-begins, later-continues, later-rest, formed-lead, formed-rest}
 

@@ -104,14 +104,14 @@ row-formed [] [] p = refl
 row-formed [] (b ∷ s) p = absurd (false≢true p)
 row-formed (c ∷ cs) [] p = p
 row-formed (c ∷ cs) (b ∷ s) p =
-    and-intro {a = within c b} (and-elim-left _ (ofRow cs s) p) (row-formed cs s (and-elim-right (within c b) _ p))
+    and-intro (and-elim-left (within c b) _ p) (row-formed cs s (and-elim-right (within c b) _ p))
 
 pub sequence-formed : (s : List ℕ) → ofSome rows s ≡ true → wellFormed s ≡ true
 unfolding formed
 sequence-formed [] p = refl
 sequence-formed (b ∷ s) p =
     let lead : (ltb 0 (announced b) && ofRow (asked b) s) ≡ true = sym (ofSome-lead b s) ∙ p in
-    and-intro {a = ltb 0 (announced b)} (and-elim-left _ (ofRow (asked b) s) lead) (row-formed (asked b) s (and-elim-right (ltb 0 (announced b)) _ lead))
+    and-intro (and-elim-left (ltb 0 (announced b)) _ lead) (row-formed (asked b) s (and-elim-right (ltb 0 (announced b)) _ lead))
 
 -- what the columns cs ask, and then a text that is well-formed row by row
 record Cut (cs : List Bytes) (s : List ℕ) : Type 0 where
@@ -135,7 +135,7 @@ cut (c ∷ cs) (b ∷ s) t =
       head = b ∷ k .head;
       rest = k .rest;
       is = ap (_∷_ b) (k .is);
-      asks = and-intro {a = within c b} (and-elim-left _ (formed cs s) t) (k .asks);
+      asks = and-intro (and-elim-left (within c b) _ t) (k .asks);
       well = k .well;
     }
 

@@ -1,10 +1,10 @@
 -- The working form of Table 3-7: how many bytes a lead byte announces, and between which two numbers the second one is.
-use Prim.Native.Nat.{ℕ}
+use Prim.Native.Nat.{ℕ, _≤_}
 use mathlib.Core.Path.{_≡_}
 use mathlib.Core.Bool.{Bool, true, false, cond, _&&_, not}
 use mathlib.Core.List.{List, [], _∷_}
 use lib.Dec.{leb, ltb, eqb}
-use lib.ListN.{length, getD}
+use lib.ListN.{length, getD, take, drop}
 use Rattle.utf8.specs.Table.{Bytes, bytes, within, trail, WellFormed}
 
 -- RULES 3: how many bytes a lead byte announces, or 0 for 80..C1 and F5..FF
@@ -51,3 +51,11 @@ continues b = within trail b
 -- RULES 3: a place at which a character begins or the text ends (a byte past the text is 0, which continues none)
 unfoldable pub boundary : List ℕ → ℕ → Bool
 boundary s i = leb i (length s) && not (continues (getD s i 0))
+
+-- CLAIM: cut at a boundary, a well-formed text is two of them; and where what stands before a place is well-formed,
+-- the place is a boundary
+abbrev pub BoundaryCuts : Type 0
+BoundaryCuts =
+    (s : List ℕ) (i : ℕ) → wellFormed s ≡ true → i ≤ length s
+    → (boundary s i ≡ true → (wellFormed (take i s) ≡ true) × (wellFormed (drop i s) ≡ true))
+    × (wellFormed (take i s) ≡ true → boundary s i ≡ true)

@@ -3,6 +3,7 @@
 use Prim.Native.Nat.{ℕ, _≤_, _<_, max}
 use mathlib.Core.Path.{_≡_, _∙_, refl, sym}
 use mathlib.Core.Bool.{Bool, true, false, xor, _&&_, _||_, not, and-true, and-false, or-false}
+use mathlib.Mathlib.Data.Bool.Basic.{or-eq-false-eq-eq-false-and-eq-false}
 use borrow.Author.Tests.{le-leb, lt-leb, lt-ltb, le-ltb, ne-eqb, eqb-true}
 use native.Mathlib.Omega.{arith}
 use lib.Dec.{leb, ltb, eqb}
@@ -10,7 +11,7 @@ use Rattle.buffers.proofs.Cases.{clash, true-or-false, le-or-lt}
 use Rattle.buffers.proofs.Booleans.{and-false-r}
 use Rattle.utf8.specs.Table.{bytes, within, trail}
 use Rattle.utf8.specs.Formed.{second}
-use Rattle.utf8.proofs.Formed.{second-trail}
+use Rattle.utf8.proofs.Formed.{second-trail, second-continues, continues-high}
 use Rattle.validity_blocks.specs.Extremes.{fromLead, Plain}
 use Rattle.validity_blocks.specs.Valid.{pending, never, invalid}
 
@@ -138,3 +139,28 @@ no-third b3 b2 b1 b0 h = rw (lt-leb 0xF0 b3 h)
 pub no-second : (b2 b1 b0 : ℕ) → b2 < 0xE0 → invalid 0 0 b1 b0 ≡ invalid 0 b2 b1 b0
 unfolding invalid pending
 no-second b2 b1 b0 h = rw (lt-leb 0xE0 b2 h)
+
+-- what stands in no row
+never-low : (b : ℕ) → b < 0xC0 → never b ≡ false
+unfolding never
+never-low b h = simp (lt-leb 0xC0 b h, lt-leb 0xF5 b (omega arith))
+
+pub never-lead : (b : ℕ) → never b ≡ false → 0xC0 ≤ b → (0xC2 ≤ b) × (b < 0xF5)
+unfolding never
+never-lead b e h =
+    le-or-lt 0xC2 b
+    (λ big. le-or-lt 0xF5 b (λ top. clash (never b) (simp (le-ltb b 0xC2 big, le-leb 0xC0 b h, le-leb 0xF5 b top)) e) (λ low. (big, low)))
+    (λ small. clash (never b) (simp (lt-ltb b 0xC2 small, le-leb 0xC0 b h)) e)
+
+module _ (b3 b2 b1 b : ℕ) where
+  pub invalid-never : invalid b3 b2 b1 b ≡ false → never b ≡ false
+  unfolding invalid
+  invalid-never e = or-eq-false-eq-eq-false-and-eq-false (xor (pending b3 b2 b1) (within (second b1) b)) (never b) .0 e .1
+
+  -- where a character is pending, a byte can stand exactly when it is in the range that b1 leaves for it
+  pub valid-pending : pending b3 b2 b1 ≡ true → not (invalid b3 b2 b1 b) ≡ within (second b1) b
+  unfolding invalid xor
+  valid-pending p =
+      true-or-false (within (second b1) b)
+      (λ e. rw (p, e, never-low b (continues-high b (second-continues b1 b e))))
+      (λ e. rw (p, e))

@@ -60,23 +60,23 @@ de-morgan true true = refl
 de-morgan true false = refl
 de-morgan false b = refl
 
-pub record ValidSoFar (s : List ℕ) (bad : Bool) (j : ℕ) : Type 0 where
+pub record InvalidSoFar (s : List ℕ) (bad : Bool) (j : ℕ) : Type 0 where
   pub most : j ≤ length s - 3
   pub says : bad ≡ not (validFirst s j)
 
-pub valid-none : {s : List ℕ} → ValidSoFar s false 0
+pub invalid-none : {s : List ℕ} → InvalidSoFar s false 0
 unfolding validFirst everyBelow
-valid-none = record { most = omega arith; says = refl }
+invalid-none = record { most = omega arith; says = refl }
 
-pub valid-more : {s : List ℕ} {j : ℕ} {bad : Bool} (f : Bool) → ValidSoFar s bad j → j < length (part s 3 (length s)) → not f ≡ valid (drop j s) → ValidSoFar s (bad || f) (j + 1)
+pub invalid-more : {s : List ℕ} {j : ℕ} {bad : Bool} (f : Bool) → InvalidSoFar s bad j → j < length (part s 3 (length s)) → not f ≡ valid (drop j s) → InvalidSoFar s (bad || f) (j + 1)
 unfolding validFirst
-valid-more {s} {j} f k h q =
+invalid-more {s} {j} f k h q =
     record {
       most = omega (arith, simp (length-take, length-drop) at h);
       says = rw (every-suc j (λ (i : ℕ). valid (drop i s)), k .says, ← q) (de-morgan (everyBelow j (λ (i : ℕ). valid (drop i s))) f);
     }
 
-pub valid-done : {s : List ℕ} {j : ℕ} {bad : Bool} → ValidSoFar s bad j → length (part s 3 (length s)) ≤ j → not bad ≡ validFirst s (length s - 3)
-valid-done {s} {j} k h =
+pub invalid-done : {s : List ℕ} {j : ℕ} {bad : Bool} → InvalidSoFar s bad j → length (part s 3 (length s)) ≤ j → not bad ≡ validFirst s (length s - 3)
+invalid-done {s} {j} k h =
     let full : j ≡ length s - 3 = omega (arith, k .most, simp (length-take, length-drop) at h) in
     ap not (k .says) ∙ Bool·not-not (validFirst s j) ∙ ap (validFirst s) full

@@ -2,12 +2,12 @@
 use Prim.Native.Nat.{_-_}
 use lib.ListN.{length}
 use native.Mathlib.Omega.{arith}
-use Rattle.validity_blocks.proofs.Valid.{ValidSoFar, valid-none, valid-more, valid-done, read-plain, rest-plain}
+use Rattle.validity_blocks.proofs.Valid.{InvalidSoFar, invalid-none, invalid-more, invalid-done, read-plain, rest-plain}
 use Rattle.validity_blocks.proofs.blocks.valid_plain.Statement.{statement}
 use Rattle.validity_blocks.proofs.blocks.valid_plain.Tie as tie
 
 abbrev Inv-loop : tie.InvT-loop
-Inv-loop s s2 s1 s0 bad₀ j₀ bad j = ValidSoFar s bad j
+Inv-loop s s2 s1 s0 bad₀ j₀ bad j = InvalidSoFar s bad j
 
 abbrev μ-loop : tie.MeasureT-loop
 μ-loop s s2 s1 s0 bad₀ j₀ bad j = length s - j
@@ -22,7 +22,7 @@ loop-again c =
     let test = c .before .before .before .before in
     let head = test .before in
     let low = head .before .before .before .before .before .pre .1 in
-    valid-more _ (head .loop .inv) (test .loop-test .taken) (read-plain _ _ low (c .invalid-plain .ensures))
+    invalid-more _ (head .loop .inv) (test .loop-test .taken) (read-plain _ _ low (c .invalid-plain .ensures))
 
 pub valid-plain-spec : {M : Type 1} → statement M
 valid-plain-spec =
@@ -39,7 +39,7 @@ valid-plain-spec =
     (λ c. omega arith)
     (λ c. omega arith)
     (λ c. omega arith)
-    (λ c. valid-none)
+    (λ c. invalid-none)
     (λ c. omega arith)
     (λ c. omega arith)
     (λ c. omega arith)
@@ -47,4 +47,4 @@ valid-plain-spec =
     (λ c. omega arith)
     (λ c. omega arith)
     loop-again
-    (λ c. valid-done (c .before .loop .inv) (c .loop-test .left)))
+    (λ c. invalid-done (c .before .loop .inv) (c .loop-test .left)))

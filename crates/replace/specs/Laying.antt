@@ -1,43 +1,18 @@
--- What the inner functions of `replace` are told and say: the size of a result, the list judged, one place laid down, all of them.
+-- What the inner functions of `replace` are told and say: one place laid down, all of them.
 use Prim.Native.Nat.{ℕ, _+_, _-_, _≤_}
 use mathlib.Core.Path.{_≡_}
-use mathlib.Core.Bool.{Bool, true, cond, _&&_}
-use mathlib.Core.List.{List, [], _∷_}
-use lib.Dec.{leb}
+use mathlib.Core.Bool.{true}
+use mathlib.Core.List.{List}
 use lib.ListN.{length}
 use Rattle.buffers.specs.Splice.{part, splice, overlay}
-use Rattle.note.specs.declared.Refusal.the-variants.{BadMatches, NoRoom}
-use Rattle.note.specs.declared.Verdict.{Verdict}
-use Rattle.note.specs.declared.Verdict.the-variants.{Accepted, Refused}
-use Rattle.note.specs.Notes.{limit}
 use Rattle.pattern.specs.declared.Place.{Place}
-use Rattle.pattern.specs.declared.Place.the-variants.{Unmatched, Matched, Broken}
-use Rattle.pattern.specs.Places.{placesOf, fitsAt, covers}
+use Rattle.pattern.specs.Entries.{placesOf}
+use Rattle.pattern.specs.Places.{fitsAt, coversFrom}
 use Rattle.replace.specs.Replacing.{piece, laid, carried}
-
--- how many bytes a place gives beside a filler of `wide` bytes
-abbrev pub sizeOf : ℕ → Place → ℕ
-sizeOf wide (Unmatched start end) = end .0 - start .0
-sizeOf wide (Matched start end) = wide
-sizeOf wide Broken = 0
-
-unfoldable pub sizes : ℕ → List Place → ℕ
-sizes wide [] = 0
-sizes wide (p ∷ ps) = sizeOf wide p + sizes wide ps
-
--- 9, by the size alone
-unfoldable pub sizeFits : ℕ → ℕ → ℕ → ℕ → Bool
-sizeFits size roomT roomS roomE = leb size limit && leb size roomT && leb size roomS && leb size roomE
-
--- 8, then 9
-unfoldable pub listVerdict : List ℕ → List ℕ → ℕ → ℕ → ℕ → ℕ → Verdict
-listVerdict text list wide roomT roomS roomE =
-    cond (covers text (placesOf list))
-    (cond (sizeFits (sizes wide (placesOf list)) roomT roomS roomE) Accepted (Refused NoRoom))
-    (Refused BadMatches)
+use Rattle.replace.specs.Sizes.{sizeOf, sizes}
 
 -- an unmatched place's bytes and alignments, from `from` to `to`, and room for them
-pub record Keeping (text starts ends : List ℕ) (from to : ℕ) (out starts₀ ends₀ : List ℕ) (at : ℕ) : Type 0 where
+pub record KeepRoom (text starts ends : List ℕ) (from to : ℕ) (out starts₀ ends₀ : List ℕ) (at : ℕ) : Type 0 where
   pub onward : from ≤ to
   pub in-text : to ≤ length text
   pub in-starts : to ≤ length starts
@@ -46,20 +21,21 @@ pub record Keeping (text starts ends : List ℕ) (from to : ℕ) (out starts₀ 
   pub starts-room : at + (to - from) ≤ length starts₀
   pub ends-room : at + (to - from) ≤ length ends₀
 
-pub record Kept (text starts ends : List ℕ) (from to : ℕ) (out₀ starts₀ ends₀ : List ℕ) (at : ℕ) (out starts₁ ends₁ : List ℕ) : Type 0 where
+pub record Kept (text starts ends : List ℕ) (from to : ℕ) (out₀ starts₀ ends₀ : List ℕ) (at : ℕ)
+    (out starts₁ ends₁ : List ℕ) : Type 0 where
   pub text-is : out ≡ splice out₀ at (part text from to)
   pub starts-are : starts₁ ≡ splice starts₀ at (part starts from to)
   pub ends-are : ends₁ ≡ splice ends₀ at (part ends from to)
 
--- the filler with the alignment of the byte before `to`, and room for it
-pub record Filling (starts ends : List ℕ) (to : ℕ) (content out starts₀ ends₀ : List ℕ) (at : ℕ) : Type 0 where
+-- the content with the alignment of the byte before `to`, and room for it
+pub record ContentRoom (starts ends : List ℕ) (to : ℕ) (content out starts₀ ends₀ : List ℕ) (at : ℕ) : Type 0 where
   pub in-starts : to ≤ length starts
   pub in-ends : to ≤ length ends
   pub text-room : at + length content ≤ length out
   pub starts-room : at + length content ≤ length starts₀
   pub ends-room : at + length content ≤ length ends₀
 
-pub record Filled (starts ends : List ℕ) (to : ℕ) (content out₀ starts₀ ends₀ : List ℕ) (at : ℕ) (out starts₁ ends₁ : List ℕ) : Type 0 where
+pub record ContentLaid (starts ends : List ℕ) (to : ℕ) (content out₀ starts₀ ends₀ : List ℕ) (at : ℕ) (out starts₁ ends₁ : List ℕ) : Type 0 where
   pub text-is : out ≡ splice out₀ at content
   pub starts-are : starts₁ ≡ splice starts₀ at (carried (length content) starts to)
   pub ends-are : ends₁ ≡ splice ends₀ at (carried (length content) ends to)
@@ -75,7 +51,8 @@ pub record Fitting (text starts ends content : List ℕ) (p : Place) (out starts
   pub ends-room : at + sizeOf (length content) p ≤ length ends₀
 
 -- what it gives stands in the buffers from `at` on
-pub record PlaceLaid (text starts ends content : List ℕ) (p : Place) (out₀ starts₀ ends₀ : List ℕ) (at r : ℕ) (out starts₁ ends₁ : List ℕ) : Type 0 where
+pub record PlaceLaid (text starts ends content : List ℕ) (p : Place) (out₀ starts₀ ends₀ : List ℕ) (at r : ℕ)
+    (out starts₁ ends₁ : List ℕ) : Type 0 where
   pub reached : r ≡ at + sizeOf (length content) p
   pub text-is : out ≡ splice out₀ at (piece (λ end. content) p text)
   pub starts-are : starts₁ ≡ splice starts₀ at (piece (carried (length content) starts) p starts)
@@ -85,13 +62,14 @@ pub record PlaceLaid (text starts ends content : List ℕ) (p : Place) (out₀ s
 pub record Ready (text starts ends list content out starts₀ ends₀ : List ℕ) : Type 0 where
   pub one-start : length starts ≡ length text
   pub one-end : length ends ≡ length text
-  pub covered : covers text (placesOf list) ≡ true
+  pub covered : coversFrom text 0 (placesOf list) ≡ true
   pub text-room : sizes (length content) (placesOf list) ≤ length out
   pub starts-room : sizes (length content) (placesOf list) ≤ length starts₀
   pub ends-room : sizes (length content) (placesOf list) ≤ length ends₀
 
 -- the whole result stands in front
-pub record AllLaid (text starts ends list content out₀ starts₀ ends₀ out starts₁ ends₁ : List ℕ) : Type 0 where
+pub record AllLaid (text starts ends list content out₀ starts₀ ends₀ : List ℕ) (r : ℕ) (out starts₁ ends₁ : List ℕ) : Type 0 where
+  pub reached : r ≡ length (laid (λ end. content) (placesOf list) text)
   pub text-is : out ≡ overlay (laid (λ end. content) (placesOf list) text) out₀
   pub starts-are : starts₁ ≡ overlay (laid (carried (length content) starts) (placesOf list) starts) starts₀
   pub ends-are : ends₁ ≡ overlay (laid (carried (length content) ends) (placesOf list) ends) ends₀
