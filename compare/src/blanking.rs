@@ -1,16 +1,23 @@
-//! What can still be told about the text under a matched place: document 01's claim about two calls of `replace`, both
-//! ways, on pairs of notes.
+//! What can still be told about the text under a matched place: the claim of docs/RULES.md about two calls of `replace`,
+//! both ways, on pairs of notes, and the call that answers for both.
 
-use crate::library::{self, Count};
+use crate::library::{self, Count, Publishing};
 use crate::note::Note;
-use crate::notes::FAULTS;
+use crate::notes::{self, FAULTS};
 use crate::places::{self, Place};
 use crate::random::Random;
-use crate::replace::{self, sound_notes, FILLERS};
-use crate::samples;
-use crate::tally::Tally;
+use crate::replace;
+use crate::samples::{self, sound_notes, FILLERS};
+use crate::tally::{self, Report, Tally};
 use crate::texts;
-use tokenizers::NormalizedString;
+
+pub fn compare(report: &mut Report) {
+    report.call("two calls of zulmyren_replace, zulmyren_published_alike", "the claim about them", |tally| {
+        every_two_notes(tally);
+        any_two_notes(tally);
+    });
+    report.call("zulmyren_published_alike", "two calls of NormalizedString::replace", refused_notes);
+}
 
 /// The result's cleaned text and alignments.
 type Published = (Vec<u8>, Vec<u16>, Vec<u16>);
@@ -19,7 +26,8 @@ type Published = (Vec<u8>, Vec<u16>, Vec<u16>);
 fn published(note: &Note, list: &[u8], filler: &[u8]) -> Option<Published> {
     let room = note.normalized.len() + filler.len() * list.len() / 5;
     let (mut text, mut starts, mut ends) = (vec![0; room], vec![0; room], vec![0; room]);
-    let answer = library::replace(note, list, filler, &mut text, &mut starts, &mut ends);
+    let lent = Publishing { text: &mut text, starts: &mut starts, ends: &mut ends };
+    let answer = library::replace(note, list, filler, lent);
     text.truncate(answer.count as usize);
     starts.truncate(answer.count as usize);
     ends.truncate(answer.count as usize);
@@ -62,21 +70,17 @@ pub fn expected_alike(one: &Note, other: &Note, list: &[u8], filler: &[u8]) -> C
     }
 }
 
-/// Each fault of either note beside each of the other, lists that cover the text or do not, fillers torn or not.
-pub fn refused_notes(tally: &mut Tally) {
+/// Each fault of either note beside each of the other, lists that cover the text or do not, fillers well-formed or not.
+fn refused_notes(tally: &mut Tally) {
     tally.family("every two notes out of ten, sound or with a fault, three lists, three fillers");
-    let fresh = Note::from(&NormalizedString::from("aéb"));
-    let mut notes = vec![fresh; 1 + FAULTS.len()];
-    for (note, fault) in notes[1..].iter_mut().zip(FAULTS) {
-        fault(note);
-    }
+    let notes: Vec<Note> = [0].into_iter().chain((0..FAULTS.len()).map(|i| 1 << i)).map(notes::with).collect();
     let lists = [vec![((0, 1), false), ((1, 4), true)], vec![((0, 4), true)], vec![((0, 2), true), ((2, 4), false)]];
     for (one, other) in notes.iter().flat_map(|one| notes.iter().map(move |other| (one, other))) {
         for list in lists.iter().map(|places| places::bytes(places)) {
             for filler in [&b"x"[..], b"", b"\xFF"] {
-                let (ours, wanted) =
-                    (library::published_alike(one, other, &list, filler), expected_alike(one, other, &list, filler));
-                tally.case(crate::tally::refusal(ours.refusal), ours != wanted, || {
+                let ours = library::published_alike(one, other, &list, filler);
+                let wanted = expected_alike(one, other, &list, filler);
+                tally.case(tally::refusal(ours.refusal), ours != wanted, || {
                     format!("ours {ours:?}, wanted {wanted:?}, list {list:?}, filler {filler:?}, {one}; {other}")
                 });
             }
@@ -84,7 +88,7 @@ pub fn refused_notes(tally: &mut Tally) {
     }
 }
 
-pub fn every_two_notes(tally: &mut Tally) {
+fn every_two_notes(tally: &mut Tally) {
     tally.family("every two sound notes of five texts of 2 bytes, every list with up to 2 empty places, 3 fillers");
     let notes: Vec<Note> = ["ab", "ac", "xb", "é", "è"]
         .iter()
@@ -104,7 +108,7 @@ pub fn every_two_notes(tally: &mut Tally) {
     }
 }
 
-pub fn any_two_notes(tally: &mut Tally) {
+fn any_two_notes(tally: &mut Tally) {
     tally.family(
         "any note to 200 bytes and the same with its matched places altered, and often one thing more, any list",
     );

@@ -6,7 +6,7 @@ use std::process::ExitCode;
 /// Differences that a family prints; it counts them all.
 const PRINTED: usize = 5;
 
-/// Document 01's refusal table: number and word. 0 stands for acceptance.
+/// The refusals of docs/RULES.md: number and word. 0 stands for acceptance.
 const REFUSALS: [&str; 12] = [
     "accepted",
     "1 torn",
@@ -41,6 +41,15 @@ impl Report {
         tally.print_answers();
         self.passed += tally.passed;
         self.failed += tally.failed;
+    }
+
+    /// A test that is no family.
+    pub fn test(&mut self, passed: bool) {
+        if passed {
+            self.passed += 1;
+        } else {
+            self.failed += 1;
+        }
     }
 
     pub fn finish(self) -> ExitCode {
