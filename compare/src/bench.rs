@@ -1,5 +1,5 @@
-//! Times of our calls beside others that a user could pick: same process, same texts, buffers prepared before. A row with
-//! an aim counts as a test, and fails where the aim is missed.
+//! Times of our calls beside others that a user could pick: same process, same texts, buffers prepared before. A row
+//! with an aim counts as a test, and fails where the aim is missed.
 
 mod characters;
 mod convert;
@@ -40,8 +40,8 @@ fn heading() {
     println!(
         "Texts of up to {} bytes; times in microseconds; ratio: ours / theirs.
 regular: a literal every 45 bytes; the best of up to {} runs, {RUNS} of ours and {RUNS} of theirs by turns.
-rotation: 12 texts with 13 to 63 bytes between literals, one after the other, so that none is learned; the mean of a text
-over the best half of the turns. An aim is for the regular layout: ASCII, mixed, CJK, emoji.",
+rotation: 12 texts with 13 to 63 bytes between literals, one after the other, so that none is learned; the mean of a
+text over the best half of the turns. An aim is for the regular layout: ASCII, mixed, CJK, emoji.",
         layouts::LEN,
         ROUNDS * RUNS
     );
@@ -183,8 +183,8 @@ fn timed<T>(work: impl FnOnce() -> T) -> Duration {
     time
 }
 
-/// glibc's `mallopt`. The original's alignments are 960 KB before and after an edit, more than glibc keeps by default: taking
-/// fresh pages from the system can be more than half of a run.
+/// glibc's `mallopt`. The original's alignments are 960 KB before and after an edit, more than glibc keeps by default:
+/// taking fresh pages from the system can be more than half of a run.
 mod heap {
     extern "C" {
         fn mallopt(parameter: i32, value: i32) -> i32;

@@ -1,5 +1,5 @@
-//! What can still be told about the text under a matched place: the claim of docs/RULES.md about two calls of `replace`,
-//! both ways, on pairs of notes, and the call that answers for both.
+//! What can still be told about the text under a matched place: the claim of docs/RULES.md about two calls of
+//! `replace`, both ways, on pairs of notes, and the call that answers for both.
 
 use crate::library::{self, Count, Publishing};
 use crate::note::Note;

@@ -3,6 +3,7 @@
 use crate::every;
 use crate::library::{self, Count};
 use crate::random::Random;
+use crate::refusals::{ILL_FORMED, NOT_BOUNDARY, TOO_LONG};
 use crate::samples::ADDRESSES;
 use crate::tally::{self, hex, Report, Tally};
 use crate::texts::{self, KINDS, LIMIT, OFFSETS, UNITS};
@@ -173,15 +174,15 @@ fn empty_text_anywhere(tally: &mut Tally) {
 pub fn expected_count(text: &[u8], start: u32, end: u32) -> Count {
     let refused = |refusal| Count { refusal, count: 0 };
     if text.len() > LIMIT {
-        return refused(2);
+        return refused(TOO_LONG);
     }
     let Ok(text) = from_utf8(text) else {
-        return refused(1);
+        return refused(ILL_FORMED);
     };
     // `str::get` has no part for an end past the text or inside a character, nor for start > end.
     match text.get(start as usize..end as usize) {
         Some(part) => Count { refusal: 0, count: part.chars().count() as u32 },
-        None => refused(5),
+        None => refused(NOT_BOUNDARY),
     }
 }
 

@@ -7,6 +7,7 @@ use crate::lists::{self, List};
 use crate::note::Note;
 use crate::notes;
 use crate::random::Random;
+use crate::refusals::{ILL_FORMED, MISSING, TOO_LONG};
 use crate::samples::{self, ADDRESSES, DAMAGES, DAMAGES_AT};
 use crate::tally::{self, hex, Report, Tally};
 use crate::texts::{self, KINDS, LIMIT};
@@ -246,7 +247,7 @@ fn every_range(tally: &mut Tally, call: &Call) {
     }
 }
 
-/// Faults of the note, and ranges that convert to nothing: 10 comes after them all.
+/// Faults of the note, and ranges that convert to nothing: `MISSING` comes after them all.
 fn every_set_of_faults(tally: &mut Tally, call: &Call) {
     tally.family("every set of faults out of nine, with ranges that convert and that do not");
     for sample in samples_with_faults() {
@@ -347,16 +348,16 @@ fn nothing_anywhere(tally: &mut Tally, call: &Call) {
 
 pub fn expected_part(original: &[u8], normalized: &[u8], of_original: bool, start: u32, end: u32) -> u32 {
     if original.len().max(normalized.len()) > LIMIT {
-        return 2;
+        return TOO_LONG;
     }
     let (Ok(original), Ok(normalized)) = (from_utf8(original), from_utf8(normalized)) else {
-        return 1;
+        return ILL_FORMED;
     };
     let text = if of_original { original } else { normalized };
     if text.get(start as usize..end as usize).is_some() {
         0
     } else {
-        10
+        MISSING
     }
 }
 

@@ -5,6 +5,7 @@ use crate::lent::Lent;
 use crate::library::{self, Count};
 use crate::places::{self, Place};
 use crate::random::Random;
+use crate::refusals::{ILL_FORMED, NO_ROOM, TOO_LONG};
 use crate::samples::{self, ADDRESSES};
 use crate::tally::{self, hex, Report, Tally};
 use crate::texts::{self, LIMIT};
@@ -55,11 +56,11 @@ fn theirs(text: &str, literal: &str) -> Option<Vec<Place>> {
 /// The list's bytes, or the refusal that docs/RULES.md gives in any room.
 pub fn expected(text: &[u8], literal: &[u8]) -> Result<Vec<u8>, u32> {
     if text.len() > LIMIT {
-        return Err(2);
+        return Err(TOO_LONG);
     }
     match (from_utf8(text), from_utf8(literal)) {
         (Ok(text), Ok(literal)) => Ok(places::bytes(&second(text, literal))),
-        _ => Err(1),
+        _ => Err(ILL_FORMED),
     }
 }
 
@@ -78,7 +79,7 @@ fn find(tally: &mut Tally, text: &[u8], literal: &[u8], rooms: impl FnOnce(usize
         let ours = library::find_matches(text, literal, out.part());
         let (refusal, bytes): (u32, &[u8]) = match &list {
             Err(refusal) => (*refusal, &[]),
-            Ok(list) if room < list.len() => (9, &[]),
+            Ok(list) if room < list.len() => (NO_ROOM, &[]),
             Ok(list) => (0, list),
         };
         let wanted = Count { refusal, count: bytes.len() as u32 };
@@ -167,7 +168,9 @@ fn any_texts(tally: &mut Tally) {
 }
 
 fn around_the_limit(tally: &mut Tally) {
-    tally.family("texts of 65533 to 65538 bytes: a match at the end, at every byte, nowhere; beside a torn literal");
+    tally.family(
+        "texts of 65533 to 65538 bytes: a match at the end, at every byte, nowhere; beside an ill-formed literal",
+    );
     for len in LIMIT - 2..=LIMIT + 3 {
         let mut text = vec![b'a'; len];
         for literal in [&b"a"[..], b"aa", b"b", b"", b"\xFF"] {
@@ -197,7 +200,7 @@ fn nothing_anywhere(tally: &mut Tally) {
     for address in ADDRESSES {
         let (text, out) = (address as *const u8, address as *mut u8);
         let ours = Count::from(unsafe { library::zulmyren_find_matches(text, 0, text, 0, out, 0) });
-        let no_room = Count { refusal: 9, count: 0 };
+        let no_room = Count { refusal: NO_ROOM, count: 0 };
         tally.case(tally::refusal(ours.refusal), ours != no_room, || format!("ours {ours:?} at {address:#x}"));
     }
 }

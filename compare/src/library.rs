@@ -1,9 +1,10 @@
 //! The calls of the proved library: include/zulmyren.h in Rust, and each call over slices.
 
 use crate::note::Note;
+use crate::refusals::MISSING;
 
-/// Declares calls, or the type of some, by what they are lent: `note` for a note's nine arguments, `read` and `write` for
-/// a buffer's pointer and length, `plain` for a number.
+/// Declares calls, or the type of some, by what they are lent: `note` for a note's nine arguments, `read` and `write`
+/// for a buffer's pointer and length, `plain` for a number.
 macro_rules! calls {
     ($($what:tt $name:ident($($lent:tt)*) -> $answer:ty;)*) => {
         $(calls!(@ $what $name -> $answer, [] $($lent)*);)*
@@ -100,12 +101,12 @@ impl Offsets {
         Offsets { refusal, start: 0, end: 0 }
     }
 
-    /// 0 beside the two numbers, or 10 where there are none.
+    /// 0 beside the two numbers, or a refusal where there are none.
     pub fn of<T: TryInto<u32>>(numbers: Option<(T, T)>) -> Self {
         let narrow = |number: T| number.try_into().ok().expect("a number of 32 bits");
         match numbers {
             Some((start, end)) => Offsets { refusal: 0, start: narrow(start), end: narrow(end) },
-            None => Offsets::refused(10),
+            None => Offsets::refused(MISSING),
         }
     }
 }

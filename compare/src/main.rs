@@ -1,5 +1,5 @@
-//! Compares the proved library with the Rust original, call by call, measures both (`bench`), and writes the list of the
-//! original's answers that crates/replay replays (`list`).
+//! Compares the proved library and the program `redact` with the Rust original, call by call, measures the library
+//! (`bench`), and writes the list of the original's answers that crates/replay replays (`list`).
 //! Each module of calls has a file whose function `compare` has the families; the bench's tables stand below `bench`.
 
 mod answers;
@@ -21,6 +21,7 @@ mod positions;
 mod program;
 mod random;
 mod redact;
+mod refusals;
 mod replace;
 mod samples;
 mod tally;

@@ -1,5 +1,6 @@
 //! A note as the library is lent it, and a second check of its soundness, written from docs/RULES.md over `core::str`.
 
+use crate::refusals::{ILL_FORMED, LENGTH_MISMATCH, MISALIGNED, TOO_LONG};
 use crate::tally::{hex, numbers};
 use crate::texts::LIMIT;
 use std::fmt;
@@ -28,20 +29,20 @@ impl From<&NormalizedString> for Note {
 }
 
 impl Note {
-    /// 0, or the first met of 2, 3, 1 and 4.
+    /// 0, or the first refusal met.
     pub fn refusal(&self) -> u32 {
         let shifted = self.original_shift as usize + self.original.len();
         if self.normalized.len().max(shifted) > LIMIT {
-            return 2;
+            return TOO_LONG;
         }
         let bytes = self.normalized.len();
         if (self.starts.len(), self.ends.len()) != (bytes, bytes) {
-            return 3;
+            return LENGTH_MISMATCH;
         }
         match (std::str::from_utf8(&self.original), std::str::from_utf8(&self.normalized)) {
             (Ok(original), Ok(normalized)) if self.is_sound(original, normalized) => 0,
-            (Ok(_), Ok(_)) => 4,
-            _ => 1,
+            (Ok(_), Ok(_)) => MISALIGNED,
+            _ => ILL_FORMED,
         }
     }
 

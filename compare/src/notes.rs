@@ -5,6 +5,7 @@ use crate::lent::Lent;
 use crate::library;
 use crate::note::Note;
 use crate::random::Random;
+use crate::refusals::{ILL_FORMED, NO_ROOM, TOO_LONG};
 use crate::samples::{self, ADDRESSES, DAMAGES, DAMAGES_AT};
 use crate::tally::{self, hex, Report, Tally};
 use crate::texts::{self, KINDS, LIMIT, OFFSETS, UNITS};
@@ -36,9 +37,9 @@ pub fn compare(report: &mut Report) {
 /// The note that the Rust original makes of a text, or the refusal that docs/RULES.md gives it.
 pub fn expected_from_text(text: &[u8]) -> Result<Note, u32> {
     if text.len() > LIMIT {
-        return Err(2);
+        return Err(TOO_LONG);
     }
-    let text = from_utf8(text).map_err(|_| 1_u32)?;
+    let text = from_utf8(text).map_err(|_| ILL_FORMED)?;
     Ok(Note::from(&NormalizedString::from(text)))
 }
 
@@ -50,7 +51,7 @@ fn from_text(tally: &mut Tally, text: &[u8], rooms: impl IntoIterator<Item = (us
         let ours = library::from_text(text, starts.part(), ends.part());
         let (theirs, their_starts, their_ends): (u32, &[u16], &[u16]) = match &note {
             Err(refusal) => (*refusal, &[], &[]),
-            Ok(_) if room.0.min(room.1) < text.len() => (9, &[], &[]),
+            Ok(_) if room.0.min(room.1) < text.len() => (NO_ROOM, &[], &[]),
             Ok(note) => (0, &note.starts, &note.ends),
         };
         let starts_hold = starts.holds(their_starts);
@@ -297,7 +298,7 @@ fn notes_of_the_original(tally: &mut Tally) {
         let note = Note::from(&samples::edited(len, &mut random));
         let ours = library::check_note(&note);
         let second = note.refusal();
-        let differs = ours != second || ![0, 2].contains(&second);
+        let differs = ours != second || ![0, TOO_LONG].contains(&second);
         tally.case(tally::refusal(ours), differs, || format!("ours {ours}, second check {second}: {note}"));
     }
 }

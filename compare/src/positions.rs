@@ -4,6 +4,7 @@ use crate::every;
 use crate::library::{self, Offsets};
 use crate::lists::{self, List};
 use crate::random::Random;
+use crate::refusals::{ILL_FORMED, TOO_LONG};
 use crate::samples::{self, ADDRESSES};
 use crate::tally::{self, hex, Report, Tally};
 use crate::texts::{self, KINDS, LIMIT, OFFSETS, UNITS};
@@ -40,9 +41,9 @@ pub struct Sample {
 impl From<Vec<u8>> for Sample {
     fn from(text: Vec<u8>) -> Self {
         let theirs = match from_utf8(&text) {
-            _ if text.len() > LIMIT => Err(2),
+            _ if text.len() > LIMIT => Err(TOO_LONG),
             Ok(text) => Ok(Converter::new(text)),
-            Err(_) => Err(1),
+            Err(_) => Err(ILL_FORMED),
         };
         Sample { text, theirs }
     }
@@ -214,7 +215,8 @@ pub fn shuffle<T>(list: &mut [T], random: &mut Random) {
 }
 
 fn lists_in_every_room(tally: &mut Tally) {
-    tally.family("texts whole, torn, overlong and both, lists of every two lengths to 3 in every three rooms to 4");
+    tally
+        .family("texts well-formed or not, too long or not, lists of every two lengths to 3 in every three rooms to 4");
     let long = |character: &str| texts::repeated(character, LIMIT + 1).into_bytes();
     let texts: [Vec<u8>; 6] =
         [vec![], "aéb".into(), b"a\xC3".into(), long("a"), long("漢"), [long("a"), b"\xFF".into()].concat()];

@@ -9,6 +9,7 @@ use crate::note::Note;
 use crate::notes;
 use crate::places;
 use crate::random::Random;
+use crate::refusals::{ILL_FORMED, NO_ROOM};
 use crate::replace;
 use crate::samples::{self, FILLERS};
 use crate::tally::{self, hex, Report, Tally};
@@ -35,7 +36,7 @@ pub struct Redacted {
     pub published: Note,
 }
 
-/// The lengths of the lent buffers, in their order in the call: starts, ends, list, and the published text, starts, ends.
+/// The lengths of the lent buffers, in the call's order: starts, ends, list, and the published text, starts, ends.
 type Rooms = [usize; 6];
 
 impl Redacted {
@@ -49,7 +50,7 @@ impl Redacted {
 pub fn expected([text, literal, filler]: [&[u8]; 3]) -> Result<Redacted, u32> {
     let list = find::expected(text, literal)?;
     let fresh = notes::expected_from_text(text)?;
-    let filler = from_utf8(filler).map_err(|_| 1_u32)?;
+    let filler = from_utf8(filler).map_err(|_| ILL_FORMED)?;
     let [text, literal] = [text, literal].map(|string| from_utf8(string).expect("it was judged"));
     let places = places::read(&list).expect("the second implementation's list");
     let published = replace::published(NormalizedString::from(text), literal, filler, &places)?;
@@ -82,7 +83,7 @@ fn redact(tally: &mut Tally, strings: [&[u8]; 3], rooms: impl FnOnce(Rooms) -> V
     for room in rooms(sizes) {
         let (refusal, wanted) = match &result {
             Err(refusal) => (*refusal, &nothing),
-            Ok(_) if room.iter().zip(sizes).any(|(&room, size)| room < size) => (9, &nothing),
+            Ok(_) if room.iter().zip(sizes).any(|(&room, size)| room < size) => (NO_ROOM, &nothing),
             Ok(result) => (0, result),
         };
         let (ours, held) = in_rooms(strings, room, wanted);

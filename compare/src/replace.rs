@@ -8,6 +8,7 @@ use crate::note::Note;
 use crate::notes;
 use crate::places::{self, Given, Place};
 use crate::random::Random;
+use crate::refusals::{BAD_MATCHES, ILL_FORMED, LENGTH_MISMATCH, MISALIGNED, NO_ROOM, TOO_LONG};
 use crate::samples::{self, sound_notes, ADDRESSES, FILLERS};
 use crate::tally::{self, hex, Report, Tally};
 use crate::texts::{self, Kind, LIMIT};
@@ -25,7 +26,7 @@ pub fn compare(report: &mut Report) {
         results_around_the_limit(tally);
         fillers_and_lists_past_the_limit(tally);
         damaged_lists(tally);
-        torn_fillers(tally);
+        ill_formed_fillers(tally);
         every_set_of_faults(tally);
         damaged_notes(tally);
         nothing_anywhere(tally);
@@ -35,20 +36,20 @@ pub fn compare(report: &mut Report) {
 /// The note that the Rust original makes, or the refusal that docs/RULES.md gives in any room.
 pub fn expected(note: &Note, list: &[u8], filler: &[u8]) -> Result<Note, u32> {
     let refusal = note.refusal();
-    if [2, 3, 1].contains(&refusal) {
+    if [TOO_LONG, LENGTH_MISMATCH, ILL_FORMED].contains(&refusal) {
         return Err(refusal);
     }
-    let filler = from_utf8(filler).map_err(|_| 1_u32)?;
-    if refusal == 4 {
-        return Err(4);
+    let filler = from_utf8(filler).map_err(|_| ILL_FORMED)?;
+    if refusal == MISALIGNED {
+        return Err(MISALIGNED);
     }
     let theirs = note.of_the_original();
-    let places = places::read(list).filter(|places| places::cover(theirs.get(), places)).ok_or(8_u32)?;
+    let places = places::read(list).filter(|places| places::cover(theirs.get(), places)).ok_or(BAD_MATCHES)?;
     published(theirs, Given(places.clone()), filler, &places)
 }
 
-/// What the original makes of a note and a pattern that finds these places, or 9 where it is past the limit. The original
-/// has no limit: far past ours, it would make gigabytes.
+/// What the original makes of a note and a pattern that finds these places, or `NO_ROOM` where it is past the limit.
+/// The original has no limit: far past ours, it would make gigabytes.
 pub fn published(
     mut note: NormalizedString,
     pattern: impl Pattern,
@@ -56,11 +57,11 @@ pub fn published(
     places: &[Place],
 ) -> Result<Note, u32> {
     if places::size(places, filler.len()) > 4 * LIMIT as u64 {
-        return Err(9);
+        return Err(NO_ROOM);
     }
     note.replace(pattern, filler).expect("a list or a literal is found");
     if note.len() > LIMIT {
-        return Err(9);
+        return Err(NO_ROOM);
     }
     Ok(Note::from(&note))
 }
@@ -104,7 +105,7 @@ fn replace(
     let published = expected(note, list, filler);
     let len = match &published {
         Ok(published) => published.normalized.len(),
-        Err(9) => LIMIT + 9,
+        Err(NO_ROOM) => LIMIT + 9,
         Err(_) => note.normalized.len().min(300),
     };
     for room in rooms(len) {
@@ -113,7 +114,7 @@ fn replace(
         let ours = library::replace(note, list, filler, lent);
         let (refusal, text, their_starts, their_ends): (u32, &[u8], &[u16], &[u16]) = match &published {
             Err(refusal) => (*refusal, &[], &[], &[]),
-            Ok(_) if room.iter().any(|&room| room < len) => (9, &[], &[], &[]),
+            Ok(_) if room.iter().any(|&room| room < len) => (NO_ROOM, &[], &[], &[]),
             Ok(published) => (0, &published.normalized, &published.starts, &published.ends),
         };
         let theirs = Count { refusal, count: text.len() as u32 };
@@ -258,8 +259,8 @@ fn fillers_and_lists_past_the_limit(tally: &mut Tally) {
             plainly(tally, &nothing, &[], &filler, rooms);
             plainly(tally, &nothing, &[((0, 0), false)], &filler, rooms);
             plainly(tally, &nothing, &[((0, 0), true)], &filler, rooms);
-            let torn = [filler.as_bytes(), &[0xC3]].concat();
-            replace(tally, (&note, &places::bytes(&[((0, 4), false)]), &torn), ample, || "torn filler".into());
+            let damaged = [filler.as_bytes(), &[0xC3]].concat();
+            replace(tally, (&note, &places::bytes(&[((0, 4), false)]), &damaged), ample, || "ill-formed filler".into());
         }
     }
     for (places, filler) in [(65_536, 65_536), (65_536, 65_537), (32_768, 131_072), (200_000, 0), (200_000, 1)] {
@@ -328,7 +329,7 @@ fn damaged_lists(tally: &mut Tally) {
     }
 }
 
-fn torn_fillers(tally: &mut Tally) {
+fn ill_formed_fillers(tally: &mut Tally) {
     tally.family(
         "fillers with a character, or a wrong or cut one, anywhere, beside notes and lists that are whole or not",
     );
@@ -352,7 +353,7 @@ fn torn_fillers(tally: &mut Tally) {
 }
 
 fn every_set_of_faults(tally: &mut Tally) {
-    tally.family("every set of faults out of nine of the note, a torn filler, a broken list and each short room");
+    tally.family("every set of faults out of nine of the note, an ill-formed filler, a bad list and each short room");
     let whole = places::bytes(&[((0, 1), false), ((1, 3), true), ((3, 4), false)]);
     for (set, note) in notes::with_faults() {
         for filler in [&b"**"[..], b"*\xFF"] {

@@ -52,8 +52,8 @@ pub fn uniform(original: usize, normalized: usize, (start, end): (u16, u16)) -> 
     }
 }
 
-/// Every sound note of the two texts without a shift: boundaries in order, neither starts nor ends going back, one pair a
-/// character.
+/// Every sound note of the two texts without a shift: boundaries in order, neither starts nor ends going back, one pair
+/// a character.
 pub fn sound_notes(original: &str, normalized: &str) -> Vec<Note> {
     let boundaries: Vec<u16> = (0..=original.len() as u16).filter(|&at| original.is_char_boundary(at.into())).collect();
     let mut columns: Vec<Vec<(u16, u16)>> = vec![vec![]];
