@@ -40,8 +40,8 @@ fn heading() {
     println!(
         "Texts of up to {} bytes; times in microseconds; ratio: ours / theirs.
 regular: a literal every 45 bytes; the best of up to {} runs, {RUNS} of ours and {RUNS} of theirs by turns.
-rotation: 12 texts with 13 to 63 bytes between literals, one after the other, so that none is learned; the mean of a
-text over the best half of the turns. An aim is for the regular layout: ASCII, mixed, CJK, emoji.",
+rotation: 12 texts with 13 to 63 bytes between literals, one after the other, so that none is learned; the mean over
+them of the best half of each one's runs. An aim is for the regular layout: ASCII, mixed, CJK, emoji.",
         layouts::LEN,
         ROUNDS * RUNS
     );
@@ -52,8 +52,9 @@ type Aims = [Option<f64>; 4];
 
 const NO_AIM: Aims = [None; 4];
 
+/// No aim is set for emoji yet.
 const fn at_most(ratio: f64) -> Aims {
-    [Some(ratio); 4]
+    [Some(ratio), Some(ratio), Some(ratio), None]
 }
 
 /// Another call than ours: its name and the aims beside it.
@@ -147,26 +148,26 @@ fn print(report: &mut Report, names: &[&str; 2], times: &[f64], aims: &[Option<f
     println!("{of_regular}{}", missed.concat());
 }
 
-/// In microseconds: on one text the best run, on several the mean of a text over the best half of the turns.
+/// In microseconds: on one text the best run, on several the mean over them of the best half of each one's runs.
 fn times(sides: &mut [Side], texts: usize) -> Vec<f64> {
-    let mut turns: Vec<Vec<Duration>> = vec![vec![]; sides.len()];
+    let mut runs: Vec<Vec<Vec<Duration>>> = vec![vec![vec![]; texts]; sides.len()];
     let begin = Instant::now();
     for round in 0..ROUNDS {
         if round >= FEWEST && begin.elapsed() > ENOUGH * sides.len() as u32 {
             break;
         }
-        for (side, turns) in sides.iter_mut().zip(&mut turns) {
-            turns.extend((0..RUNS / texts).map(|_| (0..texts).map(&mut *side).sum::<Duration>()));
+        for (side, runs) in sides.iter_mut().zip(&mut runs) {
+            for i in 0..RUNS {
+                runs[i % texts].push(side(i % texts));
+            }
         }
     }
-    turns
-        .into_iter()
-        .map(|mut turns| {
-            turns.sort();
-            turns.truncate(if texts == 1 { 1 } else { turns.len() / 2 });
-            turns.iter().sum::<Duration>().as_secs_f64() * 1e6 / (turns.len() * texts) as f64
-        })
-        .collect()
+    let best = |mut runs: Vec<Duration>| {
+        runs.sort();
+        runs.truncate(if texts == 1 { 1 } else { runs.len() / 2 });
+        runs.iter().sum::<Duration>().as_secs_f64() * 1e6 / runs.len() as f64
+    };
+    runs.into_iter().map(|runs| runs.into_iter().map(best).sum::<f64>() / texts as f64).collect()
 }
 
 /// A side by its function from a text's number.
