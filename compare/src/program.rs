@@ -70,7 +70,7 @@ fn publish(tally: &mut Tally, strings: [&[u8]; 3]) {
     }
 }
 
-/// The answers are those of docs/RULES.md, and the program prints them.
+/// The lines are written down here, and the program prints them.
 fn worked_notes(tally: &mut Tally) {
     tally.family("worked notes");
     let worked: [[&str; 4]; 3] = [

@@ -136,7 +136,7 @@ fn plainly(tally: &mut Tally, note: &Note, places: &[Place], filler: &str, rooms
 /// Text, places, filler; the result's text and alignments.
 type Worked<'a> = (&'a str, &'a [Place], &'a str, &'a str, &'a [(u16, u16)]);
 
-/// The answers are those of docs/RULES.md, and both sides give them.
+/// The answers are written down here, and both sides give them.
 fn worked_notes(tally: &mut Tally) {
     tally.family("worked notes");
     let stars = [(0, 1), (1, 2), (2, 3), (3, 4), (4, 5), (6, 7), (6, 7)];
