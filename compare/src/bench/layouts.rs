@@ -70,8 +70,12 @@ impl Marked {
 
     /// The same with the literal replaced.
     pub fn edited(&self) -> NormalizedString {
+        self.replaced(LITERAL, FILLER)
+    }
+
+    pub fn replaced(&self, literal: &str, filler: &str) -> NormalizedString {
         let mut note = self.fresh();
-        note.replace(LITERAL, FILLER).expect("a literal is a regular expression");
+        note.replace(literal, filler).expect("a literal is a regular expression");
         note
     }
 

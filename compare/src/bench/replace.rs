@@ -1,10 +1,11 @@
 //! Replacing, the three calls one after the other, and blanking in one call.
 
-use super::layouts::{self, any_list, Marked, FILLER, LEN, LITERAL};
-use super::{at_most, side, timed, Bench, Side, Table, NO_AIM};
+use super::layouts::{self, any_list, Marked, FILLER, LITERAL};
+use super::{at_most, side, timed, Bench, Other, Side, Table, NO_AIM};
 use crate::library::{self, Count, Publishing, Redacting};
 use crate::note::Note;
 use crate::places::Handed;
+use crate::texts::LIMIT;
 use std::hint::black_box;
 use std::time::Duration;
 use tokenizers::pattern::Pattern;
@@ -20,21 +21,32 @@ const FROM_TEXT_AND_REPLACE: Table = Table::new(
     &[("from and replace of a list", NO_AIM), ("copying the result's bytes and columns", NO_AIM)],
 );
 
-const THREE_CALLS: Table = Table::new(
-    "from_text, find_matches and replace, each with its own checks",
-    &[("from and replace of a literal", NO_AIM), ("copying the result's bytes and columns", NO_AIM)],
-);
+const THREE_CALLS: Table =
+    Table::new("from_text, find_matches and replace, each with its own checks", FROM_AND_REPLACE);
 
 const REDACT: Table = Table::new(
     "redact: finding, checks and alignments included",
     &[("from and replace of a literal", at_most(0.20)), ("copying the result's bytes and columns", NO_AIM)],
 );
 
+const FROM_AND_REPLACE: &[Other] =
+    &[("from and replace of a literal", NO_AIM), ("copying the result's bytes and columns", NO_AIM)];
+
+/// Other literals and fillers than the bench's.
+const REDACTIONS: [(&str, &str, &str); 3] = [
+    ("redact by an empty filler", LITERAL, ""),
+    ("redact by a filler of 9 bytes, which is longer than the literal", LITERAL, "*********"),
+    ("redact of an empty literal, which is nowhere", "", FILLER),
+];
+
 pub fn bench(bench: &mut Bench) {
     bench.table(&REPLACE, replace);
     bench.table(&FROM_TEXT_AND_REPLACE, from_text_and_replace);
     bench.table(&THREE_CALLS, three_calls);
-    bench.table(&REDACT, redact);
+    bench.table(&REDACT, |texts| redact(texts, LITERAL, FILLER));
+    for (name, literal, filler) in REDACTIONS {
+        bench.table(&Table { name, others: FROM_AND_REPLACE, beyond: None }, |texts| redact(texts, literal, filler));
+    }
 }
 
 /// Lent buffers: a starting note's columns, a list, and a published note.
@@ -49,9 +61,8 @@ struct Buffers {
 
 impl Buffers {
     fn new() -> Self {
-        let column = || vec![0; LEN];
-        let (starts, ends, out_starts, out_ends) = (column(), column(), column(), column());
-        Buffers { starts, ends, list: any_list(), out: vec![0; LEN], out_starts, out_ends }
+        let [starts, ends, out_starts, out_ends] = [(); 4].map(|()| vec![0; LIMIT]);
+        Buffers { starts, ends, list: any_list(), out: vec![0; LIMIT], out_starts, out_ends }
     }
 
     fn replace(&mut self, note: &Note, list: &[u8]) -> Count {
@@ -59,10 +70,11 @@ impl Buffers {
         library::replace(black_box(note), black_box(list), black_box(FILLER.as_bytes()), lent)
     }
 
-    fn redact(&mut self, text: &[u8]) -> Count {
+    fn redact(&mut self, strings: [&[u8]; 3]) -> Count {
+        let [text, literal, filler] = strings.map(black_box);
         let out = Publishing { text: &mut self.out, starts: &mut self.out_starts, ends: &mut self.out_ends };
         let lent = Redacting { starts: &mut self.starts, ends: &mut self.ends, list: &mut self.list, out };
-        library::redact(black_box(text), black_box(LITERAL.as_bytes()), black_box(FILLER.as_bytes()), lent)
+        library::redact(text, literal, filler, lent)
     }
 
     /// As many bytes and numbers as a result has.
@@ -75,18 +87,19 @@ impl Buffers {
 }
 
 /// Copying each text's published note.
-fn copying(texts: &[Marked]) -> Side<'_> {
-    let results = layouts::lent(&texts.iter().map(Marked::edited).collect::<Vec<_>>());
+fn copying<'a>(texts: &[Marked], literal: &str, filler: &str) -> Side<'a> {
+    let results: Vec<_> = texts.iter().map(|text| text.replaced(literal, filler)).collect();
+    let results = layouts::lent(&results);
     let mut buffers = Buffers::new();
     side(move |i| timed(|| black_box(&mut buffers).copy(black_box(&results[i]))))
 }
 
 /// The time of `from` and `replace`.
-fn from_and_replace(text: &str, pattern: impl Pattern) -> Duration {
+fn from_and_replace(text: &str, pattern: impl Pattern, filler: &str) -> Duration {
     let owned = text.to_owned();
     timed(|| {
         let mut note = NormalizedString::from(black_box(owned));
-        note.replace(pattern, black_box(FILLER)).expect("a list or a literal is found");
+        note.replace(pattern, black_box(filler)).expect("a list or a literal is found");
         note
     })
 }
@@ -96,6 +109,7 @@ fn replace(texts: &[Marked]) -> Vec<Side<'_>> {
     let notes = layouts::lent(&ready);
     let lists: Vec<Vec<u8>> = texts.iter().map(Marked::list).collect();
     let mut buffers = Buffers::new();
+    assert!((0..texts.len()).all(|i| buffers.replace(&notes[i], &lists[i]).refusal == 0));
     vec![
         side(move |i| timed(|| buffers.replace(&notes[i], &lists[i]))),
         side(move |i| {
@@ -105,7 +119,7 @@ fn replace(texts: &[Marked]) -> Vec<Side<'_>> {
                 theirs
             })
         }),
-        copying(texts),
+        copying(texts, LITERAL, FILLER),
     ]
 }
 
@@ -121,8 +135,8 @@ fn from_text_and_replace(texts: &[Marked]) -> Vec<Side<'_>> {
                 (fresh, buffers.replace(note, &lists[i]))
             })
         }),
-        side(|i| from_and_replace(&texts[i].text, Handed::new(&texts[i].places))),
-        copying(texts),
+        side(|i| from_and_replace(&texts[i].text, Handed::new(&texts[i].places), FILLER)),
+        copying(texts, LITERAL, FILLER),
     ]
 }
 
@@ -138,16 +152,18 @@ fn three_calls(texts: &[Marked]) -> Vec<Side<'_>> {
                 (fresh, found, buffers.replace(note, &list[..found.count as usize]))
             })
         }),
-        side(|i| from_and_replace(&texts[i].text, LITERAL)),
-        copying(texts),
+        side(|i| from_and_replace(&texts[i].text, LITERAL, FILLER)),
+        copying(texts, LITERAL, FILLER),
     ]
 }
 
-fn redact(texts: &[Marked]) -> Vec<Side<'_>> {
+fn redact<'a>(texts: &'a [Marked], literal: &'static str, filler: &'static str) -> Vec<Side<'a>> {
     let mut buffers = Buffers::new();
+    let strings = move |i: usize| [texts[i].bytes(), literal.as_bytes(), filler.as_bytes()];
+    assert!((0..texts.len()).all(|i| buffers.redact(strings(i)).refusal == 0));
     vec![
-        side(move |i| timed(|| buffers.redact(texts[i].bytes()))),
-        side(|i| from_and_replace(&texts[i].text, LITERAL)),
-        copying(texts),
+        side(move |i| timed(|| buffers.redact(strings(i)))),
+        side(move |i| from_and_replace(&texts[i].text, literal, filler)),
+        copying(texts, literal, filler),
     ]
 }
