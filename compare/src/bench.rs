@@ -14,7 +14,7 @@ use std::hint::black_box;
 use std::process::ExitCode;
 use std::time::{Duration, Instant};
 
-/// At most so many rounds for a row; fewer, but these, where they take longer than `ENOUGH` for each side.
+/// At most so many rounds for a row. A side that took longer than `ENOUGH` in the fewest leaves the others alone.
 const ROUNDS: usize = 100;
 const FEWEST: usize = 4;
 const ENOUGH: Duration = Duration::from_millis(250);
@@ -151,15 +151,17 @@ fn print(report: &mut Report, names: &[&str; 2], times: &[f64], aims: &[Option<f
 /// In microseconds: on one text the best run, on several the mean over them of the best half of each one's runs.
 fn times(sides: &mut [Side], texts: usize) -> Vec<f64> {
     let mut runs: Vec<Vec<Vec<Duration>>> = vec![vec![vec![]; texts]; sides.len()];
-    let begin = Instant::now();
+    let mut taken = vec![Duration::ZERO; sides.len()];
     for round in 0..ROUNDS {
-        if round >= FEWEST && begin.elapsed() > ENOUGH * sides.len() as u32 {
-            break;
-        }
-        for (side, runs) in sides.iter_mut().zip(&mut runs) {
+        for ((side, runs), taken) in sides.iter_mut().zip(&mut runs).zip(&mut taken) {
+            if round >= FEWEST && *taken > ENOUGH {
+                continue;
+            }
+            let begin = Instant::now();
             for i in 0..RUNS {
                 runs[i % texts].push(side(i % texts));
             }
+            *taken += begin.elapsed();
         }
     }
     let best = |mut runs: Vec<Duration>| {
