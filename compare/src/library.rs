@@ -78,7 +78,7 @@ calls! {
     fn zulmyren_redact(
         read u8, read u8, read u8, write u16, write u16, write u8, write u8, write u16, write u16
     ) -> Count;
-    fn zulmyren_published_alike(note, note, read u8, read u8) -> Count;
+    fn zulmyren_published_alike(note, note, read u8, read u8) -> Comparison;
 }
 
 #[repr(C)]
@@ -86,6 +86,14 @@ calls! {
 pub struct Count {
     pub refusal: u32,
     pub count: u32,
+}
+
+/// Whether two notes are published alike, or a refusal beside `false`.
+#[repr(C)]
+#[derive(Clone, Copy, Debug, PartialEq, Eq)]
+pub struct Comparison {
+    pub refusal: u32,
+    pub alike: bool,
 }
 
 #[repr(C)]
@@ -210,7 +218,6 @@ pub fn redact(text: &[u8], literal: &[u8], filler: &[u8], lent: Redacting) -> Co
     }
 }
 
-/// The count is 1 where what is published of both notes is alike.
-pub fn published_alike(one: &Note, other: &Note, list: &[u8], filler: &[u8]) -> Count {
+pub fn published_alike(one: &Note, other: &Note, list: &[u8], filler: &[u8]) -> Comparison {
     unsafe { lend!(zulmyren_published_alike; note one, note other, read list, read filler) }
 }
