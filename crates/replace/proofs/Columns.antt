@@ -78,8 +78,8 @@ module _ {text starts ends content : List ℕ} {p : Place} {out₀ starts₀ end
 abbrev Column : (ℕ → List ℕ) → List ℕ → List ℕ → ℕ → List ℕ → ℕ → List ℕ → Type 0
 Column f list xs i d₀ at d = Laying (laid f (placesOf list) xs) (laid f (placesOf (drop i list)) xs) d₀ at d
 
-module _ {text : List ℕ} (f : ℕ → List ℕ) (wide : ℕ) (list xs : List ℕ) (lx : length xs ≡ length text) (lf : (e : ℕ) → length (f e) ≡ wide) {d₀ : List ℕ} {at : ℕ} {d : List ℕ} where
-  module _ {i : ℕ} {p : Place} {next from : ℕ} (s : Stepped list i p next) (c : coversFrom text from (placesOf (drop i list)) ≡ true) (l : Column f list xs i d₀ at d) where
+module _ (text : List ℕ) (f : ℕ → List ℕ) (wide : ℕ) (list xs : List ℕ) (lx : length xs ≡ length text) (lf : (e : ℕ) → length (f e) ≡ wide) {d₀ : List ℕ} {at : ℕ} {d : List ℕ} where
+  module _ {i : ℕ} {p : Place} {next : ℕ} (from : ℕ) (s : Stepped list i p next) (c : coversFrom text from (placesOf (drop i list)) ≡ true) (l : Column f list xs i d₀ at d) where
     fits : fitsAt text from p ≡ true
     fits = covers-first text from p (placesOf (drop next list)) (rw (s .places) at c)
 
@@ -95,9 +95,9 @@ module _ {text : List ℕ} (f : ℕ → List ℕ) (wide : ℕ) (list xs : List �
         piece-laid (laid f (placesOf list) xs) (piece f p xs) (laid f (placesOf (drop next list)) xs) d₀ at d (rw (s .places) at l) at₁ d₁
         (e ∙ rw (length-piece text xs f wide from p lx lf fits)) is
 
-column-done : (f : ℕ → List ℕ) (list xs : List ℕ) {i : ℕ} {d₀ : List ℕ} {at : ℕ} {d : List ℕ} → placesOf (drop i list) ≡ [] → Column f list xs i d₀ at d → (d ≡ overlay (laid f (placesOf list) xs) d₀) × (at ≡ length (laid f (placesOf list) xs))
+column-done : (f : ℕ → List ℕ) (list xs : List ℕ) (i : ℕ) {d₀ : List ℕ} {at : ℕ} {d : List ℕ} → placesOf (drop i list) ≡ [] → Column f list xs i d₀ at d → (d ≡ overlay (laid f (placesOf list) xs) d₀) × (at ≡ length (laid f (placesOf list) xs))
 unfolding laid
-column-done f list xs {i} {d₀} {at} {d} none l =
+column-done f list xs i {d₀} {at} {d} none l =
     let k : Laying (laid f (placesOf list) xs) [] d₀ at d = rw none at l in
     (all-laid (laid f (placesOf list) xs) d₀ at d k, omega (arith, laying-size (laid f (placesOf list) xs) [] d₀ at d k))
 
@@ -136,10 +136,10 @@ module _ {text starts ends list content out₀ starts₀ ends₀ : List ℕ} (r 
             one-start = r .one-start;
             one-end = r .one-end;
             from = g .from;
-            fits = fits (λ end. content) (length content) list text refl (λ e. refl) step (g .covered) (g .text-laid);
-            text-room = column-room (λ end. content) (length content) list text refl (λ e. refl) step (g .covered) (g .text-laid);
-            starts-room = column-room (carried (length content) starts) (length content) list starts (r .one-start) (carried-wide (length content) starts) step (g .covered) (g .starts-laid);
-            ends-room = column-room (carried (length content) ends) (length content) list ends (r .one-end) (carried-wide (length content) ends) step (g .covered) (g .ends-laid);
+            fits = fits text (λ end. content) (length content) list text refl (λ e. refl) (g .from) step (g .covered) (g .text-laid);
+            text-room = column-room text (λ end. content) (length content) list text refl (λ e. refl) (g .from) step (g .covered) (g .text-laid);
+            starts-room = column-room text (carried (length content) starts) (length content) list starts (r .one-start) (carried-wide (length content) starts) (g .from) step (g .covered) (g .starts-laid);
+            ends-room = column-room text (carried (length content) ends) (length content) list ends (r .one-end) (carried-wide (length content) ends) (g .from) step (g .covered) (g .ends-laid);
           }
 
       pub going-on : {at₁ : ℕ} {out₂ starts₂ ends₂ : List ℕ} → PlaceLaid text starts ends content p out starts₁ ends₁ at at₁ out₂ starts₂ ends₂ → Going text starts ends list content out₀ starts₀ ends₀ at₁ next out₂ starts₂ ends₂
@@ -148,18 +148,18 @@ module _ {text starts ends list content out₀ starts₀ ends₀ : List ℕ} (r 
             from = p .end .0;
             covered = covers-rest text (g .from) p (placesOf (drop next list)) (rw (step .places) at (g .covered));
             inside = step .most;
-            text-laid = column-next (λ end. content) (length content) list text refl (λ e. refl) step (g .covered) (g .text-laid) _ _ (l .reached) (l .text-is);
-            starts-laid = column-next (carried (length content) starts) (length content) list starts (r .one-start) (carried-wide (length content) starts) step (g .covered) (g .starts-laid) _ _ (l .reached) (l .starts-are);
-            ends-laid = column-next (carried (length content) ends) (length content) list ends (r .one-end) (carried-wide (length content) ends) step (g .covered) (g .ends-laid) _ _ (l .reached) (l .ends-are);
+            text-laid = column-next text (λ end. content) (length content) list text refl (λ e. refl) (g .from) step (g .covered) (g .text-laid) _ _ (l .reached) (l .text-is);
+            starts-laid = column-next text (carried (length content) starts) (length content) list starts (r .one-start) (carried-wide (length content) starts) (g .from) step (g .covered) (g .starts-laid) _ _ (l .reached) (l .starts-are);
+            ends-laid = column-next text (carried (length content) ends) (length content) list ends (r .one-end) (carried-wide (length content) ends) (g .from) step (g .covered) (g .ends-laid) _ _ (l .reached) (l .ends-are);
           }
 
     gone : placesOf (drop i list) ≡ [] → AllLaid text starts ends list content out₀ starts₀ ends₀ at out starts₁ ends₁
     gone none =
         record {
-          reached = column-done (λ end. content) list text none (g .text-laid) .1;
-          text-is = column-done (λ end. content) list text none (g .text-laid) .0;
-          starts-are = column-done (carried (length content) starts) list starts none (g .starts-laid) .0;
-          ends-are = column-done (carried (length content) ends) list ends none (g .ends-laid) .0;
+          reached = column-done (λ end. content) list text i none (g .text-laid) .1;
+          text-is = column-done (λ end. content) list text i none (g .text-laid) .0;
+          starts-are = column-done (carried (length content) starts) list starts i none (g .starts-laid) .0;
+          ends-are = column-done (carried (length content) ends) list ends i none (g .ends-laid) .0;
         }
 
     pub broken-gone : {entry : Entry} → i < length list → entry ≡ entryAt list i → entry ≡ Broken → AllLaid text starts ends list content out₀ starts₀ ends₀ at out starts₁ ends₁

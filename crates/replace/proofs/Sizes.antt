@@ -26,6 +26,9 @@ module _ (p : Place) (wide : ℕ) where
   unfolding sizeOf
   size-unmatched e = rw e
 
+  pub size-reversed : p .matched ≡ false → p .end .0 < p .start .0 → 0 ≡ sizeOf wide p
+  size-reversed e h = omega (arith, size-unmatched e)
+
 -- a place that fits gives as many elements of a column as it gives bytes
 pub length-piece : (text xs : List ℕ) (f : ℕ → List ℕ) (wide at : ℕ) (p : Place) → length xs ≡ length text → ((e : ℕ) → length (f e) ≡ wide) → fitsAt text at p ≡ true → length (piece f p xs) ≡ sizeOf wide p
 unfolding piece sizeOf

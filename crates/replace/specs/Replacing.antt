@@ -1,7 +1,7 @@
 -- RULES 10: what a list and a content, the filler, make of a note, when that is refused, and the call (Rust: `NormalizedString::replace`).
 use Prim.Native.Nat.{ℕ, min}
 use mathlib.Core.Path.{_≡_}
-use mathlib.Core.Bool.{Bool, cond}
+use mathlib.Core.Bool.{Bool, true, cond}
 use mathlib.Core.List.{List, [], _∷_, _++_}
 use lib.ListN.{length, replicate}
 use Rattle.buffers.specs.Splice.{part}
