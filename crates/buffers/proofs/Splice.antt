@@ -111,6 +111,10 @@ pub drop-overlay : (r d : List ℕ) → drop (length r) (overlay r d) ≡ drop (
 unfolding overlay
 drop-overlay r d = drop-append-seam r (drop (length r) d)
 
+pub getD-overlay : (r d : List ℕ) (k : ℕ) → k < length r → getD (overlay r d) k 0 ≡ getD r k 0
+unfolding overlay
+getD-overlay r d k h = List·getD-append r (drop (length r) d) 0 k h
+
 pub length-overlay : (r d : List ℕ) → length r ≤ length d → length (overlay r d) ≡ length d
 unfolding overlay
 length-overlay r d h = simp (length-append, length-drop) (omega arith)

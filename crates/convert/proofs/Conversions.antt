@@ -1,4 +1,4 @@
--- The cases of a conversion, each as the code comes to it.
+-- Laws of `expanded`, `toOriginal`, `toNormalized`, `converted` and `rangeOf`: their cases, each as the code comes to it.
 use Prim.Native.Nat.{ℕ, _-_, _≤_, _<_}
 use mathlib.Core.Path.{_≡_, _∙_, ap, sym}
 use mathlib.Core.List.{List}
@@ -7,12 +7,22 @@ use borrow.Author.Tests.{le-leb, lt-leb, lt-ltb, le-ltb, eq-eqb, ne-eqb}
 use Rattle.note.specs.declared.OriginalByte.{OriginalByte}
 use Rattle.note.specs.declared.NormalizedByte.{NormalizedByte}
 use Rattle.note.specs.declared.Refusal.the-variants.{Missing}
+use Rattle.convert.specs.declared.OffsetReferential.{OffsetReferential}
+use Rattle.convert.specs.declared.OffsetReferential.the-variants.{Original as OfOriginal, Normalized as OfNormalized}
 use Rattle.convert.specs.declared.Range.{Range}
 use Rattle.convert.specs.declared.Range.the-variants.{Original, Normalized}
 use Rattle.convert.specs.declared.Converted.{Converted}
 use Rattle.convert.specs.declared.Converted.the-variants.{Found, Refused}
 use Rattle.convert.specs.declared.Places.{Places}
-use Rattle.convert.specs.Converting.{inOriginal, expanded, walked, spanned, toOriginal, toNormalized, converted}
+use Rattle.convert.specs.Converting.{inOriginal, inNormalized, rangeOf, expanded, walked, spanned, toOriginal, toNormalized, converted}
+
+pub rangeOf-original : {side : OffsetReferential} (a b : ℕ) → side ≡ OfOriginal → inOriginal a b ≡ rangeOf side a b
+unfolding rangeOf
+rangeOf-original a b is = rw is
+
+pub rangeOf-normalized : {side : OffsetReferential} (a b : ℕ) → side ≡ OfNormalized → inNormalized a b ≡ rangeOf side a b
+unfolding rangeOf
+rangeOf-normalized a b is = rw is
 
 pub expanded-past : (starts ends : List ℕ) (a b : ℕ) → length ends < b → Refused Missing ≡ expanded starts ends a b
 unfolding expanded

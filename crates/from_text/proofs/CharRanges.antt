@@ -9,7 +9,7 @@ use Rattle.buffers.specs.Columns.{Filled}
 use Rattle.buffers.proofs.Columns.{none-filled, filled-up, filled-down}
 use Rattle.utf8.specs.Formed.{wellFormed, continues}
 use Rattle.note.specs.Starting.{charStart, charEnd}
-use Rattle.note.specs.StartingSound.{Ranged, ranged, charStart-continues, charEnd-continues, charEnd-begins}
+use Rattle.note.proofs.Starting.{Ranged, ranged, charStart-continues, charEnd-continues, charEnd-begins}
 
 -- the starts of the first i bytes stand in d, and `start` is the last of them
 pub record StartsTo (s d₀ d : List ℕ) (start i : ℕ) : Type 0 where

@@ -5,3 +5,4 @@ pub mod BeforeEnd
 pub mod Faults
 pub mod Starting
 pub mod Stretch
+pub mod Numbers
