@@ -3,7 +3,7 @@ use Prim.Native.Nat.{ℕ, _+_, _≤_, _<_}
 use mathlib.Core.Path.{_≡_, _∙_, ap, refl, sym}
 use mathlib.Core.Bool.{Bool, cond, not}
 use mathlib.Core.List.{List}
-use borrow.Author.Tests.{lt-ltb, le-ltb, eqb-true, not-false}
+use borrow.Author.Tests.{lt-ltb, le-ltb}
 use native.Mathlib.Omega.{arith}
 use lib.Dec.{eqb}
 use lib.ListN.{length, getD, set}
@@ -14,13 +14,14 @@ use Rattle.note.specs.declared.Verdict.{Verdict}
 use Rattle.note.specs.declared.Verdict.the-variants.{Accepted, Refused as Rejected}
 use Rattle.note.specs.Refusals.{none, meets, also, verdict, least}
 use Rattle.note.specs.Rank.{earlier}
-use Rattle.note.specs.Faults.{textFaults, roomFaults}
-use Rattle.note.proofs.Verdicts.{accepted-meets, accepted-first, accepted-second, earlier-of, refused-then, accepted-then}
+use Rattle.note.specs.Faults.{textFaults, roomFaults, unevenFaults}
+use Rattle.note.proofs.Verdicts.{refused-then, accepted-then}
+use Rattle.note.proofs.Uneven.{beside-list}
 use Rattle.note.proofs.Faults.{no-room, enough-room}
 use Rattle.char_offsets.specs.declared.CharOffsets.{CharOffsets}
 use Rattle.char_offsets.specs.declared.CharOffsets.the-variants.{Refused}
 use Rattle.char_offsets.specs.declared.Step.{Step}
-use Rattle.char_offsets.specs.Positions.{indexOf, mapped, chars, endIndex, pairOf, pairUnlessRefused, charOffsets, pairNumber, pairStart, pairEnd, pairAt, unpairedFaults, CharOffsetsList}
+use Rattle.char_offsets.specs.Positions.{indexOf, mapped, chars, endIndex, pairOf, pairUnlessRefused, charOffsets, pairNumber, pairStart, pairEnd, pairAt, CharOffsetsList}
 use Rattle.char_offsets.specs.Steps.{IndexKnown, PairStepped, PairRoom, PairsWritten}
 
 -- nothing is read yet
@@ -82,26 +83,9 @@ module _ {most : ℕ} {s starts ends n₀ a₀ e₀ : List ℕ} (room : PairRoom
         let three = all-filling (w .columns) past (room .numbers-fit) (room .starts-fit) (room .ends-fit) in
         record { numbers-are = three .0; starts-are = three .1; ends-are = three .2 }
 
--- the text and the list, judged apart
-unpaired-verdict : (starts ends : List ℕ) → cond (not (eqb (length starts) (length ends))) (Rejected LengthMismatch) Accepted ≡ verdict (unpairedFaults starts ends)
-unfolding verdict
-unpaired-verdict starts ends = refl
-
+-- a list of pairs
 abbrev inputs : ℕ → List ℕ → List ℕ → List ℕ → Refusal → Bool
-inputs most s starts ends = also (textFaults most s) (unpairedFaults starts ends)
-
-module _ (most : ℕ) (s starts ends : List ℕ) {v w u : Verdict} (p : v ≡ verdict (textFaults most s)) (q : w ≡ cond (not (eqb (length starts) (length ends))) (Rejected LengthMismatch) Accepted) (both : u ≡ earlier v w) where
-  pub inputs-verdict : u ≡ verdict (inputs most s starts ends)
-  inputs-verdict = earlier-of (textFaults most s) (unpairedFaults starts ends) p (q ∙ unpaired-verdict starts ends) both
-
-  module _ (ok : u ≡ Accepted) where
-    pub text-accepted : verdict (textFaults most s) ≡ Accepted
-    text-accepted = accepted-first (textFaults most s) (unpairedFaults starts ends) (sym inputs-verdict ∙ ok)
-
-    pub list-paired : length starts ≡ length ends
-    list-paired =
-        eqb-true _ _ (not-false (eqb (length starts) (length ends))
-        (accepted-meets (unpairedFaults starts ends) (accepted-second (textFaults most s) (unpairedFaults starts ends) (sym inputs-verdict ∙ ok)) LengthMismatch))
+inputs most s starts ends = also (textFaults most s) (unevenFaults starts ends)
 
 module _ (most : ℕ) (s starts ends n₀ a₀ e₀ : List ℕ) {v w u : Verdict} (p : v ≡ verdict (textFaults most s)) (q : w ≡ cond (not (eqb (length starts) (length ends))) (Rejected LengthMismatch) Accepted) (both : u ≡ earlier v w) where
   abbrev room : ℕ
@@ -113,7 +97,7 @@ module _ (most : ℕ) (s starts ends n₀ a₀ e₀ : List ℕ) {v w u : Verdict
   pub list-refused : {k : Refusal} → u ≡ Rejected k → CharOffsetsList most s starts ends n₀ a₀ e₀ (Rejected k) n₀ a₀ e₀
   list-refused is =
       record {
-        answer = refused-then 3 (inputs most s starts ends) rooms refl refl (inputs-verdict most s starts ends p q both) is;
+        answer = refused-then 3 (inputs most s starts ends) rooms refl refl (beside-list (textFaults most s) starts ends p q both) is;
         numbers-are = refl;
         starts-are = refl;
         ends-are = refl;
@@ -123,7 +107,7 @@ module _ (most : ℕ) (s starts ends n₀ a₀ e₀ : List ℕ) {v w u : Verdict
     pub too-little-room : room < length starts → CharOffsetsList most s starts ends n₀ a₀ e₀ (Rejected NoRoom) n₀ a₀ e₀
     too-little-room h =
         record {
-          answer = accepted-then 3 (inputs most s starts ends) rooms refl refl (inputs-verdict most s starts ends p q both) ok (no-room h);
+          answer = accepted-then 3 (inputs most s starts ends) rooms refl refl (beside-list (textFaults most s) starts ends p q both) ok (no-room h);
           numbers-are = refl;
           starts-are = refl;
           ends-are = refl;
@@ -132,7 +116,7 @@ module _ (most : ℕ) (s starts ends n₀ a₀ e₀ : List ℕ) {v w u : Verdict
     pub list-written : {n a e : List ℕ} → length starts ≤ room → PairsWritten s starts ends n₀ a₀ e₀ n a e → CharOffsetsList most s starts ends n₀ a₀ e₀ Accepted n a e
     list-written h written =
         record {
-          answer = accepted-then 3 (inputs most s starts ends) rooms refl refl (inputs-verdict most s starts ends p q both) ok (enough-room h);
+          answer = accepted-then 3 (inputs most s starts ends) rooms refl refl (beside-list (textFaults most s) starts ends p q both) ok (enough-room h);
           numbers-are = written .numbers-are;
           starts-are = written .starts-are;
           ends-are = written .ends-are;

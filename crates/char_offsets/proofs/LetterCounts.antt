@@ -1,11 +1,11 @@
 -- Laws of `letterCount`: what the call answers, by the checks that it has passed.
 use Prim.Native.Nat.{ℕ, _-_, _≤_, _<_}
 use mathlib.Core.Path.{_≡_, _∙_, ap, refl, sym}
-use mathlib.Core.Bool.{Bool, true, false, cond, _&&_, not}
+use mathlib.Core.Bool.{true, false, cond, _&&_, not}
 use mathlib.Core.List.{List}
 use lib.Dec.{leb}
 use native.Mathlib.Omega.{arith}
-use lib.ListN.{length, drop, length-take}
+use lib.ListN.{drop, length-take}
 use borrow.Author.Tests.{le-leb, lt-leb}
 use Rattle.buffers.specs.Splice.{part}
 use Rattle.buffers.proofs.Booleans.{and-false-l, and-false-r}

@@ -1,10 +1,10 @@
 -- Laws of `IndexKnown` and `PairStepped`: from one byte's character to another's, and one pair after the other.
-use Prim.Native.Nat.{ℕ, zero, suc, _+_, _-_, _≤_, _<_}
+use Prim.Native.Nat.{ℕ, _+_, _-_, _≤_, _<_}
 use mathlib.Core.Path.{_≡_, sym}
 use mathlib.Core.List.{List}
 use borrow.Author.Tests.{lt-ltb, le-ltb}
 use native.Mathlib.Omega.{arith}
-use lib.ListN.{length, getD, take, drop}
+use lib.ListN.{length, take, drop}
 use Rattle.buffers.specs.Splice.{part}
 use Rattle.utf8.specs.Letters.{leads}
 use Rattle.char_offsets.specs.Positions.{indexOf, endIndex, pairOf}

@@ -3,22 +3,22 @@ use Prim.Native.Nat.{ℕ, zero, suc, _+_, _-_, _≤_, _<_}
 use mathlib.Core.Path.{_≡_}
 use mathlib.Core.Bool.{Bool, true, cond, not}
 use mathlib.Core.List.{List}
-use lib.Dec.{ltb, eqb}
+use lib.Dec.{ltb}
 use lib.ListN.{length, getD, take}
 use Rattle.buffers.specs.Columns.{column}
 use Rattle.utf8.specs.Formed.{wellFormed, continues}
 use Rattle.utf8.specs.Letters.{letters, leads}
 use Rattle.note.specs.declared.Refusal.{Refusal}
-use Rattle.note.specs.declared.Refusal.the-variants.{LengthMismatch, Missing}
+use Rattle.note.specs.declared.Refusal.the-variants.{Missing}
 use Rattle.note.specs.declared.Verdict.{Verdict}
 use Rattle.note.specs.declared.Verdict.the-variants.{Accepted, Refused as Rejected}
 use Rattle.note.specs.Refusals.{numberOf, none, meets, also, verdict, least, after}
-use Rattle.note.specs.Faults.{textFaults, roomFaults}
+use Rattle.note.specs.Faults.{textFaults, roomFaults, unevenFaults}
 use Rattle.note.specs.Starting.{charStart}
 use Rattle.char_offsets.specs.declared.CharOffsets.{CharOffsets}
 use Rattle.char_offsets.specs.declared.CharOffsets.the-variants.{Chars, Refused}
 
--- 12.1: the index of a byte; a position past the text has none
+-- RULES 12.1: the index of a byte; a position past the text has none
 unfoldable pub indexOf : List ℕ → ℕ → ℕ
 indexOf s zero = 0
 indexOf s (suc b) = cond (continues (getD s (suc b) 0)) (indexOf s b) (indexOf s b + 1)
@@ -29,7 +29,7 @@ mapped s b = ltb b (length s)
 abbrev pub chars : ℕ → ℕ → CharOffsets
 chars a e = Chars (record { 0 = a }) (record { 0 = e })
 
--- 12.3: the end's index, or the one before it plus 1, or the start's plus 2
+-- RULES 12.3: the end's index, or the one before it plus 1, or the start's plus 2
 unfoldable pub endIndex : List ℕ → ℕ → ℕ → ℕ
 endIndex s a e =
     cond (mapped s e) (indexOf s e) (cond (mapped s (e - 1)) (indexOf s (e - 1) + 1) (indexOf s a + 2))
@@ -37,7 +37,7 @@ endIndex s a e =
 unfoldable pub pairOf : List ℕ → ℕ → ℕ → CharOffsets
 pairOf s a e = cond (mapped s a) (chars (indexOf s a) (endIndex s a e)) (Refused Missing)
 
--- 12.2: one pair
+-- RULES 12.2: one pair
 abbrev pub pairFaults : ℕ → List ℕ → ℕ → Refusal → Bool
 pairFaults most s a = also (textFaults most s) (meets Missing (not (mapped s a)) none)
 
@@ -48,7 +48,8 @@ pairUnlessRefused (Rejected k) pair = Refused k
 unfoldable pub charOffsets : ℕ → List ℕ → ℕ → ℕ → CharOffsets
 charOffsets most s a e = pairUnlessRefused (verdict (pairFaults most s a)) (pairOf s a e)
 
--- 15.4: a list of pairs, each answered in three columns: 0 and the two characters, or the refusal's number, 0 and 0
+-- RULES 15.4: a list of pairs, each answered in three columns: 0 and the two characters, or the refusal's number, 0
+-- and 0
 abbrev pub pairNumber : CharOffsets → ℕ
 pairNumber (Chars a e) = 0
 pairNumber (Refused k) = numberOf k
@@ -65,12 +66,9 @@ abbrev pub pairAt : List ℕ → List ℕ → List ℕ → ℕ → CharOffsets
 pairAt s starts ends i = pairOf s (getD starts i 0) (getD ends i 0)
 
 -- the text's refusals, beside them a list that has not as many ends as starts; then the room for one answer a pair
-abbrev pub unpairedFaults : List ℕ → List ℕ → Refusal → Bool
-unpairedFaults starts ends = meets LengthMismatch (not (eqb (length starts) (length ends))) none
-
 abbrev pub charOffsetsListFaults : ℕ → List ℕ → List ℕ → List ℕ → ℕ → Refusal → Bool
 charOffsetsListFaults most s starts ends room =
-    also (also (textFaults most s) (unpairedFaults starts ends)) (roomFaults (length starts) room)
+    also (also (textFaults most s) (unevenFaults starts ends)) (roomFaults (length starts) room)
 
 -- the text, the pairs, the lent columns before, the answer, the lent columns after
 pub record CharOffsetsList (most : ℕ) (s starts ends n₀ a₀ e₀ : List ℕ) (r : Verdict) (n₁ a₁ e₁ : List ℕ) : Type 0 where

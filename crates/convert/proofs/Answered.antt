@@ -24,7 +24,7 @@ use Rattle.convert.specs.declared.Converted.{Converted}
 use Rattle.convert.specs.declared.Converted.the-variants.{Found, Refused}
 use Rattle.convert.specs.declared.Places.{Places}
 use Rattle.convert.specs.declared.Places.the-variants.{Neither, Last, Both}
-use Rattle.convert.specs.Converting.{inOriginal, inNormalized, expanded, walked, spanned, toOriginal, toNormalized, converted, missing, unlessRefused, answered}
+use Rattle.convert.specs.Converting.{expanded, walked, spanned, toOriginal, toNormalized, converted, missing, unlessRefused, answered}
 use Rattle.convert.specs.Blocks.{Columns}
 
 -- an answer that has no refusal but `Missing`

@@ -1,23 +1,23 @@
 -- Where a converted range lies: inside the other text, with both ends on its boundaries.
 use Prim.Native.Nat.{ℕ, zero, suc, _+_, _-_, _≤_, _<_}
 use mathlib.Core.Path.{_≡_, _∙_, refl, sym}
-use mathlib.Core.Bool.{true, false}
+use mathlib.Core.Bool.{true}
 use mathlib.Core.List.{List}
-use mathlib.Core.Logic.{_⊎_, inl, inr, ⊎-elim}
+use mathlib.Core.Logic.{inl, inr}
 use native.Mathlib.Omega.{arith}
 use lib.Dec.{leb, ltb, eqb}
 use lib.ListN.{length, getD}
 use borrow.Author.Tests.{eqb-true, eqb-false, ltb-false, leb-true}
 use Rattle.buffers.proofs.Cases.{le-or-lt, true-or-false, clash}
 use Rattle.utf8.specs.Formed.{continues, boundary}
-use Rattle.utf8.proofs.Boundaries.{boundary-at, boundary-zero, boundary-length, boundary-most}
+use Rattle.utf8.proofs.Boundaries.{boundary-at, boundary-zero, boundary-length}
 use Rattle.note.specs.Notes.{Note, startAt, endAt, Sound}
 use Rattle.note.proofs.Faults.{accepted-sound}
 use Rattle.note.proofs.Sound.{length-starts, length-ends, normalized-formed, inside-at, boundaries-at, shared-at, starts-forward}
 use Rattle.convert.specs.declared.Range.{Range}
 use Rattle.convert.specs.declared.Range.the-variants.{Original, Normalized}
 use Rattle.convert.specs.Converting.{inOriginal, begins, expanded, toOriginal, toNormalized, converted, convertOffsets}
-use Rattle.convert.specs.Leading.{leading, Qualifies, First, ByLeading}
+use Rattle.convert.specs.Leading.{leading, Qualifies, First}
 use Rattle.convert.specs.Inside.{Lies, Outcome, ConvertedInside}
 use Rattle.convert.proofs.Answered.{answered-accepted, converted-missing}
 use Rattle.convert.proofs.Leading.{leading-most, leading-within, leading-past, begins-qualifies, qualifies-begins, converted-by-leading}

@@ -1,5 +1,5 @@
 -- The note of a fresh text converts every range between boundaries to itself.
-use Prim.Native.Nat.{ℕ, suc, _+_, _-_, _≤_, _<_}
+use Prim.Native.Nat.{ℕ, suc, _-_, _≤_, _<_}
 use mathlib.Core.Path.{_≡_, _∙_, refl, sym}
 use mathlib.Core.Bool.{true}
 use mathlib.Core.List.{List}
@@ -11,8 +11,7 @@ use Rattle.utf8.specs.Formed.{wellFormed, continues, boundary}
 use Rattle.utf8.proofs.Boundaries.{boundary-most, boundary-begins}
 use Rattle.note.specs.Notes.{startAt, endAt}
 use Rattle.note.specs.Starting.{charStart, charEnd, starting}
-use Rattle.note.proofs.Starting.{Ranged, ranged, charStart-begins, charEnd-begins, starting-start, starting-end, starting-sound, starting-accepted}
-use Rattle.note.proofs.Sound.{length-starts, length-ends}
+use Rattle.note.proofs.Starting.{Ranged, ranged, charStart-begins, charEnd-begins, length-starting-starts, length-starting-ends, starting-start, starting-end, starting-accepted}
 use Rattle.convert.specs.declared.Range.{Range}
 use Rattle.convert.specs.declared.Range.the-variants.{Original, Normalized}
 use Rattle.convert.specs.declared.Converted.the-variants.{Found}
@@ -23,14 +22,6 @@ use Rattle.convert.proofs.Answered.{answered-accepted, converted-missin
 use Rattle.convert.proofs.Leading.{leading-most, leading-within, leading-past, converted-by-leading}
 
 module _ (s : List ℕ) (p : wellFormed s ≡ true) where
-  long-starts : length (starting s .starts) ≡ length s
-  unfolding starting
-  long-starts = length-starts (starting s) (starting-sound s p)
-
-  long-ends : length (starting s .ends) ≡ length s
-  unfolding starting
-  long-ends = length-ends (starting s) (starting-sound s p)
-
   module _ (a b : ℕ) (at-a : boundary s a ≡ true) (at-b : boundary s b ≡ true) (some : a < b) where
     -- a character that begins before b ends there or before
     ends-within : (i : ℕ) → i < b → charEnd s i ≤ b
@@ -43,7 +34,7 @@ module _ (s : List ℕ) (p : wellFormed s ≡ true) where
     leading-itself =
         let ends = starting s .ends in
         let k : ℕ = leading ends b in
-        let most : k ≤ length s = omega (arith, leading-most ends b, long-ends) in
+        let most : k ≤ length s = omega (arith, leading-most ends b, length-starting-ends s) in
         le-or-lt b k
         (λ high. le-or-lt k b
         (λ low. omega arith)
@@ -52,13 +43,13 @@ module _ (s : List ℕ) (p : wellFormed s ≡ true) where
         absurd (omega (arith, leading-within ends b b over, starting-end s b h, ranged s b p h .past))))
         (λ low.
         let h : k < length s = omega (arith, boundary-most s b at-b) in
-        absurd (omega (arith, leading-past ends b (omega (arith, long-ends)), starting-end s k h, ends-within k low)))
+        absurd (omega (arith, leading-past ends b (omega (arith, length-starting-ends s)), starting-end s k h, ends-within k low)))
 
     walked-itself : converted (starting s .starts) (starting s .ends) (inOriginal a b) ≡ Found (inNormalized a b)
     walked-itself =
         let h : a < length s = omega (arith, boundary-most s b at-b) in
         let start : charStart s a ≡ a = charStart-begins s a (boundary-begins s a at-a) in
-        let by = converted-by-leading (starting s .starts) (starting s .ends) a b (long-starts ∙ sym long-ends) some in
+        let by = converted-by-leading (starting s .starts) (starting s .ends) a b (length-starting-starts s ∙ sym (length-starting-ends s)) some in
         (rw leading-itself at (by .from-first)) a
         (record {
           below = some;
@@ -78,7 +69,7 @@ module _ (s : List ℕ) (p : wellFormed s ≡ true) where
         let end : endAt (starting s) (b - 1) ≡ b =
         starting-end s (b - 1) (omega arith)
         ∙ charEnd-begins s (b - 1) (ranged s (b - 1) p (omega arith)) (rw next (boundary-begins s b at-b)) ∙ next in
-        rw (le-leb b (length (starting s .ends)) (omega (arith, long-ends)), start, end)
+        rw (le-leb b (length (starting s .ends)) (omega (arith, length-starting-ends s)), start, end)
 
   itself : (range : Range) → boundary s (startOf range) ≡ true → boundary s (endOf range) ≡ true → startOf range ≤ endOf range → converted (starting s .starts) (starting s .ends) range ≡ Found (unconverted range)
   unfolding converted toNormalized toOriginal

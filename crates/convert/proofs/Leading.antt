@@ -4,11 +4,11 @@ use mathlib.Core.Path.{_≡_, _∙_, ap, refl}
 use mathlib.Core.Bool.{true, false}
 use mathlib.Core.List.{List, [], _∷_}
 use native.Mathlib.Omega.{arith}
-use lib.Dec.{leb, eqb}
+use lib.Dec.{leb}
 use lib.ListN.{length, getD}
 use borrow.Author.Tests.{le-leb, le-ltb, leb-true, leb-false, eq-eqb, ne-eqb}
 use mathlib.Mathlib.Data.Bool.Basic.{and-elim-left}
-use Rattle.buffers.proofs.Cases.{clash, true-or-false, le-or-lt}
+use Rattle.buffers.proofs.Cases.{clash, true-or-false}
 use Rattle.note.specs.declared.NormalizedByte.{NormalizedByte}
 use Rattle.convert.specs.declared.Places.{Places}
 use Rattle.convert.specs.declared.Places.the-variants.{Neither, Last, Both}

@@ -31,43 +31,43 @@ module _ (from i s e : ℕ) where
   begun-wide h is = rw (le-leb from s h, ne-eqb s e is)
 
 -- one step, by what was found before it
-pub stepped-both : (from i s e : ℕ) (found : Places) (first last : NormalizedByte) → found ≡ Both first last → Both first (record { 0 = i + 1 }) ≡ stepped from i s e found
+pub stepped-both : (from i s e : ℕ) {found : Places} {first last : NormalizedByte} → found ≡ Both first last → Both first (record { 0 = i + 1 }) ≡ stepped from i s e found
 unfolding stepped
-stepped-both from i s e found first last is = rw is
+stepped-both from i s e is = rw is
 
-pub stepped-last : (from i s e : ℕ) (found r : Places) (last : NormalizedByte) → found ≡ Last last → r ≡ begun from i s e → r ≡ stepped from i s e found
+pub stepped-last : (from i s e : ℕ) {found r : Places} {last : NormalizedByte} → found ≡ Last last → r ≡ begun from i s e → r ≡ stepped from i s e found
 unfolding stepped
-stepped-last from i s e found r last is b = rw is b
+stepped-last from i s e is b = rw is b
 
-pub stepped-neither : (from i s e : ℕ) (found r : Places) → found ≡ Neither → r ≡ begun from i s e → r ≡ stepped from i s e found
+pub stepped-neither : (from i s e : ℕ) {found r : Places} → found ≡ Neither → r ≡ begun from i s e → r ≡ stepped from i s e found
 unfolding stepped
-stepped-neither from i s e found r is b = rw is b
+stepped-neither from i s e is b = rw is b
 
 -- the test on the last of a block, by what was found before it
-module _ (from s : ℕ) (found : Places) where
-  pub settled-both : (first last : NormalizedByte) → found ≡ Both first last → true ≡ settled from s found
+module _ (from s : ℕ) {found : Places} where
+  pub settled-both : {first last : NormalizedByte} → found ≡ Both first last → true ≡ settled from s found
   unfolding settled
-  settled-both first last is = rw is
+  settled-both is = rw is
 
-  pub settled-last : (last : NormalizedByte) → found ≡ Last last → ltb s from ≡ settled from s found
+  pub settled-last : {last : NormalizedByte} → found ≡ Last last → ltb s from ≡ settled from s found
   unfolding settled
-  settled-last last is = rw is
+  settled-last is = rw is
 
   pub settled-neither : found ≡ Neither → ltb s from ≡ settled from s found
   unfolding settled
   settled-neither is = rw is
 
-pub single-block : (starts ends : List ℕ) (from to : ℕ) (found : Places) (i : ℕ) → i < length ends → getD ends i 0 ≤ to → Block starts ends from to found i i
-single-block starts ends from to found i more inside =
+pub single-block : {starts ends : List ℕ} {from to : ℕ} {found : Places} {i : ℕ} → i < length ends → getD ends i 0 ≤ to → Block starts ends from to found i i
+single-block more inside =
     record { on = omega arith; inside = more; walks = inside; single-or-settled = inl refl }
 
 pub record Walk (starts ends : List ℕ) (from to : ℕ) (found : Places) (i : ℕ) : Type 0 where
   pub most : i ≤ length ends
   pub same : walked starts ends from to ≡ walkFrom i (drop i starts) (drop i ends) from to found
 
-pub none-walked : (starts ends : List ℕ) (from to : ℕ) → Walk starts ends from to Neither 0
+pub none-walked : {starts ends : List ℕ} {from to : ℕ} → Walk starts ends from to Neither 0
 unfolding walked
-none-walked starts ends from to = record { most = omega arith; same = refl }
+none-walked = record { most = omega arith; same = refl }
 
 one-walked : {most : ℕ} {starts ends : List ℕ} {from to : ℕ} {found next : Places} {i : ℕ} → Columns most starts ends → Walk starts ends from to found i → i < length ends → getD ends i 0 ≤ to → next ≡ stepped from i (getD starts i 0) (getD ends i 0) found → Walk starts ends from to next (i + 1)
 unfolding walkFrom

@@ -45,12 +45,12 @@ abbrev pub endOf : Range → ℕ
 endOf (Original a b) = b .0
 endOf (Normalized a b) = b .0
 
--- 4.4: the cleaned bytes a..b in the transcript, from the first one's start to the last one's end
+-- RULES 4.4: the cleaned bytes a..b in the transcript, from the first one's start to the last one's end
 unfoldable pub expanded : List ℕ → List ℕ → ℕ → ℕ → Converted
 expanded starts ends a b =
     cond (leb b (length ends)) (Found (inOriginal (getD starts a 0) (getD ends (b - 1) 0))) (Refused Missing)
 
--- 4.5: an alignment s..e at which a first place can be: not before the range's start, and not empty
+-- RULES 4.5: an alignment s..e at which a first place can be: not before the range's start, and not empty
 abbrev pub begins : ℕ → ℕ → ℕ → Bool
 begins from s e = leb from s && not (eqb s e)
 
@@ -74,13 +74,13 @@ walkFrom i (s ∷ starts) (e ∷ ends) from to found =
 unfoldable pub walked : List ℕ → List ℕ → ℕ → ℕ → Places
 walked starts ends from to = walkFrom 0 starts ends from to Neither
 
--- 4.6: what the places answer
+-- RULES 4.6: what the places answer
 abbrev pub spanned : Places → Converted
 spanned (Both first last) = Found (Normalized first last)
 spanned (Last last) = Found (Normalized last last)
 spanned Neither = Refused Missing
 
--- 4.2, 4.3: an empty range is the same numbers of the other text, a reversed one has no answer
+-- RULES 4.2, 4.3: an empty range is the same numbers of the other text, a reversed one has no answer
 unfoldable pub toOriginal : List ℕ → List ℕ → NormalizedByte → NormalizedByte → Converted
 toOriginal starts ends a b =
     cond (eqb (a .0) (b .0)) (Found (inOriginal (a .0) (b .0)))
@@ -97,7 +97,7 @@ unfoldable pub converted : List ℕ → List ℕ → Range → Converted
 converted starts ends (Normalized a b) = toOriginal starts ends a b
 converted starts ends (Original a b) = toNormalized starts ends a b
 
--- 4.1: what a call says that is lent a note and answers a range: the note's refusals, then `Missing`
+-- RULES 4.1: what a call says that is lent a note and answers a range: the note's refusals, then `Missing`
 abbrev pub missing : Converted → Bool
 missing (Found range) = false
 missing (Refused k) = true

@@ -5,8 +5,7 @@ use mathlib.Core.List.{List}
 use native.Mathlib.Omega.{arith}
 use lib.ListN.{length, getD, set, replicate, length-replicate, getD-replicate}
 use Rattle.buffers.specs.Splice.{splice, overlay}
-use Rattle.buffers.proofs.Columns.{length-column}
-use Rattle.buffers.proofs.Columns.{Filling, none-filling, one-filling, kept-filling, all-filling}
+use Rattle.buffers.proofs.Columns.{length-column, Filling, none-filling, one-filling, kept-filling, all-filling}
 use Rattle.buffers.proofs.Splice.{splice-overlay, length-overlay, getD-overlay, overlay-overlay}
 use Rattle.convert.specs.declared.Converted.{Converted}
 use Rattle.convert.specs.declared.Converted.the-variants.{Found}

@@ -1,17 +1,15 @@
 -- RULES 15.3: converting a list of ranges over one note, each as the single call answers it; the note is checked once.
 use Prim.Native.Nat.{ℕ}
 use mathlib.Core.Path.{_≡_}
-use mathlib.Core.Bool.{Bool, not}
+use mathlib.Core.Bool.{Bool}
 use mathlib.Core.List.{List}
-use lib.Dec.{eqb}
 use lib.ListN.{length, getD}
 use Rattle.buffers.specs.Columns.{column}
 use Rattle.note.specs.declared.Refusal.{Refusal}
-use Rattle.note.specs.declared.Refusal.the-variants.{LengthMismatch}
 use Rattle.note.specs.declared.Verdict.{Verdict}
-use Rattle.note.specs.Refusals.{numberOf, none, meets, also, verdict, least, after}
+use Rattle.note.specs.Refusals.{numberOf, also, verdict, least, after}
 use Rattle.note.specs.Notes.{Note}
-use Rattle.note.specs.Faults.{noteFaults, roomFaults}
+use Rattle.note.specs.Faults.{noteFaults, roomFaults, unevenFaults}
 use Rattle.convert.specs.declared.OffsetReferential.{OffsetReferential}
 use Rattle.convert.specs.declared.Range.{Range}
 use Rattle.convert.specs.declared.Converted.{Converted}
@@ -36,9 +34,6 @@ unfoldable pub answerAt : (Range → Converted) → OffsetReferential → List �
 answerAt answer side from to i = answer (rangeOf side (getD from i 0) (getD to i 0))
 
 -- the note's refusals, beside them a list that has not as many ends as starts; then the room for one answer a range
-abbrev pub unevenFaults : List ℕ → List ℕ → Refusal → Bool
-unevenFaults from to = meets LengthMismatch (not (eqb (length from) (length to))) none
-
 abbrev pub convertListFaults : ℕ → Note → List ℕ → List ℕ → ℕ → Refusal → Bool
 convertListFaults most n from to room =
     also (also (noteFaults most n) (unevenFaults from to)) (roomFaults (length from) room)

@@ -21,7 +21,7 @@ fn continuation_run(a: u8, b: u8, c: u8) -> u8
 {
     let one = continues(a);
     let two = one & continues(b);
-    let three = two & continues(b);
+    let three = two & continues(c);
     one as u8 + two as u8 + three as u8
 }
 

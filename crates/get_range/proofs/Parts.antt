@@ -1,7 +1,7 @@
 -- Laws of `partFaults` and `partOf`: what the reader's plain call answers, and the part that it hands back.
 use Prim.Native.Nat.{ℕ, _-_, _≤_}
 use mathlib.Core.Path.{_≡_, _∙_, refl, sym}
-use mathlib.Core.Bool.{Bool, true, cond, not}
+use mathlib.Core.Bool.{Bool, cond, not}
 use mathlib.Core.List.{List, []}
 use lib.ListN.{length, take, drop}
 use borrow.Author.Tests.{not-false}

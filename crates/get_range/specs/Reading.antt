@@ -18,7 +18,7 @@ use Rattle.convert.specs.declared.Converted.{Converted}
 use Rattle.convert.specs.declared.Converted.the-variants.{Found, Refused}
 use Rattle.convert.specs.Converting.{startOf, endOf, converted, answered}
 
--- 5.1: Rust's `str::get` has a part at a..e
+-- RULES 5.1: Rust's `str::get` has a part at a..e
 unfoldable pub readable : List ℕ → ℕ → ℕ → Bool
 readable s a e = leb a e && (boundary s a && boundary s e)
 
@@ -36,14 +36,14 @@ unfoldable pub asOriginal : Note → Range → Converted
 asOriginal n (Original a b) = Found (Original a b)
 asOriginal n (Normalized a b) = converted (n .starts) (n .ends) (Normalized a b)
 
--- 5.2, 5.3
+-- RULES 5.2, 5.3: the two calls
 unfoldable pub getRange : ℕ → Note → Range → Converted
 getRange most n range = answered most n (got (n .normalized) (asNormalized n range))
 
 unfoldable pub getRangeOriginal : ℕ → Note → Range → Converted
 getRangeOriginal most n range = answered most n (got (n .original) (asOriginal n range))
 
--- 5.6, of the added reader: both texts are judged, then the range in the one that it names
+-- RULES 5.6, of the added reader: both texts are judged, then the range in the one that it names
 abbrev pub textOf : List ℕ → List ℕ → Range → List ℕ
 textOf original normalized (Original a b) = original
 textOf original normalized (Normalized a b) = normalized
@@ -56,7 +56,7 @@ partFaults most original normalized range =
     also (also (textFaults most original) (textFaults most normalized))
     (readFaults (textOf original normalized range) (startOf range) (endOf range))
 
--- 5.5: the part itself; nothing of that text where the reader is refused
+-- RULES 5.5: the part itself; nothing of that text where the reader is refused
 abbrev pub partUnlessRefused : Verdict → List ℕ → List ℕ
 partUnlessRefused Accepted s = s
 partUnlessRefused (Rejected k) s = []

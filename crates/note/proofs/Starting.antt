@@ -98,6 +98,15 @@ pub starting-end : (s : List ℕ) (i : ℕ) → i < length s → endAt (starting
 unfolding starting
 starting-end s i h = getD-column (length s) (charEnd s) i h
 
+-- a number for each byte
+pub length-starting-starts : (s : List ℕ) → length (starting s .starts) ≡ length s
+unfolding starting
+length-starting-starts s = length-column (length s) (charStart s)
+
+pub length-starting-ends : (s : List ℕ) → length (starting s .ends) ≡ length s
+unfolding starting
+length-starting-ends s = length-column (length s) (charEnd s)
+
 -- each of the four things that soundness asks of an alignment
 module _ (s : List ℕ) (p : wellFormed s ≡ true) where
   starting-inside : (i : ℕ) → i < length s → inside (starting s) i ≡ true
@@ -146,7 +155,7 @@ module _ (s : List ℕ) (p : wellFormed s ≡ true) where
 
   starting-paired : paired (starting s) ≡ true
   unfolding starting paired
-  starting-paired = and-intro (eq-eqb _ _ (length-column (length s) (charStart s))) (eq-eqb _ _ (length-column (length s) (charEnd s)))
+  starting-paired = and-intro (eq-eqb _ _ (length-starting-starts s)) (eq-eqb _ _ (length-starting-ends s))
 
   starting-formed : textsFormed (starting s) ≡ true
   unfolding starting textsFormed

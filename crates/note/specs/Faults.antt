@@ -3,7 +3,7 @@ use Prim.Native.Nat.{ℕ}
 use mathlib.Core.Path.{_≡_}
 use mathlib.Core.Bool.{Bool, true, not}
 use mathlib.Core.List.{List}
-use lib.Dec.{leb}
+use lib.Dec.{leb, eqb}
 use lib.ListN.{length}
 use Rattle.utf8.specs.Formed.{wellFormed}
 use Rattle.note.specs.declared.Refusal.{Refusal}
@@ -27,6 +27,10 @@ textFaults most s = meets TooLong (not (leb (length s) most)) (meets IllFormed (
 -- another string of the call, which has no limit: not UTF-8
 abbrev pub stringFaults : List ℕ → Refusal → Bool
 stringFaults s = meets IllFormed (not (wellFormed s)) none
+
+-- a list of ranges or pairs, which comes in two columns: not as many ends as starts
+abbrev pub unevenFaults : List ℕ → List ℕ → Refusal → Bool
+unevenFaults starts ends = meets LengthMismatch (not (eqb (length starts) (length ends))) none
 
 -- a result of so many elements beside the room that is lent for it
 abbrev pub roomFaults : ℕ → ℕ → Refusal → Bool

@@ -2,7 +2,8 @@
 use native.Mathlib.Omega.{arith}
 use borrow.Author.Needs.{needs}
 use Rattle.note.proofs.Faults.{text-short}
-use Rattle.char_offsets.proofs.CharOffsetsList.{text-accepted, list-paired, list-refused, too-little-room, list-written}
+use Rattle.note.proofs.Uneven.{input-accepted, list-even}
+use Rattle.char_offsets.proofs.CharOffsetsList.{list-refused, too-little-room, list-written}
 use Rattle.char_offsets.proofs.char_offsets_list.Statement.{statement}
 use Rattle.char_offsets.proofs.char_offsets_list.Tie as tie
 
@@ -23,8 +24,8 @@ write-pairs-requires c κs =
     let inputs = told .before .before in
     let entry = inputs .before .before .before .before .before .before .before .before .before in
     record {
-      short = text-short _ _ (text-accepted _ _ (entry .args .starts .now) (entry .args .ends .now) (inputs .before .before .check-text .ensures) (inputs .before .refused-if .ensures) (inputs .earlier .ensures) (told .enum-told .given .1));
-      paired = list-paired _ _ (entry .args .starts .now) (entry .args .ends .now) (inputs .before .before .check-text .ensures) (inputs .before .refused-if .ensures) (inputs .earlier .ensures) (told .enum-told .given .1);
+      short = text-short _ _ (input-accepted _ (entry .args .starts .now) (entry .args .ends .now) (inputs .before .before .check-text .ensures) (inputs .before .refused-if .ensures) (inputs .earlier .ensures) (told .enum-told .given .1));
+      paired = list-even _ (entry .args .starts .now) (entry .args .ends .now) (inputs .before .before .check-text .ensures) (inputs .before .refused-if .ensures) (inputs .earlier .ensures) (told .enum-told .given .1);
       numbers-fit = omega arith;
       starts-fit = omega arith;
       ends-fit = omega arith;

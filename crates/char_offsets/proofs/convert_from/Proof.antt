@@ -21,7 +21,7 @@ add-t14 c =
 returns-3 : tie.Need-returns-3
 returns-3 c =
     let past = c .before .before .before .before in
-    stepped-chars _ _ _ (past .if1 .left) (c .before .before .before .index-from .ensures) (end-last _ _ _ (c .before .if3 .taken) (past .if1 .left) (c .index-from3 .ensures))
+    stepped-chars _ _ _ (past .if1 .left) (c .before .before .before .index-from .ensures) (omega (arith, end-last _ _ _ (c .before .if3 .taken) (past .if1 .left) (c .index-from3 .ensures)))
     (record { short = past .before .before .pre .short; inside = omega arith; so-far = c .index-from3 .ensures })
 
 add-t15 : tie.Need-add-t15
@@ -32,8 +32,9 @@ add-t15 c =
 returns-4 : tie.Need-returns-4
 returns-4 c =
     let past = c .before .before .before in
+    let args = past .before .before .args in
     let first = c .before .before .index-from .ensures in
-    stepped-chars _ _ _ (past .if1 .left) first (end-past _ _ _ (omega arith) first)
+    stepped-chars _ _ _ (past .if1 .left) first (omega (arith, end-past (args .text .now) (args .start) (args .end) (omega arith) first))
     (record { short = past .before .before .pre .short; inside = omega arith; so-far = first })
 
 pub convert-from-spec : {M : Type 1} → statement M

@@ -1,9 +1,6 @@
 -- As many characters on, or back, as begin between the two bytes.
-use mathlib.Core.Path.{_≡_}
-use Prim.Native.Nat.{_+_}
 use native.Mathlib.Omega.{arith}
 use borrow.Author.Needs.{needs}
-use Rattle.char_offsets.specs.Positions.{indexOf}
 use Rattle.char_offsets.proofs.IndexOf.{index-most}
 use Rattle.char_offsets.proofs.PairStepped.{moved-on, moved-back}
 use Rattle.char_offsets.proofs.index_from.Statement.{statement}

@@ -18,14 +18,14 @@ block-last-spec =
     tie.close
     (tie.spec
     (λ c. search needs)
-    (λ c. single-block _ _ _ _ _ _ (omega arith) (omega arith))
+    (λ c. single-block (omega arith) (omega arith))
     (λ c. search needs)
     (λ c. search needs)
     (λ c. search needs)
     (λ c. omega (arith, c .shared-slice-known3 .given (c .before .before .before .before .args .i + 63)))
-    (λ c. single-block _ _ _ _ _ _ (omega arith) (omega arith))
+    (λ c. single-block (omega arith) (omega arith))
     (λ c. search needs)
     (λ c. search needs)
     (λ c κs. search needs)
-    (λ c. single-block _ _ _ _ _ _ (omega arith) (omega arith))
+    (λ c. single-block (omega arith) (omega arith))
     returns-4)

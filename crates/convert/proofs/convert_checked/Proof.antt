@@ -12,5 +12,5 @@ convert-checked-spec =
     (λ c κs. search needs)
     (λ c. search needs)
     (λ c κs. search needs)
-    (λ c. converted-normalized _ _ _ _ _ _ (c .before .before .range .given .1) (c .to-original .ensures))
-    (λ c. converted-original _ _ _ _ _ _ (c .before .before .range2 .given .1) (c .to-normalized .ensures)))
+    (λ c. converted-normalized _ _ (c .before .before .range .given .1) (c .to-original .ensures))
+    (λ c. converted-original _ _ (c .before .before .range2 .given .1) (c .to-normalized .ensures)))

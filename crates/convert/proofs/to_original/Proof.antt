@@ -5,10 +5,10 @@ use Rattle.convert.proofs.to_original.Statement.{statement}
 use Rattle.convert.proofs.to_original.Tie as tie
 
 returns : tie.Need-returns
-returns c = toOriginal-empty _ _ _ _ _ _ (c .before .before .if1 .taken) (c .before .same-in-original .ensures) (c .same-in-original2 .ensures)
+returns c = toOriginal-empty _ _ _ _ (c .before .before .if1 .taken) (c .before .same-in-original .ensures) (c .same-in-original2 .ensures)
 
 returns-3 : tie.Need-returns-3
-returns-3 c = toOriginal-forward _ _ _ _ _ (c .before .before .if1 .left) (c .before .if2 .left) (c .expand-alignments .ensures)
+returns-3 c = toOriginal-forward _ _ _ _ (c .before .before .if1 .left) (c .before .if2 .left) (c .expand-alignments .ensures)
 
 pub to-original-spec : {M : Type 1} → statement M
 to-original-spec =

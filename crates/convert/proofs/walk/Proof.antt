@@ -29,7 +29,7 @@ walk-spec =
     (tie.spec
     Inv-loop
     μ-loop
-    (λ c. none-walked _ _ _ _)
+    (λ c. none-walked)
     (λ c. omega arith)
     (λ c. omega arith)
     (λ c. omega (arith, c .shared-slice-known3 .given (c .before .before .loop .i)))

@@ -1,8 +1,9 @@
 -- The earlier refusal of the note and the list, then the room; past these the answers are written.
 use native.Mathlib.Omega.{arith}
 use borrow.Author.Needs.{needs}
+use Rattle.note.proofs.Uneven.{input-accepted, list-even}
 use Rattle.convert.proofs.Answered.{accepted-columns}
-use Rattle.convert_list.proofs.ConvertedList.{note-accepted, list-even, list-refused, too-little-room, all-converted}
+use Rattle.convert_list.proofs.ConvertedList.{list-refused, too-little-room, all-converted}
 use Rattle.convert_list.proofs.convert_list.Statement.{statement}
 use Rattle.convert_list.proofs.convert_list.Tie as tie
 
@@ -22,9 +23,9 @@ convert-each-requires c κs =
     let told = c .before .before .before .before .before in
     let inputs = told .before .before in
     let entry = inputs .before .before .before .before .before .before .before .before .before .before .before .before in (
-      accepted-columns _ _ (note-accepted _ _ (entry .args .from .now) (entry .args .to .now) (inputs .before .before .check-note .ensures) (inputs .before .refused-if .ensures) (inputs .earlier .ensures) (told .enum-told .given .1)),
+      accepted-columns _ _ (input-accepted _ (entry .args .from .now) (entry .args .to .now) (inputs .before .before .check-note .ensures) (inputs .before .refused-if .ensures) (inputs .earlier .ensures) (told .enum-told .given .1)),
       record {
-        same = list-even _ _ (entry .args .from .now) (entry .args .to .now) (inputs .before .before .check-note .ensures) (inputs .before .refused-if .ensures) (inputs .earlier .ensures) (told .enum-told .given .1);
+        same = list-even _ (entry .args .from .now) (entry .args .to .now) (inputs .before .before .check-note .ensures) (inputs .before .refused-if .ensures) (inputs .earlier .ensures) (told .enum-told .given .1);
         of-numbers = omega arith;
         of-starts = omega arith;
         of-ends = omega arith;

@@ -16,18 +16,20 @@ abbrev μ-loop : tie.MeasureT-loop
 μ-loop text from ends₀ end₀ i₀ ends end i = i
 
 loop-again : tie.Need-loop-again Inv-loop μ-loop
-loop-again c = (
-  omega arith,
-  end-begins _ _ _ _ _ (c .before .before .before .before .loop .inv .1) (omega arith) (omega arith) (c .before .before .before .before .before .before .before .pre .0 .0)
-      (sym (c .before .continues .ensures) ∙ not-true _ (c .if1 .taken)),
-)
+loop-again c =
+    let head = c .before .before .before .before in (
+      omega arith,
+      end-begins (head .loop .inv .1) (omega arith) (omega arith) (head .before .before .before .pre .0 .0)
+          (sym (c .before .continues .ensures) ∙ not-true _ (c .if1 .taken)),
+    )
 
 loop-again-2 : tie.Need-loop-again-2 Inv-loop μ-loop
-loop-again-2 c = (
-  omega arith,
-  end-goes-on _ _ _ _ _ (c .before .before .before .before .loop .inv .1) (omega arith) (omega arith)
-      (sym (c .before .continues .ensures) ∙ not-false _ (c .if1 .left)),
-)
+loop-again-2 c =
+    let head = c .before .before .before .before in (
+      omega arith,
+      end-goes-on (head .loop .inv .1) (omega arith) (omega arith)
+          (sym (c .before .continues .ensures) ∙ not-false _ (c .if1 .left)),
+    )
 
 pub carry-ends-spec : {M : Type 1} → statement M
 carry-ends-spec =

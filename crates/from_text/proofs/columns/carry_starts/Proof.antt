@@ -18,14 +18,15 @@ abbrev μ-loop : tie.MeasureT-loop
 μ-loop text to starts₀ start₀ i₀ starts start i = to - i
 
 loop-again : tie.Need-loop-again Inv-loop μ-loop
-loop-again c = (
-  omega arith,
-  one-start _ _ _ _ _ _ (c .before .before .before .before .loop .inv .1) (omega arith) (omega arith)
-      (⊎-elim
-      (λ w. w .1 ∙ sym (charStart-begins _ _ (sym (c .before .continues .ensures) ∙ not-true _ (w .0 .taken))))
-      (λ w. w .1 ∙ c .before .before .before .before .loop .inv .1 .carried ∙ sym (start-carried _ _ (sym (c .before .continues .ensures) ∙ not-false _ (w .0 .left))))
-      (c .if1 .came)),
-)
+loop-again c =
+    let head = c .before .before .before .before in (
+      omega arith,
+      one-start (head .loop .inv .1) (omega arith) (omega arith)
+          (⊎-elim
+          (λ w. w .1 ∙ sym (charStart-begins _ _ (sym (c .before .continues .ensures) ∙ not-true _ (w .0 .taken))))
+          (λ w. w .1 ∙ head .loop .inv .1 .carried ∙ sym (start-carried _ _ (sym (c .before .continues .ensures) ∙ not-false _ (w .0 .left))))
+          (c .if1 .came)),
+    )
 
 pub carry-starts-spec : {M : Type 1} → statement M
 carry-starts-spec =

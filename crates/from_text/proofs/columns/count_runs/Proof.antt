@@ -1,11 +1,11 @@
 -- Each turn writes one more count.
-use Prim.Native.Nat.{_+_, _-_, _≤_}
+use Prim.Native.Nat.{_-_, _≤_}
 use native.Mathlib.Omega.{arith}
-use lib.ListN.{length, getD}
+use lib.ListN.{length}
 use borrow.Author.Needs.{needs}
 use Rattle.buffers.specs.Columns.{Filled}
 use Rattle.buffers.proofs.Columns.{none-filled, filled-up, filled-at}
-use Rattle.from_text.specs.ContinuationRun.{continuationRun, runAt}
+use Rattle.from_text.specs.ContinuationRun.{runAt}
 use Rattle.from_text.proofs.columns.count_runs.Statement.{statement}
 use Rattle.from_text.proofs.columns.count_runs.Tie as tie
 
