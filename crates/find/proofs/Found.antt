@@ -165,21 +165,21 @@ room-given : (size room : ℕ) → leb size room ≡ true → Accepted ≡ verdi
 unfolding verdict
 room-given size room e = rw e
 
-module _ (text literal o : List ℕ) where
-  finding : {v : Verdict} → v ≡ verdict (findFaults limit text literal (length o)) → Finding text literal o (matchesOf v (length (foundBytes text literal))) (after v (foundBytes text literal) o)
+module _ (most : ℕ) (text literal o : List ℕ) where
+  finding : {v : Verdict} → v ≡ verdict (findFaults most text literal (length o)) → Finding most text literal o (matchesOf v (length (foundBytes text literal))) (after v (foundBytes text literal) o)
   finding e =
       record { answer = ap (λ (v : Verdict). matchesOf v (length (foundBytes text literal))) e; list = ap (λ (v : Verdict). after v (foundBytes text literal) o) e }
 
-  module _ {v : Verdict} (e : v ≡ verdict (also (textFaults limit text) (stringFaults literal))) where
-    pub input-refused : {k : Refusal} → v ≡ Rejected k → Finding text literal o (Refused k) o
-    input-refused is = finding (refused-then 3 (also (textFaults limit text) (stringFaults literal)) (roomFaults (length (foundBytes text literal)) (length o)) refl refl e is)
+  module _ {v : Verdict} (e : v ≡ verdict (also (textFaults most text) (stringFaults literal))) where
+    pub input-refused : {k : Refusal} → v ≡ Rejected k → Finding most text literal o (Refused k) o
+    input-refused is = finding (refused-then 3 (also (textFaults most text) (stringFaults literal)) (roomFaults (length (foundBytes text literal)) (length o)) refl refl e is)
 
     module _ (is : v ≡ Accepted) {fits : Bool} (room : fits ≡ leb (length (foundBytes text literal)) (length o)) where
-      then-room : {w : Verdict} → w ≡ verdict (roomFaults (length (foundBytes text literal)) (length o)) → w ≡ verdict (findFaults limit text literal (length o))
-      then-room w = accepted-then 3 (also (textFaults limit text) (stringFaults literal)) (roomFaults (length (foundBytes text literal)) (length o)) refl refl e is w
+      then-room : {w : Verdict} → w ≡ verdict (roomFaults (length (foundBytes text literal)) (length o)) → w ≡ verdict (findFaults most text literal (length o))
+      then-room w = accepted-then 3 (also (textFaults most text) (stringFaults literal)) (roomFaults (length (foundBytes text literal)) (length o)) refl refl e is w
 
-      pub room-refused : not fits ≡ true → Finding text literal o (Refused NoRoom) o
+      pub room-refused : not fits ≡ true → Finding most text literal o (Refused NoRoom) o
       room-refused short = finding (then-room (room-missing (length (foundBytes text literal)) (length o) (sym room ∙ not-true fits short)))
 
-      pub list-written : {size : ℕ} {o₁ : List ℕ} → not fits ≡ false → (size ≡ length (foundBytes text literal)) × (o₁ ≡ overlay (foundBytes text literal) o) → Finding text literal o (Written size) o₁
+      pub list-written : {size : ℕ} {o₁ : List ℕ} → not fits ≡ false → (size ≡ length (foundBytes text literal)) × (o₁ ≡ overlay (foundBytes text literal) o) → Finding most text literal o (Written size) o₁
       list-written enough wrote = rw (wrote .0, wrote .1) (finding (then-room (room-given (length (foundBytes text literal)) (length o) (sym room ∙ not-false fits enough))))

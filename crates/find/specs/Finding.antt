@@ -48,7 +48,7 @@ abbrev pub matchesOf : Verdict → ℕ → Matches
 matchesOf Accepted n = Written n
 matchesOf (Rejected k) n = Refused k
 
--- the call: text, literal, the lent bytes before, the answer, the lent bytes after
-pub record Finding (text literal o₀ : List ℕ) (r : Matches) (o₁ : List ℕ) : Type 0 where
-  pub answer : r ≡ matchesOf (verdict (findFaults limit text literal (length o₀))) (length (foundBytes text literal))
-  pub list : o₁ ≡ after (verdict (findFaults limit text literal (length o₀))) (foundBytes text literal) o₀
+-- the call: limit, text, literal, the lent bytes before, the answer, the lent bytes after
+pub record Finding (most : ℕ) (text literal o₀ : List ℕ) (r : Matches) (o₁ : List ℕ) : Type 0 where
+  pub answer : r ≡ matchesOf (verdict (findFaults most text literal (length o₀))) (length (foundBytes text literal))
+  pub list : o₁ ≡ after (verdict (findFaults most text literal (length o₀))) (foundBytes text literal) o₀

@@ -126,7 +126,7 @@ pub fn write_list(text: &[u8], literal: &[u8], first: usize, out: &mut [u8]) -> 
 // The literal's matches in the text, and what stands between them, as a match list in `out`.
 // It judges, in this order: `TooLong` (the text), `IllFormed` (text or literal), `NoRoom`.
 pub fn find_matches(text: &[u8], literal: &[u8], out: &mut [u8]) -> Matches
-    ensures { λ r. ⌜ Finding (now (text .entry)) (now (literal .entry)) (now (out .entry)) r (now (out .exit)) ⌝ }
+    ensures { λ r. ⌜ Finding limit (now (text .entry)) (now (literal .entry)) (now (out .entry)) r (now (out .exit)) ⌝ }
 {
     if let Verdict::Refused(k) = earlier(check_text(text), check_string(literal)) {
         return Matches::Refused(k);

@@ -86,6 +86,10 @@ module _ {most : ℕ} {n : Note} {list content out₀ starts₀ ends₀ out star
   pub taken : Taken n list
   taken = accepted-taken most n list content (least (length out₀) (length starts₀) (length ends₀)) (sym (call .says-is) ∙ published-says)
 
+  pub published-short : a ≤ most
+  published-short =
+      omega (arith, published-size, accepted-room most n list content (least (length out₀) (length starts₀) (length ends₀)) (sym (call .says-is) ∙ published-says))
+
 -- the list, then the room
 module _ (text list : List ℕ) (size : ℕ) {t : Bool} (is : t ≡ covers text list) where
   pub not-covering : (room : ℕ) → not t ≡ true → Rejected BadMatches ≡ verdict (resultFaults text list size room)

@@ -40,11 +40,11 @@ find-matches-spec =
     (λ c κs. search needs)
     (λ c κs. search needs)
     (λ c. search needs)
-    (λ c. input-refused _ _ _ (judged (c .before .before .before)) (c .before .k .given .1))
+    (λ c. input-refused _ _ _ _ (judged (c .before .before .before)) (c .before .k .given .1))
     (λ c. search needs)
     (λ c κs. search needs)
     list-fits-requires
-    (λ c. room-refused _ _ _ (judged (c .before .before .before .before .before)) (c .before .before .before .enum-told .given .1) (c .before .list-fits .ensures) (c .if1 .taken))
+    (λ c. room-refused _ _ _ _ (judged (c .before .before .before .before .before)) (c .before .before .before .enum-told .given .1) (c .before .list-fits .ensures) (c .if1 .taken))
     write-list-requires
     (λ c. search needs)
-    (λ c. list-written _ _ _ (judged (c .before .before .before .before .before .before .before .before .before)) (c .before .before .before .before .before .before .before .enum-told .given .1) (c .before .before .before .before .before .list-fits .ensures) (c .before .before .before .before .if1 .left) (c .before .before .write-list .ensures)))
+    (λ c. list-written _ _ _ _ (judged (c .before .before .before .before .before .before .before .before .before)) (c .before .before .before .before .before .before .before .enum-told .given .1) (c .before .before .before .before .before .list-fits .ensures) (c .before .before .before .before .if1 .left) (c .before .before .write-list .ensures)))
