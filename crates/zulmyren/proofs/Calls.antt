@@ -19,6 +19,8 @@ use Rattle.replace.specs.declared.Publication.{Publication}
 use Rattle.replace.specs.declared.Publication.the-variants.{Published, Refused}
 use Rattle.replace.specs.Replacing.{Replacing}
 use Rattle.replace.proofs.Faults.{published-short}
+use Rattle.redact.specs.Redacting.{Redacted}
+use Rattle.redact.proofs.Redacting.{published-call}
 use Rattle.zulmyren.specs.declared.answers.Offsets.{Offsets}
 use Rattle.zulmyren.specs.Calls.{Told, offsetsOf, sideOf, PublishedShort}
 
@@ -43,6 +45,10 @@ range-refused f q = rw (f, q)
 pub replaced-short : (v : Publication) {n : Note} {list content out₀ starts₀ ends₀ out starts ends : List ℕ} → Replacing limit n list content out₀ starts₀ ends₀ v out starts ends → PublishedShort v
 replaced-short (Published a) call = published-short call
 replaced-short (Refused k) call = tt {0}
+
+pub redacted-short : (v : Publication) {text literal content starts₀ ends₀ list₀ out₀ outStarts₀ outEnds₀ starts ends list out outStarts outEnds : List ℕ} → Redacted limit text literal content starts₀ ends₀ list₀ out₀ outStarts₀ outEnds₀ v starts ends list out outStarts outEnds → PublishedShort v
+redacted-short (Published a) call = published-short (published-call _ _ _ _ _ _ _ _ _ _ _ _ _ _ _ _ call)
+redacted-short (Refused k) call = tt {0}
 
 pub published-within : {v : Publication} {n : ℕ} → v ≡ Published n → PublishedShort v → n ≤ limit
 published-within is short = rw is at short
