@@ -9,7 +9,8 @@ ghost use Rattle.note.specs.Notes.{aligned, lent, limit};
 ghost use Rattle.checks.specs.Lengths.{Judged};
 ghost use Rattle.checks.specs.Monotone.{follows, monotone, uncut, uncutBelow};
 
-// Whether the alignment (s1, e1) at the byte `b` can follow (s0, e0). It has no branch, so that a loop over it is vectorised.
+// Whether the alignment (s1, e1) at the byte `b` can follow (s0, e0). It has no branch, so that a loop over it is
+// vectorised.
 fn follows(b: u8, s0: Offset, e0: Offset, s1: Offset, e1: Offset, size: Offset) -> bool
     ensures { λ r. ⌜ r ≡ follows b s0 e0 s1 e1 size ⌝ }
 {

@@ -10,7 +10,8 @@ ghost use Rattle.utf8.specs.Formed.{wellFormed};
 ghost use Rattle.note.specs.Notes.{limit};
 ghost use Rattle.checks.specs.Unedited.{carries, unedited};
 
-// Whether both texts are well-formed. Where they are the same, one is judged. An inner function: `same` was told of the two texts before.
+// Whether both texts are well-formed. Where they are the same, one is judged. An inner function: `same` was told of the
+// two texts before.
 pub fn texts_formed(original: &[u8], normalized: &[u8], same: bool) -> bool
     requires { ⌜ (same ≡ true → now original ≡ now normalized) ⌝ }
     ensures { λ r. ⌜ r ≡ (wellFormed (now (original .entry)) && wellFormed (now (normalized .entry))) ⌝ }
@@ -33,7 +34,8 @@ fn carries(b: u8, s0: Offset, s1: Offset, e0: Offset, e1: Offset, i: Offset) -> 
     ((more & (s1 == s0)) | (!more & (s1 == i))) & ((more & (e0 == e1)) | (!more & (e0 == i)))
 }
 
-// Whether each byte is aligned to its character's range. An inner function: limit and numbers of alignments were judged before.
+// Whether each byte is aligned to its character's range. An inner function: limit and numbers of alignments were judged
+// before.
 pub fn unedited(text: &[u8], starts: &[Offset], ends: &[Offset]) -> bool
     requires { ⌜ length (now text) ≤ limit ⌝ }
     requires { ⌜ (length (now starts) ≡ length (now text)) × (length (now ends) ≡ length (now text)) ⌝ }

@@ -47,7 +47,8 @@ pub fn check_note(
     original_shift: u32,
 ) -> Verdict
     ensures { λ r. ⌜ r ≡ verdict (noteFaults limit
-        (lent (now (original .entry)) (now (normalized .entry)) (now (starts .entry)) (now (ends .entry)) «original_shift»)) ⌝ }
+        (lent (now (original .entry)) (now (normalized .entry))
+        (now (starts .entry)) (now (ends .entry)) «original_shift»)) ⌝ }
 {
     if !lengths_fit(original.len(), normalized.len(), original_shift) {
         return Verdict::Refused(Refusal::TooLong);
@@ -59,7 +60,10 @@ pub fn check_note(
     if !texts_formed(original, normalized, same) {
         return Verdict::Refused(Refusal::IllFormed);
     }
-    refused_if(!aligned(original, normalized, starts, ends, same), Refusal::Misaligned)
+    refused_if(
+        !aligned(original, normalized, starts, ends, same),
+        Refusal::Misaligned,
+    )
 }
 
 // Whether a text that is lent alone is refused.

@@ -73,9 +73,11 @@ worked =
     ∷ names (charOffsets limit (0x61 ∷ 0x62 ∷ 0x63 ∷ []) 0 10) 0 2
     -- `nest 12` and `nest 47` with their numbers blanked by two stars are published alike
     ∷ publishes (nest 0x31 0x32) blank (0x2A ∷ 0x2A ∷ [])
-    (0x6E ∷ 0x65 ∷ 0x73 ∷ 0x74 ∷ 0x20 ∷ 0x2A ∷ 0x2A ∷ []) (0 ∷ 1 ∷ 2 ∷ 3 ∷ 4 ∷ 6 ∷ 6 ∷ []) (1 ∷ 2 ∷ 3 ∷ 4 ∷ 5 ∷ 7 ∷ 7 ∷ [])
+    (0x6E ∷ 0x65 ∷ 0x73 ∷ 0x74 ∷ 0x20 ∷ 0x2A ∷ 0x2A ∷ [])
+    (0 ∷ 1 ∷ 2 ∷ 3 ∷ 4 ∷ 6 ∷ 6 ∷ []) (1 ∷ 2 ∷ 3 ∷ 4 ∷ 5 ∷ 7 ∷ 7 ∷ [])
     ∷ publishes (nest 0x34 0x37) blank (0x2A ∷ 0x2A ∷ [])
-    (0x6E ∷ 0x65 ∷ 0x73 ∷ 0x74 ∷ 0x20 ∷ 0x2A ∷ 0x2A ∷ []) (0 ∷ 1 ∷ 2 ∷ 3 ∷ 4 ∷ 6 ∷ 6 ∷ []) (1 ∷ 2 ∷ 3 ∷ 4 ∷ 5 ∷ 7 ∷ 7 ∷ [])
+    (0x6E ∷ 0x65 ∷ 0x73 ∷ 0x74 ∷ 0x20 ∷ 0x2A ∷ 0x2A ∷ [])
+    (0 ∷ 1 ∷ 2 ∷ 3 ∷ 4 ∷ 6 ∷ 6 ∷ []) (1 ∷ 2 ∷ 3 ∷ 4 ∷ 5 ∷ 7 ∷ 7 ∷ [])
     -- an empty matched place at the beginning of `ab`, filled by `x`
     ∷ publishes (starting (0x61 ∷ 0x62 ∷ [])) (12 ∷ 0 ∷ 0 ∷ 0 ∷ 0 ∷ 11 ∷ 0 ∷ 0 ∷ 2 ∷ 0 ∷ []) (0x78 ∷ [])
     (0x78 ∷ 0x61 ∷ 0x62 ∷ []) (0 ∷ 0 ∷ 1 ∷ []) (0 ∷ 1 ∷ 2 ∷ [])

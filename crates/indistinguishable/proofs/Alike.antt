@@ -72,8 +72,10 @@ module _ (most : ℕ) (n m : Note) (list content : List ℕ) (ok : verdict (comp
   coverings : Covering (n .normalized) (m .normalized) list × (Covering (n .starts) (m .starts) list × Covering (n .ends) (m .ends) list)
   coverings = (
     record { text = n .normalized; covered = first-taken .covered; one = refl; other = same-length },
-    (record { text = n .normalized; covered = first-taken .covered; one = first-taken .one-start; other = second-taken .one-start ∙ same-length },
-    record { text = n .normalized; covered = first-taken .covered; one = first-taken .one-end; other = second-taken .one-end ∙ same-length }),
+    (
+      record { text = n .normalized; covered = first-taken .covered; one = first-taken .one-start; other = second-taken .one-start ∙ same-length },
+      record { text = n .normalized; covered = first-taken .covered; one = first-taken .one-end; other = second-taken .one-end ∙ same-length },
+    ),
   )
 
 compared-both : (v : Verdict) (t u : Bool) → comparison v t ≡ Compared u → (v ≡ Accepted) × (t ≡ u)

@@ -1,5 +1,7 @@
--- RULES 15: the blanking claim as a call. Lent two notes, a list and a content, it says whether the published notes are equal, and so
--- whether the notes agree; or the first refusal that replacing would give to either, were the buffers as long as a text can be.
+-- RULES 15: the blanking claim as a call. Lent two notes, a list and a content, it says whether the published notes are
+-- equal, and so
+-- whether the notes agree; or the first refusal that replacing would give to either, were the buffers as long as a text
+-- can be.
 use Prim.Native.Nat.{ℕ}
 use mathlib.Core.Path.{_≡_}
 use mathlib.Core.Bool.{Bool, true, false, _&&_}
@@ -22,7 +24,8 @@ samePublished a b = same (a .text) (b .text) && same (a .starts) (b .starts) && 
 
 -- the refusals of both notes together
 abbrev pub compareFaults : ℕ → Note → Note → List ℕ → List ℕ → Refusal → Bool
-compareFaults most n m list content = also (replaceFaults most n list content most) (replaceFaults most m list content most)
+compareFaults most n m list content =
+    also (replaceFaults most n list content most) (replaceFaults most m list content most)
 
 abbrev pub comparison : Verdict → Bool → Comparison
 comparison Accepted t = Compared t
@@ -38,7 +41,8 @@ pub record PublishedAlike (most : ℕ) (n m : Note) (list content : List ℕ) (r
   pub answer : r ≡ says most n m list content
   pub alike :
       r ≡ Compared true
-      → Equal (replaced (placesOf list) content n) (replaced (placesOf list) content m) × Agree n m (placesOf list) content
+      → Equal (replaced (placesOf list) content n) (replaced (placesOf list) content m)
+      × Agree n m (placesOf list) content
   pub unlike :
       r ≡ Compared false
       → (Equal (replaced (placesOf list) content n) (replaced (placesOf list) content m) → ⊥)

@@ -1,4 +1,5 @@
-// Whether two notes publish the same under one list and one content (RULES 15; the blanking claim as a call), found by walking the list.
+// Whether two notes publish the same under one list and one content (RULES 15; the blanking claim as a call), found by
+// walking the list.
 use buffers::Offset;
 use buffers::equality::same_bytes;
 use buffers::equality::same_offsets;
@@ -106,10 +107,12 @@ fn all_alike(
     list: &[u8],
     wide: usize,
 ) -> bool
-    requires { ⌜ Covering (now normalized) (now other) (now list) × (Covering (now starts) (now «other_starts») (now list)
+    requires { ⌜ Covering (now normalized) (now other) (now list)
+        × (Covering (now starts) (now «other_starts») (now list)
         × Covering (now ends) (now «other_ends») (now list)) ⌝ }
-    ensures { λ r. ⌜ r ≡ allAlike (now (normalized .entry)) (now (starts .entry)) (now (ends .entry)) (now (other .entry))
-        (now («other_starts» .entry)) (now («other_ends» .entry)) wide (placesOf (now (list .entry))) ⌝ }
+    ensures { λ r. ⌜ r ≡ allAlike (now (normalized .entry)) (now (starts .entry)) (now (ends .entry))
+        (now (other .entry)) (now («other_starts» .entry)) (now («other_ends» .entry))
+        wide (placesOf (now (list .entry))) ⌝ }
 {
     if !texts_alike(normalized, other, list) {
         return false;
@@ -136,9 +139,10 @@ pub fn published_alike(
     content: &[u8],
 ) -> Comparison
     ensures { λ r. ⌜ PublishedAlike limit
-        (lent (now (original .entry)) (now (normalized .entry)) (now (starts .entry)) (now (ends .entry)) «original_shift»)
-        (lent (now («other_original» .entry)) (now (other .entry)) (now («other_starts» .entry)) (now («other_ends» .entry))
-            «other_shift»)
+        (lent (now (original .entry)) (now (normalized .entry))
+        (now (starts .entry)) (now (ends .entry)) «original_shift»)
+        (lent (now («other_original» .entry)) (now (other .entry))
+        (now («other_starts» .entry)) (now («other_ends» .entry)) «other_shift»)
         (now (list .entry)) (now (content .entry)) r ⌝ }
 {
     let one = check_replace(

@@ -1,4 +1,5 @@
--- RULES 2: which refusal conditions a lent note and a lent text meet, under a limit. Every call that is lent one has them among its own.
+-- RULES 2: which refusal conditions a lent note and a lent text meet, under a limit. Every call that is lent one has
+-- them among its own.
 use Prim.Native.Nat.{ℕ}
 use mathlib.Core.Path.{_≡_}
 use mathlib.Core.Bool.{Bool, true, not}

@@ -76,7 +76,8 @@ pub record Sound (n : Note) : Type 0 where
   pub has-texts : textsFormed n ≡ true
   pub has-alignments : aligned n ≡ true
 
--- what a new character at a place that ends at `end` carries of a column: the number of the byte before that end, 0 at the
+-- what a new character at a place that ends at `end` carries of a column: the number of the byte before that end, 0 at
+-- the
 -- text's beginning (RULES 10: what a filler carries)
 unfoldable pub beforeEnd : List ℕ → ℕ → ℕ
 beforeEnd column end = cond (eqb end 0) 0 (getD column (end - 1) 0)

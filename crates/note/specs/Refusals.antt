@@ -1,4 +1,5 @@
--- RULES 2: the refusals, the order in which they are judged, and what a refusal leaves. Every call's answer is said with `verdict`.
+-- RULES 2: the refusals, the order in which they are judged, and what a refusal leaves. Every call's answer is said
+-- with `verdict`.
 use Prim.Native.Nat.{ℕ, min}
 use mathlib.Core.Bool.{Bool, false, cond, _||_}
 use mathlib.Core.List.{List, [], _∷_}

@@ -1,6 +1,6 @@
 // The note's numbers, and the refusals of every call on it (RULES 1 and 2).
-pub mod rewrap;
 pub mod answers;
+pub mod rewrap;
 
 use buffers::Offset;
 ghost use mathlib.Core.Path.{_≡_};
@@ -41,7 +41,8 @@ pub enum Verdict {
 // The most bytes that a text has, and that a shift and a transcript have together.
 pub const LIMIT: usize = 65535;
 
-// What a new character carries of a column, at a place that ends at `end`. An inner function: `end` is no further than the column.
+// What a new character carries of a column, at a place that ends at `end`. An inner function: `end` is no further than
+// the column.
 pub fn before_end(column: &[Offset], end: usize) -> Offset
     requires { ⌜ end ≤ length (now column) ⌝ }
     ensures { λ r. ⌜ r ≡ beforeEnd (now (column .entry)) end ⌝ }

@@ -1,4 +1,5 @@
--- RULES 9: what stands at a byte of a match list. A place is a command, 11 unmatched or 12 matched, and its start and its end in two
+-- RULES 9: what stands at a byte of a match list. A place is a command, 11 unmatched or 12 matched, and its start and
+-- its end in two
 -- little-endian bytes each.
 use Prim.Native.Nat.{ℕ, zero, suc, _+_, _-_}
 use mathlib.Core.Bool.{Bool, true, false, cond, _&&_, _||_}

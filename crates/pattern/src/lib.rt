@@ -52,7 +52,14 @@ pub fn entry_at(list: &[u8], i: usize) -> Entry
     let start = position_at(list, i + 1);
     let end = position_at(list, i + 3);
     let matched = command == 12;
-    Entry::At(Place { start, end, matched }, i + 5)
+    Entry::At(
+        Place {
+            start,
+            end,
+            matched,
+        },
+        i + 5,
+    )
 }
 
 // Whether a place can stand behind one that ended at `at`.

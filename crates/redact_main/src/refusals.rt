@@ -7,7 +7,7 @@ pub fn say(line: &[u8]) {
 }
 
 // Which of the three is not UTF-8.
-fn refuse_torn(text: &[u8], literal: &[u8]) {
+fn refuse_ill_formed(text: &[u8], literal: &[u8]) {
     if !well_formed(text) {
         say(b"refused 1 torn: the note is not UTF-8; save it as UTF-8\n");
         return;
@@ -19,11 +19,11 @@ fn refuse_torn(text: &[u8], literal: &[u8]) {
     say(b"refused 1 torn: the filler is not UTF-8; type it in a UTF-8 terminal\n");
 }
 
-// Why nothing is published, and what to do. A note of standard input meets 1, 2 or 9; the other words complete the
-// table.
+// Why nothing is published, and what to do. A note of standard input meets `IllFormed`, `TooLong` or `NoRoom`; the
+// other words complete the table.
 pub fn refuse(k: Refusal, text: &[u8], literal: &[u8]) {
     match k {
-        Refusal::IllFormed => refuse_torn(text, literal),
+        Refusal::IllFormed => refuse_ill_formed(text, literal),
         Refusal::TooLong => say(
             b"refused 2 overlong: the note has more than 65,535 bytes; split it\n",
         ),

@@ -61,6 +61,6 @@ replaced-sound most n list content room e =
         has-alignments = stretch-aligned n 0 (length (n .normalized)) _ _ _ (n .original-shift) s;
       },
       and-intro
-      (and-intro (and-elim-left (leb (length (n .original)) most) _ near) (le-leb _ most (omega (arith, accepted-room most n list content room e))))
-      (and-elim-right (leb (length (n .original)) most && leb (length (n .normalized)) most) _ within),
+          (and-intro (and-elim-left (leb (length (n .original)) most) _ near) (le-leb _ most (omega (arith, accepted-room most n list content room e))))
+          (and-elim-right (leb (length (n .original)) most && leb (length (n .normalized)) most) _ within),
     )

@@ -1,4 +1,5 @@
--- RULES 10: what can still be told of the bytes under the blanks. Two notes, one list and one content, both accepted: the published
+-- RULES 10: what can still be told of the bytes under the blanks. Two notes, one list and one content, both accepted:
+-- the published
 -- notes are equal exactly when the notes agree outside the matched places and on what the content carries.
 use Prim.Native.Nat.{ℕ, _-_, _≤_, _<_}
 use mathlib.Core.Path.{_≡_}
@@ -40,14 +41,15 @@ abbrev pub published : ℕ → List ℕ → List ℕ → List ℕ → PublishedN
 published size out starts ends = record { text = take size out; starts = take size starts; ends = take size ends }
 
 -- THE CLAIM, clause by clause.
---  any two notes, whatever their transcripts and shifts, and whatever stands in the matched places     n, m: nothing is asked of them
---  any one list and filler                                                                list, content: the same in both calls
---  with which replacing accepts both           two values of `Replacing`, the contract of the call, that answer `Published`; each call
---                                              has lent buffers of its own, before (₀) and after
---  the two published notes                     `published`: the lent buffers after the call, cut by the number that it answered
---  are equal in length and in every byte and alignment                                    `Equal`
---  exactly when                                                                           the two halves of the pair
---  the notes agree                                                                        `Agree`
+--  two notes                  n, m: any two, whatever their transcripts and shifts; nothing is asked of what stands in
+--                             the matched places
+--  one list and one filler    list, content: the same in both calls
+--  replacing accepts both     two values of `Replacing`, the contract of the call, that answer `Published`; each call
+--                             has lent buffers of its own, before (₀) and after
+--  the published notes        `published`: the lent buffers after the call, cut by the number that it answered
+--  equal                      `Equal`: in length, and in every byte and alignment
+--  exactly when               the two halves of the pair
+--  the notes agree            `Agree`
 abbrev pub Blanking : Type 0
 Blanking =
     (most : ℕ) (n m : Note) (list content : List ℕ) (a b : ℕ)

@@ -35,7 +35,8 @@ pub record ContentRoom (starts ends : List ℕ) (to : ℕ) (content out starts�
   pub starts-room : at + length content ≤ length starts₀
   pub ends-room : at + length content ≤ length ends₀
 
-pub record ContentLaid (starts ends : List ℕ) (to : ℕ) (content out₀ starts₀ ends₀ : List ℕ) (at : ℕ) (out starts₁ ends₁ : List ℕ) : Type 0 where
+pub record ContentLaid (starts ends : List ℕ) (to : ℕ) (content out₀ starts₀ ends₀ : List ℕ) (at : ℕ)
+    (out starts₁ ends₁ : List ℕ) : Type 0 where
   pub text-is : out ≡ splice out₀ at content
   pub starts-are : starts₁ ≡ splice starts₀ at (carried (length content) starts to)
   pub ends-are : ends₁ ≡ splice ends₀ at (carried (length content) ends to)
@@ -68,7 +69,8 @@ pub record Ready (text starts ends list content out starts₀ ends₀ : List ℕ
   pub ends-room : sizes (length content) (placesOf list) ≤ length ends₀
 
 -- the whole result stands in front
-pub record AllLaid (text starts ends list content out₀ starts₀ ends₀ : List ℕ) (r : ℕ) (out starts₁ ends₁ : List ℕ) : Type 0 where
+pub record AllLaid (text starts ends list content out₀ starts₀ ends₀ : List ℕ) (r : ℕ)
+    (out starts₁ ends₁ : List ℕ) : Type 0 where
   pub reached : r ≡ length (laid (λ end. content) (placesOf list) text)
   pub text-is : out ≡ overlay (laid (λ end. content) (placesOf list) text) out₀
   pub starts-are : starts₁ ≡ overlay (laid (carried (length content) starts) (placesOf list) starts) starts₀

@@ -1,4 +1,5 @@
--- RULES 10: what a list and a content, the filler, make of a note, when that is refused, and the call (Rust: `NormalizedString::replace`).
+-- RULES 10: what a list and a content, the filler, make of a note, when that is refused, and the call (Rust:
+-- `NormalizedString::replace`).
 use Prim.Native.Nat.{ℕ, min}
 use mathlib.Core.Path.{_≡_}
 use mathlib.Core.Bool.{Bool, true, cond}

@@ -8,7 +8,8 @@ use note::before_end;
 use pattern::Entry;
 use pattern::Place;
 use pattern::entry_at;
-ghost use Rattle.replace.specs.Laying.{AllLaid, ContentLaid, ContentRoom, Fitting, Kept, KeepRoom, PlaceLaid, Ready};
+ghost use Rattle.replace.specs.Laying.{AllLaid, ContentLaid, ContentRoom, Fitting, Kept, KeepRoom};
+ghost use Rattle.replace.specs.Laying.{PlaceLaid, Ready};
 
 // An unmatched place's bytes with their alignments, laid into the buffers from `at` on.
 fn keep(
@@ -44,7 +45,8 @@ fn fill(
     out_ends: &mut [Offset],
     at: usize,
 )
-    requires { ⌜ ContentRoom (now starts) (now ends) to (now content) (now out) (now «out_starts») (now «out_ends») at ⌝ }
+    requires { ⌜ ContentRoom (now starts) (now ends) to (now content)
+        (now out) (now «out_starts») (now «out_ends») at ⌝ }
     ensures { λ _. ⌜ ContentLaid (now (starts .entry)) (now (ends .entry)) to (now (content .entry))
         (now (out .entry)) (now («out_starts» .entry)) (now («out_ends» .entry)) at
         (now (out .exit)) (now («out_starts» .exit)) (now («out_ends» .exit)) ⌝ }
@@ -68,7 +70,8 @@ fn lay_place(
 ) -> usize
     requires { ⌜ Fitting (now normalized) (now starts) (now ends) (now content) place
         (now out) (now «out_starts») (now «out_ends») at ⌝ }
-    ensures { λ r. ⌜ PlaceLaid (now (normalized .entry)) (now (starts .entry)) (now (ends .entry)) (now (content .entry)) place
+    ensures { λ r. ⌜ PlaceLaid (now (normalized .entry)) (now (starts .entry)) (now (ends .entry))
+        (now (content .entry)) place
         (now (out .entry)) (now («out_starts» .entry)) (now («out_ends» .entry)) at
         r (now (out .exit)) (now («out_starts» .exit)) (now («out_ends» .exit)) ⌝ }
 {
@@ -80,7 +83,17 @@ fn lay_place(
         fill(starts, ends, to, content, out, out_starts, out_ends, at);
         return at + content.len();
     }
-    keep(normalized, starts, ends, from, to, out, out_starts, out_ends, at);
+    keep(
+        normalized,
+        starts,
+        ends,
+        from,
+        to,
+        out,
+        out_starts,
+        out_ends,
+        at,
+    );
     at + (to - from)
 }
 

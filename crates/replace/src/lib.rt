@@ -1,4 +1,5 @@
-// Replacing (RULES 10; Rust: `NormalizedString::replace`): matched places of the cleaned text give way to the content, the filler.
+// Replacing (RULES 10; Rust: `NormalizedString::replace`): matched places of the cleaned text give way to the content,
+// the filler.
 pub mod laying;
 
 use buffers::Offset;
@@ -47,7 +48,8 @@ fn size_of(place: Place, wide: usize) -> usize
     (end.0 - start.0) as usize
 }
 
-// How many bytes the places of a list give beside a content of `wide` bytes; one more than the limit where they are more.
+// How many bytes the places of a list give beside a content of `wide` bytes; one more than the limit where they are
+// more.
 pub fn measure(list: &[u8], wide: usize) -> usize
     ensures { λ r. ⌜ r ≡ min (limit + 1) (sizes wide (placesOf (now (list .entry)))) ⌝ }
 {
@@ -77,7 +79,10 @@ fn check_list(text: &[u8], list: &[u8], wide: usize, room: usize) -> Verdict
     if !covers(text, list) {
         return Verdict::Refused(Refusal::BadMatches);
     }
-    refused_if(least_of_two(LIMIT, room) < measure(list, wide), Refusal::NoRoom)
+    refused_if(
+        least_of_two(LIMIT, room) < measure(list, wide),
+        Refusal::NoRoom,
+    )
 }
 
 // What `replace` says of a note, a list and a content beside the room that is lent.
@@ -92,7 +97,8 @@ pub fn check_replace(
     room: usize,
 ) -> Verdict
     ensures { λ r. ⌜ r ≡ verdict (replaceFaults limit
-        (lent (now (original .entry)) (now (normalized .entry)) (now (starts .entry)) (now (ends .entry)) «original_shift»)
+        (lent (now (original .entry)) (now (normalized .entry))
+        (now (starts .entry)) (now (ends .entry)) «original_shift»)
         (now (list .entry)) (now (content .entry)) room) ⌝ }
 {
     let noted = check_note(original, normalized, starts, ends, original_shift);
@@ -102,7 +108,8 @@ pub fn check_replace(
     }
 }
 
-// Matched places of the cleaned text give way to the content: text and alignments of the result stand in front of the lent buffers.
+// Matched places of the cleaned text give way to the content: text and alignments of the result stand in front of the
+// lent buffers.
 pub fn replace(
     original: &[u8],
     normalized: &[u8],
@@ -116,13 +123,23 @@ pub fn replace(
     out_ends: &mut [Offset],
 ) -> Publication
     ensures { λ r. ⌜ Replacing limit
-        (lent (now (original .entry)) (now (normalized .entry)) (now (starts .entry)) (now (ends .entry)) «original_shift»)
+        (lent (now (original .entry)) (now (normalized .entry))
+        (now (starts .entry)) (now (ends .entry)) «original_shift»)
         (now (list .entry)) (now (content .entry))
         (now (out .entry)) (now («out_starts» .entry)) (now («out_ends» .entry))
         r (now (out .exit)) (now («out_starts» .exit)) (now («out_ends» .exit)) ⌝ }
 {
     let room = least_room(out.len(), out_starts.len(), out_ends.len());
-    match check_replace(original, normalized, starts, ends, original_shift, list, content, room) {
+    match check_replace(
+        original,
+        normalized,
+        starts,
+        ends,
+        original_shift,
+        list,
+        content,
+        room,
+    ) {
         Verdict::Accepted => Publication::Published(lay_out(
             normalized,
             starts,

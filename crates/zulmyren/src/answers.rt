@@ -8,7 +8,8 @@ use find::Matches;
 use note::answers::number;
 use replace::Publication;
 ghost use mathlib.Core.Path.{_≡_};
-ghost use Rattle.zulmyren.specs.Calls.{PublishedShort, charsOf, comparedOf, lettersOf, listedOf, offsetsOf, publishedOf};
+ghost use Rattle.zulmyren.specs.Calls.{PublishedShort, charsOf, comparedOf, lettersOf, listedOf};
+ghost use Rattle.zulmyren.specs.Calls.{offsetsOf, publishedOf};
 
 // A count, 0 where the call is refused.
 #[repr(C)]

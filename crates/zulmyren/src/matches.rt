@@ -36,7 +36,8 @@ pub extern "C" fn zulmyren_replace(
     out_ends: &mut [Offset],
 ) -> Count
     ensures { λ r. ⌜ Told publishedOf (λ v. Replacing limit
-        (lent (now (original .entry)) (now (normalized .entry)) (now (starts .entry)) (now (ends .entry)) «original_shift»)
+        (lent (now (original .entry)) (now (normalized .entry))
+        (now (starts .entry)) (now (ends .entry)) «original_shift»)
         (now (list .entry)) (now (content .entry))
         (now (out .entry)) (now («out_starts» .entry)) (now («out_ends» .entry))
         v (now (out .exit)) (now («out_starts» .exit)) (now («out_ends» .exit))) r ⌝ }
@@ -71,9 +72,10 @@ pub extern "C" fn zulmyren_published_alike(
     content: &[u8],
 ) -> Comparison
     ensures { λ r. ⌜ r ≡ comparedOf (says limit
-        (lent (now (original .entry)) (now (normalized .entry)) (now (starts .entry)) (now (ends .entry)) «original_shift»)
-        (lent (now («other_original» .entry)) (now (other .entry)) (now («other_starts» .entry)) (now («other_ends» .entry))
-            «other_shift»)
+        (lent (now (original .entry)) (now (normalized .entry))
+        (now (starts .entry)) (now (ends .entry)) «original_shift»)
+        (lent (now («other_original» .entry)) (now (other .entry))
+        (now («other_starts» .entry)) (now («other_ends» .entry)) «other_shift»)
         (now (list .entry)) (now (content .entry))) ⌝ }
 {
     comparison_told(indistinguishable::published_alike(
@@ -104,7 +106,8 @@ pub extern "C" fn zulmyren_redact(
     out_starts: &mut [Offset],
     out_ends: &mut [Offset],
 ) -> Count
-    ensures { λ r. ⌜ Told publishedOf (λ v. Redacted limit (now (text .entry)) (now (literal .entry)) (now (content .entry))
+    ensures { λ r. ⌜ Told publishedOf (λ v. Redacted limit
+        (now (text .entry)) (now (literal .entry)) (now (content .entry))
         (now (starts .entry)) (now (ends .entry)) (now (list .entry))
         (now (out .entry)) (now («out_starts» .entry)) (now («out_ends» .entry))
         v (now (starts .exit)) (now (ends .exit)) (now (list .exit))

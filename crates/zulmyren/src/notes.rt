@@ -16,7 +16,8 @@ pub extern "C" fn zulmyren_check_note(
     original_shift: u32,
 ) -> u32
     ensures { λ r. ⌜ r ≡ answerOf (verdict (noteFaults limit
-        (lent (now (original .entry)) (now (normalized .entry)) (now (starts .entry)) (now (ends .entry)) «original_shift»))) ⌝ }
+        (lent (now (original .entry)) (now (normalized .entry))
+        (now (starts .entry)) (now (ends .entry)) «original_shift»))) ⌝ }
 {
     note::answers::answer(checks::check_note(original, normalized, starts, ends, original_shift))
 }

@@ -34,7 +34,8 @@ pub extern "C" fn zulmyren_convert_offsets(
     end: u32,
 ) -> Offsets
     ensures { λ r. ⌜ r ≡ offsetsOf (convertOffsets limit
-        (lent (now (original .entry)) (now (normalized .entry)) (now (starts .entry)) (now (ends .entry)) «original_shift»)
+        (lent (now (original .entry)) (now (normalized .entry))
+        (now (starts .entry)) (now (ends .entry)) «original_shift»)
         (rangeOf (sideOf «of_original») start end)) ⌝ }
 {
     let range = range_of(side_of(of_original), start, end);
@@ -53,7 +54,8 @@ pub extern "C" fn zulmyren_get_range(
     end: u32,
 ) -> Offsets
     ensures { λ r. ⌜ r ≡ offsetsOf (getRange limit
-        (lent (now (original .entry)) (now (normalized .entry)) (now (starts .entry)) (now (ends .entry)) «original_shift»)
+        (lent (now (original .entry)) (now (normalized .entry))
+        (now (starts .entry)) (now (ends .entry)) «original_shift»)
         (rangeOf (sideOf «of_original») start end)) ⌝ }
 {
     let range = range_of(side_of(of_original), start, end);
@@ -72,7 +74,8 @@ pub extern "C" fn zulmyren_get_range_original(
     end: u32,
 ) -> Offsets
     ensures { λ r. ⌜ r ≡ offsetsOf (getRangeOriginal limit
-        (lent (now (original .entry)) (now (normalized .entry)) (now (starts .entry)) (now (ends .entry)) «original_shift»)
+        (lent (now (original .entry)) (now (normalized .entry))
+        (now (starts .entry)) (now (ends .entry)) «original_shift»)
         (rangeOf (sideOf «of_original») start end)) ⌝ }
 {
     let range = range_of(side_of(of_original), start, end);
@@ -116,7 +119,8 @@ pub extern "C" fn zulmyren_convert_all(
     out_ends: &mut [u32],
 ) -> u32
     ensures { λ r. ⌜ Told answerOf (λ v. ConvertedList limit
-        (lent (now (original .entry)) (now (normalized .entry)) (now (starts .entry)) (now (ends .entry)) «original_shift»)
+        (lent (now (original .entry)) (now (normalized .entry))
+        (now (starts .entry)) (now (ends .entry)) «original_shift»)
         (sideOf «of_original») (now (from .entry)) (now (to .entry))
         (now (numbers .entry)) (now («out_starts» .entry)) (now («out_ends» .entry))
         v (now (numbers .exit)) (now («out_starts» .exit)) (now («out_ends» .exit))) r ⌝ }

@@ -42,7 +42,8 @@ pub extern "C" fn zulmyren_char_offsets_all(
     char_starts: &mut [u32],
     char_ends: &mut [u32],
 ) -> u32
-    ensures { λ r. ⌜ Told answerOf (λ v. CharOffsetsList limit (now (text .entry)) (now (starts .entry)) (now (ends .entry))
+    ensures { λ r. ⌜ Told answerOf (λ v. CharOffsetsList limit
+        (now (text .entry)) (now (starts .entry)) (now (ends .entry))
         (now (numbers .entry)) (now («char_starts» .entry)) (now («char_ends» .entry))
         v (now (numbers .exit)) (now («char_starts» .exit)) (now («char_ends» .exit))) r ⌝ }
 {
