@@ -7,9 +7,9 @@ use native.Mathlib.Omega.{arith}
 use lib.Dec.{leb}
 use lib.ListN.{length, length-append}
 use borrow.Author.Tests.{le-leb, not-true, not-false}
-use Rattle.buffers.specs.Splice.{splice, overlay, Laid}
+use Rattle.buffers.specs.Splice.{overlay, Laid}
 use Rattle.buffers.proofs.Cases.{le-or-lt}
-use Rattle.buffers.proofs.Splice.{Laying, splice-nil, splice-overlay, laid-length, none-laid, piece-laid, laying-size, all-laid}
+use Rattle.buffers.proofs.Splice.{Laying, splice-nil, splice-overlay, none-laid, piece-laid, laying-size, all-laid}
 use Rattle.note.specs.declared.Refusal.{Refusal}
 use Rattle.note.specs.declared.Refusal.the-variants.{NoRoom}
 use Rattle.note.specs.declared.Verdict.{Verdict}
@@ -21,13 +21,12 @@ use Rattle.note.proofs.Verdicts.{refused-then, accepted-then}
 use Rattle.pattern.specs.declared.Place.{Place}
 use Rattle.pattern.specs.Encoding.{placeBytes, encodedPlaces, roomFor}
 use Rattle.pattern.proofs.Encoding.{length-encoded}
-use Rattle.find.specs.declared.Matches.{Matches}
 use Rattle.find.specs.declared.Matches.the-variants.{Written, Refused}
 use Rattle.find.specs.Matching.{firstFrom, placeFrom, between, matchesFrom, foundPlaces}
 use Rattle.find.specs.Finding.{foundBytes, matchesOf, findFaults, Finding}
 use Rattle.find.specs.Searching.{firstMatch}
 use Rattle.find.proofs.FirstFrom.{first-of-none}
-use Rattle.find.proofs.MatchesFrom.{Searched, first-there, match-inside, searched-more, matches-more, matches-end}
+use Rattle.find.proofs.MatchesFrom.{Searched, first-there, searched-more, matches-more, matches-end}
 use Rattle.find.proofs.FoundPlaces.{between-some, between-none, between-most, found-whole, searched-first, found-from, longest-list}
 
 -- the bytes of places

@@ -1,7 +1,7 @@
 -- Laws of `foundPlaces`: by the first match, covering, writable, and at most so many.
 use Prim.Native.Nat.{ℕ, zero, suc, _+_, _*_, _-_, _/_, _≤_, _<_}
 use mathlib.Core.Path.{_≡_, _∙_, ap, refl, sym}
-use mathlib.Core.Bool.{Bool, true, false, _&&_, _||_}
+use mathlib.Core.Bool.{Bool, true, false, _||_}
 use mathlib.Mathlib.Data.Bool.Basic.{and-intro, and-elim-left, and-elim-right}
 use mathlib.Core.List.{List, [], _∷_, _++_, append-nil}
 use native.Mathlib.Nat.{add-mul, div-mul-le-self, le-div-iff-mul-le}
@@ -15,13 +15,13 @@ use Rattle.utf8.proofs.Boundaries.{boundary-length}
 use Rattle.note.specs.Notes.{limit}
 use Rattle.pattern.specs.declared.Place.{Place}
 use Rattle.pattern.specs.Places.{fitsAt, coversFrom, covers}
-use Rattle.pattern.specs.Encoding.{encodedPlaces, writable, allWritable, roomFor}
+use Rattle.pattern.specs.Encoding.{writable, allWritable}
 use Rattle.pattern.proofs.Encoding.{read-back, room-enough}
 use Rattle.find.specs.Matching.{firstFrom, First, placeFrom, between, matchesFrom, foundPlaces}
 use Rattle.find.specs.Finding.{foundBytes, FoundCovers, FoundRead, LongestList}
 use Rattle.find.specs.Searching.{firstMatch}
 use Rattle.find.proofs.Occurs.{starts-on, ends-on}
-use Rattle.find.proofs.FirstFrom.{first-leftmost, first-of-none, first-of-some}
+use Rattle.find.proofs.FirstFrom.{first-of-none, first-of-some}
 use Rattle.find.proofs.MatchesFrom.{Searched, first-there, match-inside, searched-more, matches-more, matches-end}
 
 pub between-some : {a e : ℕ} → a < e → between a e ≡ placeFrom a e false ∷ []

@@ -24,6 +24,9 @@ pub enum Entry {
     Broken,
 }
 
+// The most bytes that a place has in a list.
+pub const MOST: usize = 5;
+
 // The position whose two bytes stand at `i`.
 fn position_at(list: &[u8], i: usize) -> NormalizedByte
     requires { ⌜ i + 2 ≤ length (now list) ⌝ }

@@ -1,4 +1,5 @@
 // A place written into a list, and the room that places need. Inner functions: positions and room were judged before.
+use crate::MOST;
 use crate::Place;
 use numbers::little_endian::put_u16_le;
 ghost use mathlib.Core.Path.{_≡_};
@@ -29,7 +30,7 @@ pub fn room_for(places: usize) -> usize
     requires { ⌜ places ≤ 3000000000 ⌝ }
     ensures { λ r. ⌜ r ≡ roomFor places ⌝ }
 {
-    places * 5
+    places * MOST
 }
 
 // The place in the list from byte `i` on; where the next one begins.

@@ -6,11 +6,9 @@ use mathlib.Core.List.{List}
 use native.Mathlib.Omega.{arith}
 use lib.Dec.{leb}
 use lib.ListN.{length, take, length-replicate}
-use lib.Seq.{take-at}
 use borrow.Author.Tests.{le-leb, lt-leb, not-true, not-false}
 use Rattle.buffers.specs.Splice.{overlay}
 use Rattle.buffers.proofs.Booleans.{and-false-l, and-false-r}
-use Rattle.buffers.proofs.Columns.{length-column}
 use Rattle.buffers.proofs.Splice.{take-overlay, overlay-long}
 use Rattle.utf8.specs.Formed.{wellFormed}
 use Rattle.note.specs.declared.Refusal.{Refusal}
@@ -19,14 +17,14 @@ use Rattle.note.specs.declared.Verdict.{Verdict}
 use Rattle.note.specs.declared.Verdict.the-variants.{Accepted, Refused as Rejected}
 use Rattle.note.specs.Refusals.{none, meets, also, least, verdict, after}
 use Rattle.note.specs.Rank.{earlier}
-use Rattle.note.specs.Notes.{Note, limit}
+use Rattle.note.specs.Notes.{limit}
 use Rattle.note.specs.Faults.{noteFaults, textFaults, stringFaults, roomFaults}
-use Rattle.note.specs.Starting.{charStart, charEnd, starting}
+use Rattle.note.specs.Starting.{starting}
 use Rattle.note.proofs.Verdicts.{earlier-of, earlier-first, refused-then, accepted-then, accepted-first, accepted-second}
 use Rattle.note.proofs.Faults.{text-short, text-formed, string-formed, room-enough}
-use Rattle.note.proofs.Starting.{starting-accepted}
+use Rattle.note.proofs.Starting.{length-starting-starts, length-starting-ends, starting-accepted}
 use Rattle.pattern.specs.Entries.{placesOf}
-use Rattle.pattern.specs.Places.{coversFrom, covers, listFaults}
+use Rattle.pattern.specs.Places.{listFaults}
 use Rattle.pattern.proofs.Places.{covers-places}
 use Rattle.find.specs.Matching.{foundPlaces}
 use Rattle.find.specs.Finding.{foundBytes}
@@ -34,11 +32,11 @@ use Rattle.find.specs.Searching.{firstMatch}
 use Rattle.find.proofs.FoundPlaces.{found-read, found-covers}
 use Rattle.replace.specs.declared.Publication.{Publication}
 use Rattle.replace.specs.declared.Publication.the-variants.{Published, Refused}
-use Rattle.replace.specs.Replacing.{carried, laid, replaced, replaceFaults, publication, Replacing}
+use Rattle.replace.specs.Replacing.{carried, laid, replaced, replaceFaults, publication}
 use Rattle.replace.specs.Sizes.{sizes}
 use Rattle.replace.specs.Laying.{Ready, AllLaid}
 use Rattle.replace.proofs.Sizes.{length-laid}
-use Rattle.replace.proofs.Faults.{Taken, published-size, taken, ready, accepted}
+use Rattle.replace.proofs.Faults.{Taken, published-size, taken, ready}
 use Rattle.redact.specs.Redacting.{blanked, inputFaults, roomsFaults, redactFaults, Redacted}
 use Rattle.redact.specs.Publishing.{PublishedCall}
 use Rattle.redact.specs.Rooms.{allFit, Searchable}
@@ -46,15 +44,6 @@ use Rattle.redact.specs.Rooms.{allFit, Searchable}
 -- two inputs that are accepted are accepted together
 both-accepted : (f g : Refusal → Bool) → verdict f ≡ Accepted → verdict g ≡ Accepted → verdict (also f g) ≡ Accepted
 both-accepted f g a b = sym (earlier-of f g {v = Accepted} {w = Accepted} (sym a) (sym b) (earlier-first refl))
-
--- both columns of the starting note are as long as the text
-length-starts : (text : List ℕ) → length (starting text .starts) ≡ length text
-unfolding starting
-length-starts text = length-column (length text) (charStart text)
-
-length-ends : (text : List ℕ) → length (starting text .ends) ≡ length text
-unfolding starting
-length-ends text = length-column (length text) (charEnd text)
 
 -- the list that is found covers the text, so that the size of its places is that of the result
 module _ (text literal : List ℕ) (t : wellFormed text ≡ true) (l : wellFormed literal ≡ true) (short : length text ≤ limit) where
@@ -199,10 +188,10 @@ module _ (r d : List ℕ) {o : List ℕ} {n : ℕ} (long : length r ≡ n) (e : 
   front = rw (e, ← long) (take-overlay r d)
 
 pub starts-long : (text starts₀ : List ℕ) {starts : List ℕ} → starts ≡ overlay (starting text .starts) starts₀ → length text ≤ length starts
-starts-long text starts₀ s = front-long _ starts₀ (length-starts text) s
+starts-long text starts₀ s = front-long _ starts₀ (length-starting-starts text) s
 
 pub ends-long : (text ends₀ : List ℕ) {ends : List ℕ} → ends ≡ overlay (starting text .ends) ends₀ → length text ≤ length ends
-ends-long text ends₀ e = front-long _ ends₀ (length-ends text) e
+ends-long text ends₀ e = front-long _ ends₀ (length-starting-ends text) e
 
 pub list-long : (text literal list₀ : List ℕ) {list : List ℕ} {n : ℕ} → (n ≡ length (foundBytes text literal)) × (list ≡ overlay (foundBytes text literal) list₀) → n ≤ length list
 list-long text literal list₀ l = front-long _ list₀ (sym (l .0)) (l .1)
@@ -213,14 +202,14 @@ module _ (text literal content starts₀ ends₀ list₀ out₀ outStarts₀ out
     pub all-ready : Ready text (take (length text) starts) (take (length text) ends) (take n list) content out₀ outStarts₀ outEnds₀
     unfolding starting
     all-ready =
-        rw (front _ starts₀ (length-starts text) s, front _ ends₀ (length-ends text) e, front _ list₀ (sym (l .0)) (l .1))
+        rw (front _ starts₀ (length-starting-starts text) s, front _ ends₀ (length-starting-ends text) e, front _ list₀ (sym (l .0)) (l .1))
         (ready limit (starting text) (foundBytes text literal) content out₀ outStarts₀ outEnds₀ {v = Accepted} refl (sym (replace-accepts text literal content _ _ _ ok)) refl)
 
     pub all-blanked : {r : ℕ} {out outStarts outEnds : List ℕ} → AllLaid text (take (length text) starts) (take (length text) ends) (take n list) content out₀ outStarts₀ outEnds₀ r out outStarts outEnds → Redacted limit text literal content starts₀ ends₀ list₀ out₀ outStarts₀ outEnds₀ (Published r) starts ends list out outStarts outEnds
     unfolding starting replaced
     all-blanked laid =
         let whole : AllLaid text (starting text .starts) (starting text .ends) (foundBytes text literal) content out₀ outStarts₀ outEnds₀ _ _ _ _ =
-        rw (front _ starts₀ (length-starts text) s, front _ ends₀ (length-ends text) e, front _ list₀ (sym (l .0)) (l .1)) at laid in
+        rw (front _ starts₀ (length-starting-starts text) s, front _ ends₀ (length-starting-ends text) e, front _ list₀ (sym (l .0)) (l .1)) at laid in
         record {
           says = Accepted;
           says-is = sym ok;

@@ -10,13 +10,14 @@ use input::asks_alignments;
 use input::read_note;
 use lines::write_alignments;
 use note::LIMIT;
+use pattern::MOST;
 use redact::redact;
 use refusals::refuse;
 use refusals::say;
 use replace::Publication;
 
-// Room for the list of any literal's matches, ten bytes for each byte of the text, and five (RULES 9.6).
-const LIST: usize = 10 * LIMIT + 5;
+// Room for the list of any literal's matches: one place for each, one before each, and one behind the last (RULES 9.6).
+const LIST: usize = MOST * (2 * LIMIT + 1);
 
 fn usage() {
     say(

@@ -2,7 +2,6 @@
 use Prim.Native.Nat.{_-_}
 use native.Mathlib.Omega.{arith}
 use lib.ListN.{length}
-use borrow.Author.Needs.{needs}
 use Rattle.find.proofs.MatchesFrom.{first-there, match-inside}
 use Rattle.find.proofs.Found.{Counted, none-counted, count-bounds, next-counted, all-counted, one-counted}
 use Rattle.find.proofs.count_places.Statement.{statement}

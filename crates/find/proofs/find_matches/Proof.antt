@@ -1,16 +1,12 @@
 -- Text and literal are judged together, then the room; past both the list is written.
 use mathlib.Core.Path.{_≡_, _∙_, sym}
-use native.Mathlib.Omega.{arith}
-use lib.ListN.{length}
 use borrow.Author.Needs.{needs}
 use borrow.Author.Tests.{leb-true, not-false}
-use Rattle.note.specs.declared.Verdict.the-variants.{Accepted}
 use Rattle.note.specs.Refusals.{also, verdict}
 use Rattle.note.specs.Notes.{limit}
 use Rattle.note.specs.Faults.{textFaults, stringFaults}
 use Rattle.note.proofs.Verdicts.{earlier-of, accepted-first}
 use Rattle.note.proofs.Faults.{text-short}
-use Rattle.find.specs.Finding.{foundBytes}
 use Rattle.find.proofs.Found.{input-refused, room-refused, list-written}
 use Rattle.find.proofs.find_matches.Statement.{statement}
 use Rattle.find.proofs.find_matches.Tie as tie
