@@ -7,6 +7,7 @@ ghost use mathlib.Core.Bool.{cond, true};
 ghost use Prim.Native.Nat.{_+_, _≤_};
 ghost use lib.ListN.{length};
 ghost use Rattle.buffers.specs.Splice.{Laid};
+ghost use Rattle.note.specs.Notes.{limit};
 ghost use Rattle.pattern.specs.Encoding.{placeBytes, roomFor, writable};
 
 fn command_of(matched: bool) -> u8
@@ -18,16 +19,9 @@ fn command_of(matched: bool) -> u8
     11
 }
 
-// How many bytes of a list a place takes.
-pub fn size_of(place: Place) -> usize
-    ensures { λ r. ⌜ r ≡ length (placeBytes place) ⌝ }
-{
-    5
-}
-
-// Bytes that are enough for so many places.
+// Bytes that are enough for so many places; a text's matches have no more places than this demands.
 pub fn room_for(places: usize) -> usize
-    requires { ⌜ places ≤ 3000000000 ⌝ }
+    requires { ⌜ places ≤ limit + limit + 1 ⌝ }
     ensures { λ r. ⌜ r ≡ roomFor places ⌝ }
 {
     places * MOST

@@ -26,7 +26,7 @@ pub list-fits-spec : {M : Type 1} → statement M
 list-fits-spec =
     tie.close
     (tie.spec
-    (λ c κs. search needs)
+    (λ c κs. omega arith)
     (λ c. fits-one _ _ _ (c .before .if1 .taken) (c .room-for .ensures))
     (λ c. search needs)
     mul-room-for
