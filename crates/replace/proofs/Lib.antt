@@ -3,5 +3,6 @@ pub mod Sizes
 pub mod Laid
 pub mod Columns
 pub mod Blanking
+pub mod TextAlone
 pub mod Replaced
 pub mod Faults
