@@ -4,5 +4,6 @@ pub mod Laid
 pub mod Columns
 pub mod Blanking
 pub mod TextAlone
+pub mod Fresh
 pub mod Replaced
 pub mod Faults

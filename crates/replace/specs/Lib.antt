@@ -2,5 +2,6 @@
 pub mod Replacing
 pub mod Blanking
 pub mod TextAlone
+pub mod Fresh
 pub mod Sizes
 pub mod Laying
