@@ -3,5 +3,7 @@ pub mod Sizes
 pub mod Laid
 pub mod Columns
 pub mod Blanking
+pub mod TextAlone
+pub mod Fresh
 pub mod Replaced
 pub mod Faults

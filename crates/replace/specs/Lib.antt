@@ -1,5 +1,7 @@
 -- Replacing, and what can be told of what was replaced (RULES 10).
 pub mod Replacing
 pub mod Blanking
+pub mod TextAlone
+pub mod Fresh
 pub mod Sizes
 pub mod Laying
