@@ -1,6 +1,7 @@
-//! The answers that crates/replay replays (`compare/run list`): what the Rust original and `core::str` answer, and, where
-//! they refuse nothing, the second check. The same in every run. `list.rs` has the layout; a new call is one function here
-//! or in `answers/calls.rs`, and one in crates/replay, which reads the fields in the order in which they are written here.
+//! The answers that crates/replay replays (`compare/run list`): what the Rust original and `core::str` answer, and,
+//! where they refuse nothing, the second check. The same in every run. `list.rs` has the layout; a new call is one
+//! function here or in `answers/calls.rs`, and one in crates/replay, which reads the fields in the order in which
+//! they are written here.
 
 mod calls;
 

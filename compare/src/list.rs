@@ -3,8 +3,8 @@
 //! - field: its length (4 bytes, little-endian), its bytes
 //! - file: fields, each a case, packed
 //! - packed case: fields, each a part: times (4 bytes), a unit, which stands there that many times
-//! - case: fields, in the order of the call's arguments what it is lent, a buffer to be written with what it holds at entry; then
-//!   the answer's numbers, and each of those buffers, whole, with what it holds then
+//! - case: fields; what the call is lent, in the order of its arguments, a buffer to be written with what it holds at
+//!   entry; then the answer's numbers, and each of those buffers, whole, with what it holds then
 //! - number: 4 bytes
 //! - text: as it is
 //! - column, numbers: the differences of its elements, each a number, the first from 0; modulo 65,536, or 2 to the 32
@@ -63,8 +63,8 @@ impl Answers {
         self.number(note.original_shift)
     }
 
-    /// Buffers of this length at entry, and with a result in the place of their first elements. What they hold at entry differs
-    /// from place to place, so that a copy of it elsewhere is seen too.
+    /// Buffers of this length at entry, and with a result in the place of their first elements. What they hold at
+    /// entry differs from place to place, so that a copy of it elsewhere is seen too.
     pub fn lent_text(&mut self, room: usize) -> &mut Self {
         self.left_text(room, &[])
     }

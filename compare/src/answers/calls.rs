@@ -56,7 +56,8 @@ fn faulty_notes() -> impl Iterator<Item = Note> {
     })
 }
 
-/// A note, the text that the range is of (1 for the transcript, 0 for the cleaned one), start, end; the refusal, start, end.
+/// A note, the text that the range is of (1 for the transcript, 0 for the cleaned one), start, end; the refusal,
+/// start, end.
 fn on_range(answers: &mut Answers, call: &Call, note: &Note, of_original: bool, (start, end): (usize, usize)) {
     let (start, end) = (start as u32, end as u32);
     let sample = convert::Sample::from(note.clone());
@@ -322,7 +323,8 @@ fn redaction(text: &[u8], literal: &[u8], content: &[u8]) -> Result<Redaction, u
     Ok((list, note, result))
 }
 
-/// A text, a literal, a content, the lent list, starting columns, text and columns; the refusal, the size, the six buffers.
+/// A text, a literal, a content, the lent list, starting columns, text and columns; the refusal, the size, the six
+/// buffers.
 fn redact(answers: &mut Answers, strings: [&[u8]; 3], rooms: impl Fn([usize; 6]) -> Vec<[usize; 6]>) {
     let [text, literal, content] = strings;
     let nothing = || Note { original: vec![], normalized: vec![], starts: vec![], ends: vec![], original_shift: 0 };

@@ -1,4 +1,5 @@
--- Laws of `splice`: nothing, one piece before the rest; and a run that is being laid piece by piece: none yet, one more, all of it.
+-- Laws of `splice`: nothing, one piece before the rest; and a run that is being laid piece by piece: none yet, one
+-- more, all of it.
 use Prim.Native.Nat.{ℕ, suc, _+_, _≤_, _<_, min}
 use mathlib.Core.Path.{_≡_, _∙_, ap, refl, sym}
 use mathlib.Core.List.{List, [], _∷_, _++_, append-assoc, append-nil}

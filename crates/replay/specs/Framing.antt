@@ -1,4 +1,5 @@
--- Fields one behind the other: a field is its length, 4 bytes little-endian, then its bytes. Total: what is cut short is as long as it is.
+-- Fields one behind the other: a field is its length, 4 bytes little-endian, then its bytes. Total: what is cut short
+-- is as long as it is.
 use Prim.Native.Nat.{ℕ, zero, suc, _+_, _*_}
 use mathlib.Core.Bool.{Bool, true, false, _&&_}
 use mathlib.Core.List.{List}

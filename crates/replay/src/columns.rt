@@ -1,4 +1,5 @@
-// Buffers that are lent to a call, filled from a field, and compared with one afterwards. A column's field has the differences of its elements, 4 bytes each.
+// Buffers that are lent to a call, filled from a field, and compared with one afterwards. A column's field has the
+// differences of its elements, 4 bytes each.
 use crate::fields::field;
 use crate::fields::number;
 use buffers::Offset;

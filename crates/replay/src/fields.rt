@@ -1,5 +1,6 @@
-// Fields one behind the other: a field is its length in 4 bytes, little-endian, then its bytes. A file is fields (its cases, packed), and so is a
-// packed case (its parts) and an unpacked one (what the call is lent, then what it answers). Nothing is asked of the bytes.
+// Fields one behind the other: a field is its length in 4 bytes, little-endian, then its bytes. A file is fields (its
+// cases, packed), and so are a packed case (its parts) and an unpacked one (what the call is lent, then what it
+// answers). Nothing is asked of the bytes.
 use buffers::equality::same_bytes;
 ghost use mathlib.Core.Path.{_≡_};
 ghost use Prim.Native.Nat.{_+_, _≤_, _<_, min};

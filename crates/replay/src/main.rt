@@ -1,5 +1,6 @@
-// Replays fixed lists of the Rust original's answers on the exported calls, and prints for each call how many there are and how many differ.
-// `compare/run list` wrote the lists; compare/src/list.rs says how they are laid out. Each call has a file of its own, an arm and a line here.
+// Replays fixed lists of the Rust original's answers on the exported calls, and prints for each call how many there
+// are and how many differ. `compare/run list` wrote the lists; compare/src/list.rs says how they are laid out. Each
+// call has a file, an arm and a line here.
 mod columns;
 mod fields;
 mod matches;

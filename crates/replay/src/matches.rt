@@ -153,7 +153,8 @@ fn blanked_beside(
     )
 }
 
-// A text, a literal, a content, the lent list, the columns of the starting note, text, starts and ends; the refusal, the size, all six buffers.
+// A text, a literal, a content, the lent list, the columns of the starting note, text, starts and ends; the refusal,
+// the size, all six buffers.
 pub fn redact(case: &[u8]) -> bool {
     let mut list = [0; ROOM];
     let mut starts = [0; ROOM];

@@ -1,4 +1,5 @@
-// The calls on a note and a range, or a list of ranges. A range: 1 where it is of the transcript, 0 of the cleaned text; start, end.
+// The calls on a note and a range, or a list of ranges. A range: 1 where it is of the transcript, 0 of the cleaned
+// text; start, end.
 use crate::columns::FEW;
 use crate::columns::are_numbers;
 use crate::columns::bytes;
@@ -126,7 +127,8 @@ fn all_in(
         & are_numbers(case, 14, ends)
 }
 
-// A note, the text that the ranges are of, their starts and ends, the lent numbers, starts and ends; the refusal, the three buffers.
+// A note, the text that the ranges are of, their starts and ends, the lent numbers, starts and ends; the refusal, the
+// three buffers.
 pub fn convert_all(case: &[u8], note_starts: &[Offset], note_ends: &[Offset]) -> bool {
     let mut from = [0; FEW];
     let mut to = [0; FEW];

@@ -8,7 +8,8 @@ ghost use lib.ListN.{length};
 ghost use Rattle.io.specs.Counts.{Counts};
 ghost use Rattle.replay.specs.Packing.{Laid, laid, unpacked};
 
-// A part, its times in 4 bytes and then its unit, put into the buffer from `at` on as far as there is room; the byte after it.
+// A part, its times in 4 bytes and then its unit, put into the buffer from `at` on as far as there is room; the byte
+// after it.
 fn lay(part: &[u8], dst: &mut [u8], at: usize) -> usize
     requires { ⌜ at ≤ length (now dst) ⌝ }
     ensures { λ r. ⌜ Laid (laid (now (part .entry)) (length (now (dst .entry)) - at)) (now (dst .entry)) at (now (dst .exit)) r ⌝ }
