@@ -1,12 +1,13 @@
 // Buffers that are lent to a call, filled from a field, and compared with one afterwards. A column's field has the
 // differences of its elements, 4 bytes each.
 use crate::fields::field;
+use crate::fields::is_text;
 use crate::fields::number;
 use buffers::Offset;
 use buffers::copy_bytes;
 use buffers::equality::same_offsets;
 ghost use mathlib.Core.Path.{_≡_};
-ghost use Prim.Native.Nat.{_+_, _≤_, min};
+ghost use Prim.Native.Nat.{_+_, _≤_, _<_, min};
 ghost use lib.ListN.{length, take};
 ghost use Rattle.buffers.specs.Same.{same};
 ghost use Rattle.io.specs.Counts.{Counts};
@@ -20,6 +21,13 @@ pub const ROOM: usize = 65536;
 // The most numbers of a list of pairs.
 pub const FEW: usize = 256;
 
+// A column to fill. Behind a call, so that no proof sees its elements.
+pub fn zeros() -> [Offset; ROOM]
+    ensures { λ r. ⌜ 65536 ≡ length r ⌝ }
+{
+    [0; ROOM]
+}
+
 fn least(a: usize, b: usize) -> usize
     ensures { λ r. ⌜ r ≡ min a b ⌝ }
 {
@@ -29,7 +37,8 @@ fn least(a: usize, b: usize) -> usize
 // The field's bytes at the start of the buffer, as far as there is room; how many.
 pub fn bytes(field: &[u8], dst: &mut [u8]) -> usize
     ensures { λ r. ⌜ Counts r (now (dst .exit)) ⌝ }
-    ensures { λ r. ⌜ Laid (take (length (now (dst .entry))) (now (field .entry))) (now (dst .entry)) 0 (now (dst .exit)) r ⌝ }
+    ensures { λ r. ⌜ Laid (take (length (now (dst .entry))) (now (field .entry))) (now (dst .entry)) 0
+        (now (dst .exit)) r ⌝ }
 {
     let n = least(field.len(), dst.len());
     copy_bytes(&field[..n], dst, 0);
@@ -70,7 +79,7 @@ pub fn numbers(field: &[u8], dst: &mut [u32]) -> usize
 pub fn are_offsets(case: &[u8], index: usize, column: &[Offset]) -> bool
     ensures { λ r. ⌜ r ≡ same (now (column .entry)) (columnOf 65536 65536 (fieldOf index (now (case .entry)))) ⌝ }
 {
-    let mut expected = [0; ROOM];
+    let mut expected = zeros();
     let n = offsets(field(case, index), &mut expected);
     same_offsets(column, &expected[..n])
 }
@@ -96,4 +105,22 @@ pub fn are_numbers(case: &[u8], index: usize, column: &[u32]) -> bool
     let mut expected = [0; FEW];
     let n = numbers(field(case, index), &mut expected);
     same_numbers(column, &expected[..n])
+}
+
+// Whether the answers to a list of pairs are the ones at three fields: a number, start and end for each.
+pub fn are_pairs(case: &[u8], index: usize, numbers: &[u8], starts: &[u32], ends: &[u32]) -> bool
+    requires { ⌜ index < 100 ⌝ }
+{
+    is_text(case, index, numbers)
+        & are_numbers(case, index + 1, starts)
+        & are_numbers(case, index + 2, ends)
+}
+
+// Whether a text and its columns are the ones at three fields.
+pub fn are_published(case: &[u8], index: usize, text: &[u8], starts: &[Offset], ends: &[Offset]) -> bool
+    requires { ⌜ index < 100 ⌝ }
+{
+    is_text(case, index, text)
+        & are_offsets(case, index + 1, starts)
+        & are_offsets(case, index + 2, ends)
 }

@@ -1,59 +1,20 @@
-// The starting note, and the calls on a note, whose first fields are transcript, cleaned text, starts, ends, shift.
-use crate::columns::ROOM;
+// The calls that start or check a note.
 use crate::columns::are_offsets;
-use crate::columns::offsets;
 use crate::fields::field;
 use crate::fields::is_number;
 use crate::fields::value;
-use crate::matches::published_alike;
-use crate::matches::replace;
-use crate::ranges::convert_all;
-use crate::ranges::convert_offsets;
-use crate::ranges::get_range;
-use crate::ranges::get_range_original;
 use buffers::Offset;
 use zulmyren::zulmyren_check_note;
 use zulmyren::zulmyren_from_text;
 
 // A note; the refusal.
-fn check_note(case: &[u8], starts: &[Offset], ends: &[Offset]) -> bool {
+pub fn check_note(case: &[u8], starts: &[Offset], ends: &[Offset]) -> bool {
     let refusal = zulmyren_check_note(field(case, 0), field(case, 1), starts, ends, value(case, 4));
     is_number(case, 5, refusal)
 }
 
-// One of the calls on a note; its columns are read already.
-fn called(call: u8, case: &[u8], starts: &[Offset], ends: &[Offset]) -> bool {
-    match call {
-        5 => check_note(case, starts, ends),
-        6 => convert_offsets(case, starts, ends),
-        7 => get_range(case, starts, ends),
-        8 => get_range_original(case, starts, ends),
-        9 => convert_all(case, starts, ends),
-        10 => replace(case, starts, ends),
-        11 => published_alike(case, starts, ends),
-        _ => false,
-    }
-}
-
-pub fn on_note(call: u8, case: &[u8]) -> bool {
-    let mut starts = [0; ROOM];
-    let mut ends = [0; ROOM];
-    let s = offsets(field(case, 2), &mut starts);
-    let e = offsets(field(case, 3), &mut ends);
-    called(call, case, &starts[..s], &ends[..e])
-}
-
-// What the call answers, and what it leaves in the two lent columns.
-fn started(case: &[u8], starts: &mut [Offset], ends: &mut [Offset]) -> bool {
+// A text, the lent starts and ends; the refusal, the two columns.
+pub fn from_text(case: &[u8], starts: &mut [Offset], ends: &mut [Offset]) -> bool {
     let refusal = zulmyren_from_text(field(case, 0), starts, ends);
     is_number(case, 3, refusal) & are_offsets(case, 4, starts) & are_offsets(case, 5, ends)
-}
-
-// A text, the lent starts and ends; the refusal, the two columns.
-pub fn from_text(case: &[u8]) -> bool {
-    let mut starts = [0; ROOM];
-    let mut ends = [0; ROOM];
-    let s = offsets(field(case, 1), &mut starts);
-    let e = offsets(field(case, 2), &mut ends);
-    started(case, &mut starts[..s], &mut ends[..e])
 }

@@ -1,9 +1,6 @@
 // The calls on a note and a range, or a list of ranges. A range: 1 where it is of the transcript, 0 of the cleaned
 // text; start, end.
-use crate::columns::FEW;
-use crate::columns::are_numbers;
-use crate::columns::bytes;
-use crate::columns::numbers;
+use crate::columns::are_pairs;
 use crate::fields::field;
 use crate::fields::is_number;
 use crate::fields::is_text;
@@ -97,16 +94,17 @@ pub fn part(case: &[u8]) -> bool {
     is_number(case, 5, refusal) & is_text(case, 6, part_of(original, normalized, range(case)))
 }
 
-// What the call answers, and what it leaves in the three lent buffers.
-fn all_in(
+// A note, the text that the ranges are of, their starts and ends, the lent numbers, starts and ends; the refusal, the
+// three buffers.
+pub fn convert_all(
     case: &[u8],
     note_starts: &[Offset],
     note_ends: &[Offset],
+    from: &[u32],
+    to: &[u32],
     numbers: &mut [u8],
     starts: &mut [u32],
     ends: &mut [u32],
-    from: &[u32],
-    to: &[u32],
 ) -> bool {
     let refusal = zulmyren_convert_all(
         field(case, 0),
@@ -121,33 +119,5 @@ fn all_in(
         starts,
         ends,
     );
-    is_number(case, 11, refusal)
-        & is_text(case, 12, numbers)
-        & are_numbers(case, 13, starts)
-        & are_numbers(case, 14, ends)
-}
-
-// A note, the text that the ranges are of, their starts and ends, the lent numbers, starts and ends; the refusal, the
-// three buffers.
-pub fn convert_all(case: &[u8], note_starts: &[Offset], note_ends: &[Offset]) -> bool {
-    let mut from = [0; FEW];
-    let mut to = [0; FEW];
-    let mut refusals = [0; FEW];
-    let mut starts = [0; FEW];
-    let mut ends = [0; FEW];
-    let f = numbers(field(case, 6), &mut from);
-    let t = numbers(field(case, 7), &mut to);
-    let r = bytes(field(case, 8), &mut refusals);
-    let s = numbers(field(case, 9), &mut starts);
-    let e = numbers(field(case, 10), &mut ends);
-    all_in(
-        case,
-        note_starts,
-        note_ends,
-        &mut refusals[..r],
-        &mut starts[..s],
-        &mut ends[..e],
-        &from[..f],
-        &to[..t],
-    )
+    is_number(case, 11, refusal) & are_pairs(case, 12, numbers, starts, ends)
 }

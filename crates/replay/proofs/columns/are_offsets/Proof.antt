@@ -1,7 +1,6 @@
 -- The field's column, beside the one that was lent.
 use borrow.Author.Needs.{needs}
-use Prim.Native.Nat.{ℕ}
-use lib.ListN.{length-replicate}
+use mathlib.Core.Path.{sym}
 use Rattle.replay.proofs.Differences.{same-column}
 use Rattle.replay.proofs.columns.are_offsets.Statement.{statement}
 use Rattle.replay.proofs.columns.are_offsets.Tie as tie
@@ -10,12 +9,13 @@ returns : tie.Need-returns
 returns c =
     let call = c .before .before .before in
     let head = call .before .before in
-    same-column 65536 65536 (head .before .before .before .args .column .now) (head .field .ensures) (c .same-offsets .ensures) (call .offsets .ensures .1) (length-replicate {0} {A = ℕ} 65536 0)
+    same-column 65536 65536 (head .before .before .before .before .args .column .now) (head .field .ensures) (c .same-offsets .ensures) (call .offsets .ensures .1) (sym (head .before .zeros .ensures))
 
 pub are-offsets-spec : {M : Type 1} → statement M
 are-offsets-spec =
     tie.close
     (tie.spec
+    (λ c κs. search needs)
     (λ c κs. search needs)
     (λ c. search needs)
     (λ c κs. search needs)
