@@ -50,15 +50,15 @@ module _ {width : ℕ} {s d₀ : List ℕ} {n : ℕ} {d : List ℕ} {last i : �
       let after : Laying (summed width n 0 s) d₀ 0 (summed width (n - (i + 1)) x (drop ((i + 1) * 4) s)) (set d i x) (i + 1) = element-laid (m .laying) x _ more in
       record { laying = after; below = below; most = omega arith; room = omega (arith, m .room, m .laying .same, after .same); there = m .there }
 
-  pub all-summed : n ≤ i → n ≡ min (length s / 4) (length d₀) → Counts n d × Laid (columnOf width (length d₀) s) d₀ 0 d n
+  pub all-summed : {field : List ℕ} → n ≤ i → n ≡ min (length s / 4) (length d₀) → s ≡ field → Counts n d × Laid (columnOf width (length d₀) field) d₀ 0 d n
   unfolding columnOf
-  all-summed h is =
+  all-summed h is here =
       let none : n - i ≡ 0 = omega arith in
       let end : i ≡ n = omega (arith, m .most) in
       let all : Laid (summed width n 0 s) d₀ 0 d i = all-laid (m .laying) (rw none (summed-none width last (drop (i * 4) s))) in
-      (counted n d (m .room), rw (← is) (rw end at all))
+      (counted n d (m .room), rw (← here, ← is) (rw end at all))
 
 -- a lent buffer beside the column of a field
-pub same-column : (width room : ℕ) (column : List ℕ) {s field d₀ d : List ℕ} {end : ℕ} {r : Bool} → s ≡ field → r ≡ same column (take end d) → Laid (columnOf width (length d₀) s) d₀ 0 d end → length d₀ ≡ room → r ≡ same column (columnOf width room field)
-same-column width room column {s} here is l long =
-    is ∙ ap (same column) (take-laid l ∙ ap (λ k. columnOf width k s) long ∙ ap (columnOf width room) here)
+pub same-column : (width room : ℕ) (column field : List ℕ) {d₀ d : List ℕ} {end : ℕ} {r : Bool} → r ≡ same column (take end d) → Laid (columnOf width (length d₀) field) d₀ 0 d end → length d₀ ≡ room → r ≡ same column (columnOf width room field)
+same-column width room column field is l long =
+    is ∙ ap (same column) (take-laid l ∙ ap (λ k. columnOf width k field) long)

@@ -81,9 +81,9 @@ take-least run room n is =
     ]
 
 -- the first of a run, as many as there is room for
-pub first-laid : (run d₀ d : List ℕ) (n : ℕ) → n ≡ min (length run) (length d₀) → d ≡ splice d₀ 0 (take n run) → Counts n d × Laid (take (length d₀) run) d₀ 0 d n
-first-laid run d₀ d n is here =
+pub first-laid : (run d₀ d : List ℕ) (n : ℕ) {field : List ℕ} → n ≡ min (length run) (length d₀) → d ≡ splice d₀ 0 (take n run) → run ≡ field → Counts n d × Laid (take (length d₀) field) d₀ 0 d n
+first-laid run d₀ d n is here of =
     let size : length (take n run) ≡ n = length-take-le n run (omega arith) in
     let same : length d ≡ length d₀ = ap length here ∙ length-splice d₀ 0 (take n run) (omega arith) in
     let all : take n run ≡ take (length d₀) run = take-least run (length d₀) n is in
-    (counted n d (omega arith), record { holds = rw (← all) here; ends = rw (← all) (omega arith); same = same })
+    (counted n d (omega arith), rw (← of) record { holds = rw (← all) here; ends = rw (← all) (omega arith); same = same })

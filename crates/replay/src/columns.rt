@@ -34,21 +34,24 @@ fn least(a: usize, b: usize) -> usize
     if a < b { a } else { b }
 }
 
-// The field's bytes at the start of the buffer, as far as there is room; how many.
-pub fn bytes(field: &[u8], dst: &mut [u8]) -> usize
+// A field's bytes at the start of the buffer, as far as there is room; how many.
+pub fn bytes(case: &[u8], index: usize, dst: &mut [u8]) -> usize
     ensures { λ r. ⌜ Counts r (now (dst .exit)) ⌝ }
-    ensures { λ r. ⌜ Laid (take (length (now (dst .entry))) (now (field .entry))) (now (dst .entry)) 0
+    ensures { λ r. ⌜ Laid (take (length (now (dst .entry))) (fieldOf index (now (case .entry)))) (now (dst .entry)) 0
         (now (dst .exit)) r ⌝ }
 {
+    let field = field(case, index);
     let n = least(field.len(), dst.len());
     copy_bytes(&field[..n], dst, 0);
     n
 }
 
-pub fn offsets(field: &[u8], dst: &mut [Offset]) -> usize
+pub fn offsets(case: &[u8], index: usize, dst: &mut [Offset]) -> usize
     ensures { λ r. ⌜ Counts r (now (dst .exit)) ⌝ }
-    ensures { λ r. ⌜ Laid (columnOf 65536 (length (now (dst .entry))) (now (field .entry))) (now (dst .entry)) 0 (now (dst .exit)) r ⌝ }
+    ensures { λ r. ⌜ Laid (columnOf 65536 (length (now (dst .entry))) (fieldOf index (now (case .entry))))
+        (now (dst .entry)) 0 (now (dst .exit)) r ⌝ }
 {
+    let field = field(case, index);
     let n = least(field.len() / 4, dst.len());
     let mut last: u64 = 0;
     let mut i = 0;
@@ -60,10 +63,12 @@ pub fn offsets(field: &[u8], dst: &mut [Offset]) -> usize
     n
 }
 
-pub fn numbers(field: &[u8], dst: &mut [u32]) -> usize
+pub fn numbers(case: &[u8], index: usize, dst: &mut [u32]) -> usize
     ensures { λ r. ⌜ Counts r (now (dst .exit)) ⌝ }
-    ensures { λ r. ⌜ Laid (columnOf 4294967296 (length (now (dst .entry))) (now (field .entry))) (now (dst .entry)) 0 (now (dst .exit)) r ⌝ }
+    ensures { λ r. ⌜ Laid (columnOf 4294967296 (length (now (dst .entry))) (fieldOf index (now (case .entry))))
+        (now (dst .entry)) 0 (now (dst .exit)) r ⌝ }
 {
+    let field = field(case, index);
     let n = least(field.len() / 4, dst.len());
     let mut last: u64 = 0;
     let mut i = 0;
@@ -80,7 +85,7 @@ pub fn are_offsets(case: &[u8], index: usize, column: &[Offset]) -> bool
     ensures { λ r. ⌜ r ≡ same (now (column .entry)) (columnOf 65536 65536 (fieldOf index (now (case .entry)))) ⌝ }
 {
     let mut expected = zeros();
-    let n = offsets(field(case, index), &mut expected);
+    let n = offsets(case, index, &mut expected);
     same_offsets(column, &expected[..n])
 }
 
@@ -103,7 +108,7 @@ pub fn are_numbers(case: &[u8], index: usize, column: &[u32]) -> bool
     ensures { λ r. ⌜ r ≡ same (now (column .entry)) (columnOf 4294967296 256 (fieldOf index (now (case .entry)))) ⌝ }
 {
     let mut expected = [0; FEW];
-    let n = numbers(field(case, index), &mut expected);
+    let n = numbers(case, index, &mut expected);
     same_numbers(column, &expected[..n])
 }
 

@@ -3,9 +3,9 @@
 // call has a file, an arm and a line here.
 mod columns;
 mod fields;
-mod lent;
 mod matches;
 mod notes;
+mod pairs;
 mod ranges;
 mod texts;
 mod unpack;
@@ -29,11 +29,11 @@ fn agrees(call: u8, case: &[u8]) -> bool {
         0 => texts::well_formed(case),
         1 => texts::letter_count(case),
         2 => texts::char_offsets(case),
-        4 => lent::on_columns(call, case, 1),
+        4 => notes::from_text(case),
         12 => ranges::part(case),
         13 => matches::find_matches(case),
-        14 => lent::on_columns(call, case, 4),
-        _ => lent::on_columns(call, case, 2),
+        14 => matches::redact(case),
+        _ => notes::on_note(call, case),
     }
 }
 

@@ -1,20 +1,60 @@
-// The calls that start or check a note.
+// The starting note, and the calls on a note, whose first fields are transcript, cleaned text, starts, ends, shift.
 use crate::columns::are_offsets;
+use crate::columns::offsets;
+use crate::columns::zeros;
 use crate::fields::field;
 use crate::fields::is_number;
 use crate::fields::value;
+use crate::matches::published_alike;
+use crate::matches::replace;
+use crate::pairs::on_pairs;
+use crate::ranges::convert_offsets;
+use crate::ranges::get_range;
+use crate::ranges::get_range_original;
 use buffers::Offset;
 use zulmyren::zulmyren_check_note;
 use zulmyren::zulmyren_from_text;
 
 // A note; the refusal.
-pub fn check_note(case: &[u8], starts: &[Offset], ends: &[Offset]) -> bool {
+fn check_note(case: &[u8], starts: &[Offset], ends: &[Offset]) -> bool {
     let refusal = zulmyren_check_note(field(case, 0), field(case, 1), starts, ends, value(case, 4));
     is_number(case, 5, refusal)
 }
 
-// A text, the lent starts and ends; the refusal, the two columns.
-pub fn from_text(case: &[u8], starts: &mut [Offset], ends: &mut [Offset]) -> bool {
+fn started(case: &[u8], starts: &mut [Offset], ends: &mut [Offset]) -> bool {
     let refusal = zulmyren_from_text(field(case, 0), starts, ends);
     is_number(case, 3, refusal) & are_offsets(case, 4, starts) & are_offsets(case, 5, ends)
+}
+
+// A text, the lent starts and ends; the refusal, the two columns.
+pub fn from_text(case: &[u8]) -> bool {
+    let mut starts = zeros();
+    let mut ends = zeros();
+    let s = offsets(case, 1, &mut starts);
+    let e = offsets(case, 2, &mut ends);
+    started(case, &mut starts[..s], &mut ends[..e])
+}
+
+// One of the calls on a note; its columns are read already.
+fn called(call: u8, case: &[u8], starts: &[Offset], ends: &[Offset]) -> bool {
+    match call {
+        3 => on_pairs(call, case, 1, starts, ends),
+        5 => check_note(case, starts, ends),
+        6 => convert_offsets(case, starts, ends),
+        7 => get_range(case, starts, ends),
+        8 => get_range_original(case, starts, ends),
+        9 => on_pairs(call, case, 6, starts, ends),
+        10 => replace(case, starts, ends),
+        11 => published_alike(case, starts, ends),
+        _ => false,
+    }
+}
+
+// A call on a note, or one that takes no columns.
+pub fn on_note(call: u8, case: &[u8]) -> bool {
+    let mut starts = zeros();
+    let mut ends = zeros();
+    let s = offsets(case, 2, &mut starts);
+    let e = offsets(case, 3, &mut ends);
+    called(call, case, &starts[..s], &ends[..e])
 }

@@ -9,14 +9,12 @@ use Rattle.replay.proofs.columns.are_numbers.Tie as tie
 returns : tie.Need-returns
 returns c =
     let call = c .before .before .before in
-    let head = call .before .before in
-    same-column 4294967296 256 (head .before .before .before .args .column .now) (head .field .ensures) (c .same-numbers .ensures) (call .numbers .ensures .1) (length-replicate {0} {A = ℕ} 256 0)
+    same-column 4294967296 256 (call .before .before .before .before .args .column .now) _ (c .same-numbers .ensures) (call .numbers .ensures .1) (length-replicate {0} {A = ℕ} 256 0)
 
 pub are-numbers-spec : {M : Type 1} → statement M
 are-numbers-spec =
     tie.close
     (tie.spec
-    (λ c κs. search needs)
     (λ c. search needs)
     (λ c κs. search needs)
     (λ c. search needs)

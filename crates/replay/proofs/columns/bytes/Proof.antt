@@ -10,13 +10,13 @@ use Rattle.replay.proofs.columns.bytes.Tie as tie
 
 slice-aggregate-copy-bytes : tie.Need-slice-aggregate-copy-bytes
 slice-aggregate-copy-bytes c =
-    sym (length-take-le (c .before .least .result) (c .before .before .before .before .args .field .now) (omega arith))
+    sym (length-take-le (c .before .least .result) (c .before .before .before .before .before .field .result .now) (omega arith))
 
 copy-bytes-requires : tie.Need-copy-bytes-requires
 copy-bytes-requires c κs =
     let head = c .before .before in
-    let size : length (take (head .least .result) (head .before .before .before .args .field .now)) ≡ head .least .result =
-    length-take-le (head .least .result) (head .before .before .before .args .field .now) (omega arith) in
+    let size : length (take (head .least .result) (head .before .before .before .before .field .result .now)) ≡ head .least .result =
+    length-take-le (head .least .result) (head .before .before .before .before .field .result .now) (omega arith) in
     omega arith
 
 same-length : tie.Need-same-length
@@ -25,9 +25,10 @@ same-length c = search needs
 returns : tie.Need-returns
 returns c =
     let call = c .before .before in
-    first-laid _ _ _ _ (call .before .before .before .least .ensures) (call .copy-bytes .ensures)
+    let head = call .before .before .before in
+    first-laid _ _ _ _ (head .least .ensures) (call .copy-bytes .ensures) (head .before .before .before .before .field .ensures)
 
 pub bytes-spec : {M : Type 1} → statement M
 bytes-spec =
     tie.close
-    (tie.spec (λ c κs. search needs) slice-aggregate-copy-bytes copy-bytes-requires same-length returns)
+    (tie.spec (λ c κs. search needs) (λ c κs. search needs) slice-aggregate-copy-bytes copy-bytes-requires same-length returns)

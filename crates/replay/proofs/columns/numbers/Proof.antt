@@ -8,10 +8,10 @@ use Rattle.replay.proofs.columns.numbers.Statement.{statement}
 use Rattle.replay.proofs.columns.numbers.Tie as tie
 
 abbrev Inv-loop : tie.InvT-loop
-Inv-loop field dst₀ n last₀ i₀ dst last i = Summing 4294967296 field dst₀ n dst last i
+Inv-loop case index dst₀ field n last₀ i₀ dst last i = Summing 4294967296 field dst₀ n dst last i
 
 abbrev μ-loop : tie.MeasureT-loop
-μ-loop field dst₀ n last₀ i₀ dst last i = n - i
+μ-loop case index dst₀ field n last₀ i₀ dst last i = n - i
 
 loop-holds : tie.Need-loop-holds Inv-loop μ-loop
 loop-holds c = none-summed 4294967296 _ _ _ (omega arith) (c .least .ensures)
@@ -21,7 +21,9 @@ loop-again c =
     one-summed (c .before .before .loop .inv) (c .before .loop-test .taken) (c .number .ensures) refl (omega arith)
 
 returns : tie.Need-returns Inv-loop μ-loop
-returns c = all-summed (c .before .loop .inv) (c .loop-test .left) (c .before .before .least .ensures)
+returns c =
+    let head = c .before .before in
+    all-summed (c .before .loop .inv) (c .loop-test .left) (head .least .ensures) (head .before .before .before .before .field .ensures)
 
 pub numbers-spec : {M : Type 1} → statement M
 numbers-spec =
@@ -29,6 +31,7 @@ numbers-spec =
     (tie.spec
     Inv-loop
     μ-loop
+    (λ c κs. search needs)
     (λ c κs. search needs)
     loop-holds
     (λ c. omega arith)
