@@ -1,20 +1,61 @@
-/* Zulmyren: notes with alignments, proved. Link target/staticlib/libzulmyren.a (`rt staticlib zulmyren`).
+/* Zulmyren: texts in which every byte remembers where it came from. docs/RULES.md has the exact rules.
+ * Link target/staticlib/libzulmyren.a, which `rt staticlib zulmyren` builds.
+ * "Rust:" names the function of the Rust crate tokenizers 0.23.2 that a call follows.
  *
- * A text is lent as a pointer and a number of bytes; a column of 16-bit numbers as a pointer and a number of elements. A pointer may be anything
- * where its length is 0. Lent buffers that are written must not overlap with anything else that is lent to the call.
+ * WORDS
+ *   text        bytes in UTF-8, the usual encoding: a character (a letter, a digit, a sign) has one to four bytes.
+ *               "Well-formed" means that the bytes are valid UTF-8. A byte of value 0 is a character and ends nothing.
+ *   note        five things that are lent together:
+ *                 original         the transcript: the text as it was first written down
+ *                 normalized       the cleaned text: the text as it is now
+ *                 starts, ends     one number each for every byte of the cleaned text. starts[i]..ends[i] is the
+ *                                  alignment of byte i: the bytes of the transcript that it came from
+ *                 original_shift   how many bytes of a longer transcript stand before this one; 0 if none do
+ *   literal     the bytes that are searched for.
+ *   filler      content: the bytes that take the place of what is blanked.
+ *   start..end  a range: the bytes from start up to end, the one at end not included. start == end is an empty range.
+ *   lent        passed to a call as a pointer and, after it, the number of elements (`.._len`).
  *
- * A note is lent as transcript (original), cleaned text (normalized), starts and ends (one of each per cleaned byte) and shift (original_shift).
+ * WHAT THE NUMBERS COUNT
+ *   Positions, ranges, alignments, shifts and the lengths of texts count bytes, from 0 at the beginning of the text.
+ *   Characters are counted only by the count of zulmyren_letter_count and by what zulmyren_char_offsets and
+ *   zulmyren_char_offsets_all answer. In C all of these are plain numbers: the compiler will not tell them apart.
  *
- * A call answers 0 where it accepts, and else the number of the first refusal met, in the order 2, 3, 1, 4, 6, 8, 11, 5, 10, 7, 9:
- *    1 torn           a text, or a string of the call, is not well-formed UTF-8
- *    2 overlong       a text, or shift plus transcript length, is over 65,535
- *    3 uneven         starts, ends and cleaned bytes differ in number
- *    4 stray          alignments break soundness
- *    5 off place      a range end past its text or inside a character
- *    6 bad script     7 nothing left     8 broken list     11 miscounted
- *    9 no room        the result exceeds a lent buffer, or its cleaned text 65,535 bytes
- *   10 nothing there  the range converts to nothing
- * A refused call writes to no buffer. An accepted one leaves what stands beyond its result as it was. No call demands anything of its input.
+ * WHAT A CALL DEMANDS OF THE CALLER (it cannot be checked, and where it does not hold anything may happen)
+ *   - A pointer is valid for as many elements as are lent with it. Where that is 0 it may be anything, NULL too.
+ *   - A pointer to uint16_t or uint32_t is aligned as C asks for that type.
+ *   - A buffer that the call writes (its pointer is not const) does not overlap any other buffer of the same call.
+ *     Buffers that are only read may overlap: a fresh note's original and normalized can be one pointer.
+ *   - While a call runs, nobody else writes what is lent to it, or reads what it writes.
+ *   Nothing is demanded of the contents: every call has an answer for any bytes and any numbers.
+ *
+ * WHAT A CALL ANSWERS
+ *   zulmyren_well_formed answers true or false. Every other call answers 0 where it accepts, and else refuses with one
+ *   of these numbers; all other numbers of the answer are then 0, or false.
+ *      1  torn           a text, the literal or the filler is not well-formed
+ *      2  overlong       a text has more than 65,535 bytes, or original_shift + original_len is more than 65,535
+ *      3  uneven         starts_len, ends_len and normalized_len are not all equal; or a list of ranges or
+ *                        pairs has more starts than ends, or fewer
+ *      4  stray          the alignments are not those of a note. All of this has to hold: starts[i] <= ends[i] <=
+ *                        original_len; no start or end is inside a character of the transcript; all bytes of one
+ *                        character of the cleaned text have the same alignment; starts[i] <= starts[i + 1] and
+ *                        ends[i] <= ends[i + 1]
+ *      5  off place      either end of a range is greater than the text's length or within a character, or start > end
+ *      8  broken list    a match list (below) does not cover the cleaned text
+ *      9  no room        a buffer is too small for the result, or the resulting text has more than 65,535 bytes
+ *     10  nothing there  a range or a pair has no answer; each call says when
+ *   (6, 7 and 11 belong to calls that do not exist yet.) A comment names the refusals of its call in the order in
+ *   which they are checked, which is always 2, 3, 1, 4, 8, 5, 10, 9; the first that applies is given. A literal, a
+ *   filler and any list may be of any length.
+ *
+ * WHAT A CALL WRITES
+ *   Nothing where it refuses. Where it accepts, the front of each written buffer; what stands behind the result stays.
+ *
+ * COST AND THREADS
+ *   No call allocates or keeps anything from one call to the next. Calls may run on any threads at once, as long as
+ *   none of them writes a buffer that another one is lent. The time is at most proportional to what is lent and
+ *   written, except: finding (zulmyren_find_matches, zulmyren_redact) can at worst take text_len times literal_len;
+ *   and in the two calls for lists (.._all) each range or pair can at worst go over the whole note or text again.
  */
 #ifndef ZULMYREN_H
 #define ZULMYREN_H
@@ -27,50 +68,90 @@
 extern "C" {
 #endif
 
-/* Whether a text of any length is well-formed UTF-8 (the Unicode Standard, Table 3-7). */
+/* ---- Texts ---- */
+
+/* Whether a text is well-formed (the Unicode Standard, Table 3-7). The text may be of any length: no limit applies. */
 bool zulmyren_well_formed(const uint8_t *text, size_t text_len);
 
-/* The letters, one for each character, of the bytes start..end of a text. Refusals: 2, 1, 5 (start > end too). count is 0 where it refuses. */
+/* A number, or a refusal and 0. */
 typedef struct {
     uint32_t refusal;
     uint32_t count;
 } zulmyren_count;
+
+/* How many letters the bytes start..end of a text are: one for each character, however many bytes it has. An empty
+ * range has none. Refusals: 2, 1, 5 (either end is greater than text_len or within a character, or start > end). */
 zulmyren_count zulmyren_letter_count(const uint8_t *text, size_t text_len, uint32_t start, uint32_t end);
 
-/* Whether a lent note is sound and within the limits. Refusals: 2, 3, 1, 4. */
-uint32_t zulmyren_check_note(const uint8_t *original, size_t original_len, const uint8_t *normalized, size_t normalized_len,
-                             const uint16_t *starts, size_t starts_len, const uint16_t *ends, size_t ends_len, uint32_t original_shift);
-
-/* The note of a fresh text (Rust: NormalizedString::from): cleaned text and transcript are `text`, the shift is 0, and the first text_len starts and
- * ends are written: each byte's character's byte range. Refusals: 2, 1, 9 (starts_len or ends_len below text_len). */
-uint32_t zulmyren_from_text(const uint8_t *text, size_t text_len, uint16_t *starts, size_t starts_len, uint16_t *ends, size_t ends_len);
-
-/* Two numbers, or a refusal beside 0 and 0. */
+/* Two numbers, or a refusal and 0, 0. */
 typedef struct {
     uint32_t refusal;
     uint32_t start;
     uint32_t end;
 } zulmyren_offsets;
 
-/* A pair of bytes of a text as a pair of its characters (Rust: BytesToCharOffsetConverter::convert): byte b is the character that it belongs to; an end
- * past the text is the character of end - 1, plus 1, or where that is past it too the start's character plus 2. Refusals: 2, 1, 10 (start past the text). */
+/* Which characters two bytes of a text belong to, counted from 0 (Rust: BytesToCharOffsetConverter::convert). start
+ * and end are positions in bytes, in any order; the answer's start and end are characters. Where end is not in the
+ * text: if end == text_len, the answer's end is the last character plus 1; if end > text_len, it is the answer's start
+ * plus 2.
+ * Refusals: 2, 1, 10 (start >= text_len). */
 zulmyren_offsets zulmyren_char_offsets(const uint8_t *text, size_t text_len, uint32_t start, uint32_t end);
 
-/* The same for a list of pairs, in one pass where they are in order. For each pair numbers, char_starts and char_ends get 0 and its two characters, or 10
- * beside 0 and 0. Refusals of the call: 2, 3 (starts_len differs from ends_len), 1, 9 (a written column shorter than starts_len). */
-uint32_t zulmyren_char_offsets_all(const uint8_t *text, size_t text_len, const uint32_t *starts, size_t starts_len, const uint32_t *ends, size_t ends_len,
-                                   uint8_t *numbers, size_t numbers_len, uint32_t *char_starts, size_t char_starts_len, uint32_t *char_ends,
-                                   size_t char_ends_len);
+/* The same for a list of pairs starts[i], ends[i], in one pass over the text where the list is in order. For each pair
+ * i, numbers[i] becomes 0 and char_starts[i], char_ends[i] the answer; or, where starts[i] >= text_len, they become
+ * 10, 0 and 0. Refusals: 2, 3 (starts_len differs from ends_len), 1, 9.
+ * Room, needed and enough: starts_len elements in each of the three. */
+uint32_t zulmyren_char_offsets_all(
+    const uint8_t *text, size_t text_len,
+    const uint32_t *starts, size_t starts_len, const uint32_t *ends, size_t ends_len,
+    uint8_t *numbers, size_t numbers_len,
+    uint32_t *char_starts, size_t char_starts_len, uint32_t *char_ends, size_t char_ends_len);
 
-/* A range start..end of one text of a note as a range of the other (Rust: convert_offsets). of_original says that the range is the transcript's. An empty
- * range is answered as it is, even past the text. Refusals: 2, 3, 1, 4, 10. */
+/* ---- Notes ---- */
+
+/* Whether five lent things are a note, as every call that is lent one asks. Refusals: 2, 3, 1, 4. */
+uint32_t zulmyren_check_note(
+    const uint8_t *original, size_t original_len, const uint8_t *normalized, size_t normalized_len,
+    const uint16_t *starts, size_t starts_len, const uint16_t *ends, size_t ends_len, uint32_t original_shift);
+
+/* The note of a fresh text (Rust: NormalizedString::from). Its original and its normalized are both the text, its
+ * shift is 0, and the call writes its starts and ends: for each byte the range of the character that the byte belongs
+ * to. The note's starts_len and ends_len are then text_len. Refusals: 2, 1, 9.
+ * Room, needed and enough: text_len elements in each of the two. */
+uint32_t zulmyren_from_text(
+    const uint8_t *text, size_t text_len, uint16_t *starts, size_t starts_len, uint16_t *ends, size_t ends_len);
+
+/* ---- Ranges of a note. of_original says which text start..end is a range of: true the transcript, false the cleaned
+ * text. ---- */
+
+/* A range of one text as a range of the other (Rust: convert_offsets). An empty range is answered as it is, even past
+ * the text.
+ * - From the cleaned text to the transcript: starts[start]..ends[end - 1].
+ * - From the transcript to the cleaned text: let k be the number of alignments with ends[i] <= end; ends never go
+ *   back, so these are the first k. The answer ends at k. It begins at the least i below k with starts[i] >= start and
+ *   starts[i] != ends[i], and at k where there is none.
+ * Refusals: 2, 3, 1, 4, 10 (start > end; a range of the cleaned text with end > normalized_len; one of the transcript
+ * with k == 0; but never an empty range). */
 zulmyren_offsets zulmyren_convert_offsets(
     const uint8_t *original, size_t original_len, const uint8_t *normalized, size_t normalized_len,
     const uint16_t *starts, size_t starts_len, const uint16_t *ends, size_t ends_len, uint32_t original_shift,
     bool of_original, uint32_t start, uint32_t end);
 
-/* Where a range of either text stands in the cleaned text (Rust: get_range), or in the transcript (get_range_original): start..end of the text that is read.
- * Refusals: 2, 3, 1, 4, 10 (it converts to nothing, or its end is past the text or inside a character). */
+/* zulmyren_convert_offsets for a list of ranges from[i]..to[i], all of the same text; the note is checked once. For
+ * each range i, numbers[i] becomes 0 and out_starts[i], out_ends[i] the answer; or, where the range alone would be
+ * refused, they become 10, 0 and 0. Refusals: 2, 3 (also where from_len differs from to_len), 1, 4, 9.
+ * Room, needed and enough: from_len elements in each of the three. */
+uint32_t zulmyren_convert_all(
+    const uint8_t *original, size_t original_len, const uint8_t *normalized, size_t normalized_len,
+    const uint16_t *starts, size_t starts_len, const uint16_t *ends, size_t ends_len, uint32_t original_shift,
+    bool of_original, const uint32_t *from, size_t from_len, const uint32_t *to, size_t to_len,
+    uint8_t *numbers, size_t numbers_len,
+    uint32_t *out_starts, size_t out_starts_len, uint32_t *out_ends, size_t out_ends_len);
+
+/* Where in the cleaned text a range of either text can be read (Rust: get_range); and where in the transcript
+ * (get_range_original). A range of the other text is converted first. Refusals: 2, 3, 1, 4, 10 (converting says 10;
+ * or, in the text that is read, either end is greater than its length or within a character, or start > end. This goes
+ * for empty ranges too). */
 zulmyren_offsets zulmyren_get_range(
     const uint8_t *original, size_t original_len, const uint8_t *normalized, size_t normalized_len,
     const uint16_t *starts, size_t starts_len, const uint16_t *ends, size_t ends_len, uint32_t original_shift,
@@ -80,58 +161,85 @@ zulmyren_offsets zulmyren_get_range_original(
     const uint16_t *starts, size_t starts_len, const uint16_t *ends, size_t ends_len, uint32_t original_shift,
     bool of_original, uint32_t start, uint32_t end);
 
-/* Whether start..end is a part of the transcript (of_original) or of the cleaned text that can be handed out. Refusals: 2, 1, 10. */
-uint32_t zulmyren_part_verdict(const uint8_t *original, size_t original_len, const uint8_t *normalized, size_t normalized_len, bool of_original,
-                               uint32_t start, uint32_t end);
-
-/* zulmyren_convert_offsets for a list of ranges from[i]..to[i], the note checked once. For each range numbers, out_starts and out_ends get 0 and the converted
- * range, or 10 beside 0 and 0. Refusals of the call: 2, 3 (also from_len differs from to_len), 1, 4, 9 (a written column shorter than from_len). */
-uint32_t zulmyren_convert_all(
+/* Whether start..end of one of two texts can be handed out as a text of its own; nothing is converted.
+ * Refusals: 2 and 1 (of either text), 10 (either end is greater than the length of the text that of_original names, or
+ * within a character; or start > end). */
+uint32_t zulmyren_part_verdict(
     const uint8_t *original, size_t original_len, const uint8_t *normalized, size_t normalized_len,
-    const uint16_t *starts, size_t starts_len, const uint16_t *ends, size_t ends_len, uint32_t original_shift,
-    bool of_original, const uint32_t *from, size_t from_len, const uint32_t *to, size_t to_len, uint8_t *numbers, size_t numbers_len,
-    uint32_t *out_starts, size_t out_starts_len, uint32_t *out_ends, size_t out_ends_len);
+    bool of_original, uint32_t start, uint32_t end);
 
-/* A place list is bytes: for each place 11 (unmatched) or 12 (matched), its start and its end in the cleaned text, two bytes each, little-endian. It is refused
- * (8) where a command is unknown or cut, a place ends before it starts, the places do not cover the text in order, or one stands inside a character. */
+/* ---- Matches. A match list is bytes, five for each place: 11 (unmatched) or 12 (matched); then the place's start and
+ * its end in the cleaned text, two bytes each, the lower byte first. It covers a text when the first place starts at
+ * 0, each next one where the one before it ends, and the last ends at the text's length; no place has start > end or
+ * an end inside a character; no byte but 11 or 12 begins a place; and no bytes are left over. Empty places are fine; a
+ * list without places covers the empty text only. ---- */
 
-/* The places of a literal in a text (Rust: find_matches of &str): leftmost, non-overlapping, as a list that covers the text. The first len bytes of out are written.
- * An empty literal matches nothing. Refusals: 2, 1 (text or literal), 9 (five bytes a place). len is 0 where it refuses. 5 * (2 * (text_len / literal_len) + 1) bytes are
- * always enough, and with so many the text is searched once; with fewer, once more to measure the list. */
+/* A length in bytes, or a refusal and 0. */
 typedef struct {
     uint32_t refusal;
     size_t len;
 } zulmyren_listed;
-zulmyren_listed zulmyren_find_matches(const uint8_t *text, size_t text_len, const uint8_t *literal, size_t literal_len, uint8_t *out, size_t out_len);
 
-/* A note with every matched place replaced by the filler (Rust: replace). The first count bytes of out, and as many of out_starts and out_ends, are the published
- * note: unmatched places keep their bytes and alignments, each filler byte carries the alignment of the byte before its place's end, (0, 0) if that end is 0.
- * Refusals: 2, 3, 1 (also of the filler), 4, 8, 9. count is 0 where it refuses. */
+/* Finds a literal in a text (Rust: find_matches of &str) and writes a match list that covers the text, len bytes, to
+ * out: the matches are its matched places, from the left, each search going on at the end of the match before. An
+ * empty literal matches nothing. Refusals: 2 (the text), 1 (text or literal), 9.
+ * Room, always enough: 5 * (2 * (text_len / literal_len) + 1) bytes where literal_len > 0, and 5 where it is 0. In
+ * less room, if the list fits, the text is searched twice. */
+zulmyren_listed zulmyren_find_matches(
+    const uint8_t *text, size_t text_len, const uint8_t *literal, size_t literal_len, uint8_t *out, size_t out_len);
+
+/* A note in which the filler, content, stands in place of what every matched place had (Rust: replace). The first
+ * count elements of out, out_starts and out_ends become the published note: its text and its alignments. Bytes of
+ * unmatched places keep their alignments. Every byte of the filler gets that of the byte just before the end of its
+ * place, which is starts[end - 1]..ends[end - 1]; and 0..0 where that end is 0. The result's transcript and shift are
+ * the note's own.
+ * Refusals: 2, 3, 1 (either text or the filler), 4, 8, 9 (any of the three buffers is too small, or count would be
+ * over 65,535).
+ * Room, always enough: normalized_len elements in each of the three where the filler is no longer than the shortest
+ * matched place or nothing is matched, and else 65,535. */
 zulmyren_count zulmyren_replace(
     const uint8_t *original, size_t original_len, const uint8_t *normalized, size_t normalized_len,
     const uint16_t *starts, size_t starts_len, const uint16_t *ends, size_t ends_len, uint32_t original_shift,
-    const uint8_t *list, size_t list_len, const uint8_t *filler, size_t filler_len, uint8_t *out, size_t out_len,
+    const uint8_t *list, size_t list_len, const uint8_t *content, size_t content_len,
+    uint8_t *out, size_t out_len,
     uint16_t *out_starts, size_t out_starts_len, uint16_t *out_ends, size_t out_ends_len);
 
-/* Every match of a literal in a fresh text blanked, in one call: zulmyren_from_text, zulmyren_find_matches and zulmyren_replace one after the other, each text judged once.
- * The first text_len starts and ends are then the fresh note's, the front of list is the list of the matches, and the first count bytes of out, and as many of out_starts and
- * out_ends, are the published note. Refusals: 2 (the text), 1 (text, literal or filler), 9 (any of the six buffers is too small, or the published text is over 65,535 bytes);
- * count is 0 where it refuses. Always enough: text_len for starts and ends; 5 * (2 * (text_len / literal_len) + 1) bytes for list, 5 where the literal is empty; text_len for out,
- * out_starts and out_ends where the filler is no longer than the literal, and 65,535 for any filler. */
+/* Blanks every match of a literal in a fresh text: zulmyren_from_text, zulmyren_find_matches and zulmyren_replace in
+ * one call. It writes six buffers: the first text_len elements of starts and ends, the match list at the front of
+ * list, and the published note in the first count elements of out, out_starts and out_ends. How long the list is, is
+ * not answered: it is over with the place that ends at text_len.
+ * Refusals: 2 (the text), 1 (text, literal or filler), 9 (any of the six is too small, or count would be over 65,535).
+ * Room, always enough:
+ * - starts, ends: text_len.
+ * - list: 5 * (2 * (text_len / literal_len) + 1) where literal_len > 0, and 5 where it is 0.
+ * - out, out_starts, out_ends: text_len where content_len <= literal_len or literal_len is 0, and else 65,535. */
 zulmyren_count zulmyren_redact(
-    const uint8_t *text, size_t text_len, const uint8_t *literal, size_t literal_len, const uint8_t *filler, size_t filler_len,
-    uint16_t *starts, size_t starts_len, uint16_t *ends, size_t ends_len, uint8_t *list, size_t list_len, uint8_t *out, size_t out_len,
+    const uint8_t *text, size_t text_len, const uint8_t *literal, size_t literal_len,
+    const uint8_t *content, size_t content_len,
+    uint16_t *starts, size_t starts_len, uint16_t *ends, size_t ends_len, uint8_t *list, size_t list_len,
+    uint8_t *out, size_t out_len,
     uint16_t *out_starts, size_t out_starts_len, uint16_t *out_ends, size_t out_ends_len);
 
-/* Whether two notes, with the same places blanked by the same filler, are published alike, byte for byte and alignment for alignment: count is 1 or 0. That is so exactly
- * when they agree outside the matched places and, where the filler is not empty, on the alignment of the byte before each matched place's end. Refusals: those
- * of replacing the first note, then the second, with buffers of 65,535. */
-zulmyren_count zulmyren_published_alike(
+/* Yes or no, or a refusal and false. */
+typedef struct {
+    uint32_t refusal;
+    bool alike;
+} zulmyren_comparison;
+
+/* Whether two notes are published alike: whether zulmyren_replace, with the same match list and the same filler, gives
+ * the same bytes and the same alignments for both. That is so exactly when the two notes have the same bytes and
+ * alignments outside the matched places and, if the filler is not empty, the same alignment at the byte just before
+ * the end of each matched place that does not end at 0. Of the second note, other is the cleaned text.
+ * Refusals: those of zulmyren_replace with buffers of 65,535 elements, for either note: 2, 3, 1, 4, 8, 9. The first
+ * that applies to the one or the other is given: a list that does not cover the first note is 8, but 2 if the second
+ * note is overlong. alike is false where it refuses. */
+zulmyren_comparison zulmyren_published_alike(
     const uint8_t *original, size_t original_len, const uint8_t *normalized, size_t normalized_len,
     const uint16_t *starts, size_t starts_len, const uint16_t *ends, size_t ends_len, uint32_t original_shift,
     const uint8_t *other_original, size_t other_original_len, const uint8_t *other, size_t other_len,
-    const uint16_t *other_starts, size_t other_starts_len, const uint16_t *other_ends, size_t other_ends_len, uint32_t other_shift,
-    const uint8_t *list, size_t list_len, const uint8_t *filler, size_t filler_len);
+    const uint16_t *other_starts, size_t other_starts_len, const uint16_t *other_ends, size_t other_ends_len,
+    uint32_t other_shift,
+    const uint8_t *list, size_t list_len, const uint8_t *content, size_t content_len);
 
 #ifdef __cplusplus
 }

@@ -1,16 +1,28 @@
-//! What can still be told about the text under a matched place: document 01's claim about two calls of `replace`, both
-//! ways, on pairs of notes.
+//! What can still be told about the text under a matched place: the claim of docs/RULES.md about two calls of
+//! `replace`, both ways, on pairs of notes, and the call that answers for both.
 
-use crate::library::{self, Count};
+use crate::library::{self, Comparison, Count, Publishing};
 use crate::note::Note;
-use crate::notes::FAULTS;
+use crate::notes::{self, FAULTS};
 use crate::places::{self, Place};
 use crate::random::Random;
-use crate::replace::{self, sound_notes, FILLERS};
-use crate::samples;
-use crate::tally::Tally;
-use crate::texts;
+use crate::refusals::{self, BAD_MATCHES, ILL_FORMED, LENGTH_MISMATCH, MISALIGNED, NO_ROOM, TOO_LONG};
+use crate::replace;
+use crate::samples::{self, sound_notes, FILLERS};
+use crate::tally::{self, hex, Report, Tally};
+use crate::texts::{self, LIMIT};
 use tokenizers::NormalizedString;
+
+pub fn compare(report: &mut Report) {
+    report.call("two calls of zulmyren_replace, zulmyren_published_alike", "the claim about them", |tally| {
+        every_two_notes(tally);
+        any_two_notes(tally);
+    });
+    report.call("zulmyren_published_alike", "two calls of NormalizedString::replace", |tally| {
+        refused_notes(tally);
+        two_refusals(tally);
+    });
+}
 
 /// The result's cleaned text and alignments.
 type Published = (Vec<u8>, Vec<u16>, Vec<u16>);
@@ -19,7 +31,8 @@ type Published = (Vec<u8>, Vec<u16>, Vec<u16>);
 fn published(note: &Note, list: &[u8], filler: &[u8]) -> Option<Published> {
     let room = note.normalized.len() + filler.len() * list.len() / 5;
     let (mut text, mut starts, mut ends) = (vec![0; room], vec![0; room], vec![0; room]);
-    let answer = library::replace(note, list, filler, &mut text, &mut starts, &mut ends);
+    let lent = Publishing { text: &mut text, starts: &mut starts, ends: &mut ends };
+    let answer = library::replace(note, list, filler, lent);
     text.truncate(answer.count as usize);
     starts.truncate(answer.count as usize);
     ends.truncate(answer.count as usize);
@@ -43,48 +56,96 @@ fn pair(tally: &mut Tally, notes: [&Note; 2], results: [&Published; 2], places: 
     let alike = results[0] == results[1];
     let claimed = agree(one, other, places, filler);
     let called = library::published_alike(one, other, &places::bytes(places), filler.as_bytes());
-    let differs = alike != claimed || called != Count { refusal: 0, count: alike.into() };
+    let differs = alike != claimed || called != Comparison { refusal: 0, alike };
     tally.case(if alike { "alike" } else { "told apart" }, differs, || {
         format!("alike {alike}, claimed {claimed}, {called:?}, places {places:?}, filler {filler:?}, {one}; {other}")
     });
 }
 
-/// What `published_alike` answers: a refusal of replacing the first note, or else the second, or whether the Rust
-/// original makes the same of both.
-pub fn expected_alike(one: &Note, other: &Note, list: &[u8], filler: &[u8]) -> Count {
+/// What `published_alike` answers: the first refusal of replacing either note, or whether the Rust original makes the
+/// same of both.
+fn expected(one: &Note, other: &Note, list: &[u8], filler: &[u8]) -> Comparison {
     let results = [one, other].map(|note| replace::expected(note, list, filler));
-    match results {
-        [Err(refusal), _] | [Ok(_), Err(refusal)] => Count { refusal, count: 0 },
-        [Ok(one), Ok(other)] => {
-            let published = |note: Note| (note.normalized, note.starts, note.ends);
-            Count { refusal: 0, count: (published(one) == published(other)).into() }
-        }
+    let met: Vec<u32> = results.iter().filter_map(|result| result.as_ref().err().copied()).collect();
+    let [one, other] = results.map(|result| result.ok().map(|note| (note.normalized, note.starts, note.ends)));
+    match refusals::first(&met) {
+        Some(refusal) => Comparison { refusal, alike: false },
+        None => Comparison { refusal: 0, alike: one == other },
     }
 }
 
-/// Each fault of either note beside each of the other, lists that cover the text or do not, fillers torn or not.
-pub fn refused_notes(tally: &mut Tally) {
-    tally.family("every two notes out of ten, sound or with a fault, three lists, three fillers");
-    let fresh = Note::from(&NormalizedString::from("aéb"));
-    let mut notes = vec![fresh; 1 + FAULTS.len()];
-    for (note, fault) in notes[1..].iter_mut().zip(FAULTS) {
-        fault(note);
-    }
-    let lists = [vec![((0, 1), false), ((1, 4), true)], vec![((0, 4), true)], vec![((0, 2), true), ((2, 4), false)]];
-    for (one, other) in notes.iter().flat_map(|one| notes.iter().map(move |other| (one, other))) {
-        for list in lists.iter().map(|places| places::bytes(places)) {
-            for filler in [&b"x"[..], b"", b"\xFF"] {
-                let (ours, wanted) =
-                    (library::published_alike(one, other, &list, filler), expected_alike(one, other, &list, filler));
-                tally.case(crate::tally::refusal(ours.refusal), ours != wanted, || {
-                    format!("ours {ours:?}, wanted {wanted:?}, list {list:?}, filler {filler:?}, {one}; {other}")
-                });
+/// As the list of answers has it: the count is 1 for notes that are published alike.
+pub fn expected_alike(one: &Note, other: &Note, list: &[u8], filler: &[u8]) -> Count {
+    let Comparison { refusal, alike } = expected(one, other, list, filler);
+    Count { refusal, count: alike.into() }
+}
+
+fn compare_notes(tally: &mut Tally, [one, other]: [&Note; 2], list: &[u8], filler: &[u8], wanted: Comparison) {
+    let ours = library::published_alike(one, other, list, filler);
+    tally.case(tally::refusal(ours.refusal), ours != wanted, || {
+        let (list, filler) = (hex(list), hex(filler));
+        format!("ours {ours:?}, wanted {wanted:?}, list {list}, filler {filler}, {one}; {other}")
+    });
+}
+
+/// `aéb` as it is, `aéb` with each fault alone, and two texts of other lengths.
+fn sound_and_faulty() -> Vec<Note> {
+    let of_others = ["", "aéba"].map(|text| Note::from(&NormalizedString::from(text)));
+    let sets = [0].into_iter().chain((0..FAULTS.len()).map(|i| 1 << i));
+    sets.map(notes::with).chain(of_others).collect()
+}
+
+/// Each fault of either note beside each of the other, lists that cover both texts, one or none, and fillers
+/// well-formed or not, or too long for the result.
+fn refused_notes(tally: &mut Tally) {
+    tally.family("every two notes out of twelve, sound or with a fault, four lists, four fillers");
+    let notes = sound_and_faulty();
+    let lists: [&[Place]; 4] =
+        [&[((0, 1), false), ((1, 4), true)], &[((0, 4), true)], &[((0, 2), true), ((2, 4), false)], &[((0, 0), true)]];
+    for [one, other] in notes.iter().flat_map(|one| notes.iter().map(move |other| [one, other])) {
+        for list in lists.map(places::bytes) {
+            for filler in [&b"x"[..], b"", b"\xFF", &[b'x'; LIMIT + 1]] {
+                compare_notes(tally, [one, other], &list, filler, expected(one, other, &list, filler));
             }
         }
     }
 }
 
-pub fn every_two_notes(tally: &mut Tally) {
+/// The answers are written down here, for both orders of the two notes.
+fn two_refusals(tally: &mut Tally) {
+    tally.family("two notes with different refusals: the first in the order of docs/RULES.md over both");
+    let fault = |i: usize| notes::with(1 << i);
+    let (sound, uncovered) = (notes::with(0), Note::from(&NormalizedString::from("aéba")));
+    let (long, mismatched, ill_formed, misaligned) = (fault(0), fault(3), fault(5), fault(7));
+    let list = places::bytes(&[((0, 1), false), ((1, 4), true)]);
+    let worked: [(&Note, &Note, u32); 11] = [
+        (&uncovered, &long, TOO_LONG),
+        (&mismatched, &long, TOO_LONG),
+        (&ill_formed, &long, TOO_LONG),
+        (&misaligned, &long, TOO_LONG),
+        (&uncovered, &mismatched, LENGTH_MISMATCH),
+        (&ill_formed, &mismatched, LENGTH_MISMATCH),
+        (&misaligned, &ill_formed, ILL_FORMED),
+        (&uncovered, &ill_formed, ILL_FORMED),
+        (&uncovered, &misaligned, MISALIGNED),
+        (&sound, &uncovered, BAD_MATCHES),
+        (&sound, &sound, 0),
+    ];
+    for (one, other, refusal) in worked {
+        let wanted = Comparison { refusal, alike: refusal == 0 };
+        compare_notes(tally, [one, other], &list, b"x", wanted);
+        compare_notes(tally, [other, one], &list, b"x", wanted);
+    }
+    // A filler that is too long for a note's result, a list that does not cover the other, and an ill-formed filler.
+    let filler = [b'x'; LIMIT + 1];
+    let wanted = |refusal| Comparison { refusal, alike: false };
+    compare_notes(tally, [&sound, &sound], &list, &filler, wanted(NO_ROOM));
+    compare_notes(tally, [&sound, &uncovered], &list, &filler, wanted(BAD_MATCHES));
+    compare_notes(tally, [&uncovered, &sound], &list, &filler, wanted(BAD_MATCHES));
+    compare_notes(tally, [&uncovered, &misaligned], &list, b"\xFF", wanted(ILL_FORMED));
+}
+
+fn every_two_notes(tally: &mut Tally) {
     tally.family("every two sound notes of five texts of 2 bytes, every list with up to 2 empty places, 3 fillers");
     let notes: Vec<Note> = ["ab", "ac", "xb", "é", "è"]
         .iter()
@@ -104,7 +165,7 @@ pub fn every_two_notes(tally: &mut Tally) {
     }
 }
 
-pub fn any_two_notes(tally: &mut Tally) {
+fn any_two_notes(tally: &mut Tally) {
     tally.family(
         "any note to 200 bytes and the same with its matched places altered, and often one thing more, any list",
     );

@@ -1,12 +1,12 @@
 //! The calls on characters: well-formedness and letter count, beside `core::str`.
 
-use crate::bench::{self, timed};
 use crate::every;
 use crate::library::{self, Count};
 use crate::random::Random;
+use crate::refusals::{ILL_FORMED, NOT_BOUNDARY, TOO_LONG};
+use crate::samples::ADDRESSES;
 use crate::tally::{self, hex, Report, Tally};
 use crate::texts::{self, KINDS, LIMIT, OFFSETS, UNITS};
-use std::hint::black_box;
 use std::str::from_utf8;
 
 /// Values at both sides of every end of a range in Table 3-7.
@@ -165,7 +165,7 @@ fn long_texts(tally: &mut Tally) {
 
 fn empty_text_anywhere(tally: &mut Tally) {
     tally.family("the empty text at any pointer");
-    for address in [0_usize, 1, 8, usize::MAX] {
+    for address in ADDRESSES {
         let ours = unsafe { library::zulmyren_well_formed(address as *const u8, 0) };
         tally.case("well-formed", !ours, || format!("ours {ours} on the empty text at {address:#x}"));
     }
@@ -174,15 +174,15 @@ fn empty_text_anywhere(tally: &mut Tally) {
 pub fn expected_count(text: &[u8], start: u32, end: u32) -> Count {
     let refused = |refusal| Count { refusal, count: 0 };
     if text.len() > LIMIT {
-        return refused(2);
+        return refused(TOO_LONG);
     }
     let Ok(text) = from_utf8(text) else {
-        return refused(1);
+        return refused(ILL_FORMED);
     };
     // `str::get` has no part for an end past the text or inside a character, nor for start > end.
     match text.get(start as usize..end as usize) {
         Some(part) => Count { refusal: 0, count: part.chars().count() as u32 },
-        None => refused(5),
+        None => refused(NOT_BOUNDARY),
     }
 }
 
@@ -250,34 +250,5 @@ fn count_in_long_texts(tally: &mut Tally) {
             letter_count(tally, text.as_bytes(), random.below(len + 2), random.below(len + 2));
             letter_count(tally, &damaged, start.min(end), start.max(end));
         }
-    }
-}
-
-pub fn bench() {
-    bench::title("well_formed beside core::str::from_utf8");
-    for (name, text) in bench::texts() {
-        let bytes = text.as_bytes();
-        bench::row(
-            name,
-            || timed(|| library::well_formed(black_box(bytes))),
-            || timed(|| from_utf8(black_box(bytes)).is_ok()),
-        );
-    }
-    bench::title("letter_count, which checks the text, beside chars().count(), which does not");
-    for (name, text) in bench::texts() {
-        bench::row(
-            name,
-            || timed(|| library::letter_count(black_box(text.as_bytes()), 0, text.len() as u32)),
-            || timed(|| black_box(text.as_str()).chars().count()),
-        );
-    }
-    bench::title("letter_count beside core::str::from_utf8 and chars().count()");
-    for (name, text) in bench::texts() {
-        let bytes = text.as_bytes();
-        bench::row(
-            name,
-            || timed(|| library::letter_count(black_box(bytes), 0, bytes.len() as u32)),
-            || timed(|| from_utf8(black_box(bytes)).map(|text| text.chars().count())),
-        );
     }
 }

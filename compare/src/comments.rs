@@ -1,7 +1,7 @@
 //! Comments of the Rust original that its code departs from: each input of docs/DIFFERENCES.md, run on the original.
 
 use crate::places::{self, Given, Place};
-use crate::replace::{of_the_original, sound_notes, FILLERS};
+use crate::samples::{sound_notes, FILLERS};
 use crate::tally::{Report, Tally};
 use std::fmt::Debug;
 use tokenizers::normalizer::Range;
@@ -78,7 +78,7 @@ fn replacing_as_transforming(tally: &mut Tally) {
     tally.family("replace equals transform_range on each matched range, moved by the earlier changes of length");
     for text in ["", "é", "aé", "éa", "aéb"] {
         let notes = ["", "ů", "qů"].iter().flat_map(|transcript| sound_notes(transcript, text));
-        let notes: Vec<NormalizedString> = notes.map(|note| of_the_original(&note)).collect();
+        let notes: Vec<NormalizedString> = notes.map(|note| note.of_the_original()).collect();
         for places in places::every(text, 2) {
             for note in &notes {
                 for filler in FILLERS {

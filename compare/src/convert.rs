@@ -1,19 +1,16 @@
 //! Converting and reading: ranges of one text of a note in the other, beside `NormalizedString`, and parts of a text,
 //! beside `str::get`.
 
-use crate::bench::{self, timed};
 use crate::every;
-use crate::library::{self, Columns, Offsets, RangeCall};
+use crate::library::{self, lend, Offsets, RangeCall};
 use crate::lists::{self, List};
 use crate::note::Note;
 use crate::notes;
 use crate::random::Random;
-use crate::replace::of_the_original;
-use crate::samples::{self, DAMAGES, DAMAGES_AT};
+use crate::refusals::{ILL_FORMED, MISSING, TOO_LONG};
+use crate::samples::{self, ADDRESSES, DAMAGES, DAMAGES_AT};
 use crate::tally::{self, hex, Report, Tally};
 use crate::texts::{self, KINDS, LIMIT};
-use std::hint::black_box;
-use std::iter::repeat_n;
 use std::str::from_utf8;
 use tokenizers::normalizer::Range;
 use tokenizers::NormalizedString;
@@ -110,7 +107,7 @@ impl From<NormalizedString> for Sample {
 impl From<Note> for Sample {
     fn from(lent: Note) -> Self {
         let theirs = match lent.refusal() {
-            0 => Ok(of_the_original(&lent)),
+            0 => Ok(lent.of_the_original()),
             refusal => Err(refusal),
         };
         Sample { lent, theirs }
@@ -225,36 +222,11 @@ fn sound_notes() -> impl Iterator<Item = Sample> {
     let pairs = texts("a", "é")
         .into_iter()
         .flat_map(move |original| normalized.clone().into_iter().map(move |normalized| (original.clone(), normalized)));
-    let notes = pairs.flat_map(|(original, normalized)| {
-        sound_alignments(&original, &normalized)
-            .into_iter()
-            .map(move |alignments| (original.clone(), normalized.clone(), alignments))
-    });
-    notes.enumerate().map(|(i, (original, normalized, alignments))| {
-        let shift = if i % 2 == 0 { 0 } else { LIMIT - original.len() };
-        Sample::from(NormalizedString::of_fields(original, normalized, alignments, shift))
+    let notes = pairs.flat_map(|(original, normalized)| samples::sound_notes(&original, &normalized));
+    notes.enumerate().map(|(i, note)| {
+        let shift = if i % 2 == 0 { 0 } else { LIMIT - note.original.len() };
+        Sample::from(Note { original_shift: shift as u32, ..note })
     })
-}
-
-/// All that document 01 calls sound: boundaries in order, neither starts nor ends going back, one pair a character.
-fn sound_alignments(original: &str, normalized: &str) -> Vec<Vec<(usize, usize)>> {
-    let boundaries = || (0..=original.len()).filter(|&at| original.is_char_boundary(at));
-    let mut all: Vec<Vec<(usize, usize)>> = vec![vec![]];
-    for character in normalized.chars() {
-        let mut longer = vec![];
-        for alignments in &all {
-            let (last_start, last_end) = alignments.last().copied().unwrap_or((0, 0));
-            for start in boundaries().filter(|&start| start >= last_start) {
-                for end in boundaries().filter(|&end| end >= last_end.max(start)) {
-                    let mut alignments = alignments.clone();
-                    alignments.extend(repeat_n((start, end), character.len_utf8()));
-                    longer.push(alignments);
-                }
-            }
-        }
-        all = longer;
-    }
-    all
 }
 
 fn every_sound_note(tally: &mut Tally, call: &Call) {
@@ -275,7 +247,7 @@ fn every_range(tally: &mut Tally, call: &Call) {
     }
 }
 
-/// Faults of the note, and ranges that convert to nothing: 10 comes after them all.
+/// Faults of the note, and ranges that convert to nothing: `MISSING` comes after them all.
 fn every_set_of_faults(tally: &mut Tally, call: &Call) {
     tally.family("every set of faults out of nine, with ranges that convert and that do not");
     for sample in samples_with_faults() {
@@ -296,14 +268,8 @@ fn sizes_around_the_limit(tally: &mut Tally, call: &Call) {
     const LAST: u16 = u16::MAX - 1;
     for (original, normalized) in every::pair(3) {
         let (original, normalized) = (LIMIT - 1 + original, LIMIT - 1 + normalized);
-        for (start, end) in [(0, 0), (9, LAST), (LAST, LAST)] {
-            let note = Note {
-                original: vec![b'o'; original],
-                normalized: vec![b'n'; normalized],
-                starts: vec![start; normalized],
-                ends: vec![end; normalized],
-                original_shift: 0,
-            };
+        for alignment in [(0, 0), (9, LAST), (LAST, LAST)] {
+            let note = samples::uniform(original, normalized, alignment);
             for shift in [0, (LIMIT + 1).saturating_sub(original), usize::MAX] {
                 let sample = Sample::from(Note { original_shift: shift as u32, ..note.clone() });
                 for range in [(0, 65_533), (9, 65_534), (65_534, 65_535), (9, 65_536), (65_536, 65_536), (0, u32::MAX)]
@@ -333,18 +299,14 @@ fn any_notes(tally: &mut Tally, call: &Call) {
         let len = random.below(300);
         let note = Note::from(&samples::any(len, &mut random));
         convert_any_ranges(tally, call, &Sample::from(note.clone()), 10, &mut random);
-        for (_, damage) in DAMAGES {
-            let mut damaged = note.clone();
-            damage(&mut damaged);
+        for (_, damaged) in samples::damaged(&note) {
             convert_any_ranges(tally, call, &Sample::from(damaged), 2, &mut random);
         }
         if note.normalized.is_empty() {
             continue;
         }
         let offset = random.below(note.normalized.len());
-        for (_, damage_at) in DAMAGES_AT {
-            let mut damaged = note.clone();
-            damage_at(&mut damaged, offset);
+        for (_, mut damaged) in samples::damaged_at(&note, offset) {
             convert_any_ranges(tally, call, &Sample::from(damaged.clone()), 2, &mut random);
             random.choose(&DAMAGES).1(&mut damaged);
             convert_any_ranges(tally, call, &Sample::from(damaged), 1, &mut random);
@@ -356,7 +318,7 @@ fn long_notes(tally: &mut Tally, call: &Call) {
     tally.family("any ranges of notes of any make up to the limit, whole and damaged");
     let mut random = Random::new(13);
     for turn in 0..150 {
-        let len = if turn % 2 == 0 { LIMIT } else { 300 + random.below(LIMIT - 300) };
+        let len = samples::long_len(turn, 2, &mut random);
         let mut note = Note::from(&samples::any(len, &mut random));
         convert_any_ranges(tally, call, &Sample::from(note.clone()), 40, &mut random);
         if !note.normalized.is_empty() {
@@ -370,7 +332,7 @@ fn long_notes(tally: &mut Tally, call: &Call) {
 fn nothing_anywhere(tally: &mut Tally, call: &Call) {
     tally.family("nothing lent, at any pointer");
     let nothing = Sample::from(NormalizedString::from(""));
-    for address in [0_usize, 2, 8, usize::MAX - 1] {
+    for address in ADDRESSES {
         let (text, column) = (address as *const u8, address as *const u16);
         for of_original in [false, true] {
             for (start, end) in ranges_to(2) {
@@ -386,16 +348,16 @@ fn nothing_anywhere(tally: &mut Tally, call: &Call) {
 
 pub fn expected_part(original: &[u8], normalized: &[u8], of_original: bool, start: u32, end: u32) -> u32 {
     if original.len().max(normalized.len()) > LIMIT {
-        return 2;
+        return TOO_LONG;
     }
     let (Ok(original), Ok(normalized)) = (from_utf8(original), from_utf8(normalized)) else {
-        return 1;
+        return ILL_FORMED;
     };
     let text = if of_original { original } else { normalized };
     if text.get(start as usize..end as usize).is_some() {
         0
     } else {
-        10
+        MISSING
     }
 }
 
@@ -420,7 +382,7 @@ fn parts(tally: &mut Tally, original: &[u8], normalized: &[u8]) {
 
 fn parts_of_two_bytes(tally: &mut Tally) {
     tally.family("every two texts of up to 2 of 6 bytes, every range to two past each text and far ones");
-    let texts: Vec<Vec<u8>> = (0..=2).flat_map(|len| every::list(b"a\xC3\xA9\xE6\xF0\xFF", len)).collect();
+    let texts = every::texts(b"a\xC3\xA9\xE6\xF0\xFF", 2);
     for original in &texts {
         for normalized in &texts {
             parts(tally, original, normalized);
@@ -563,7 +525,7 @@ fn lists_on_long_notes(tally: &mut Tally) {
     tally.family("lists of up to 100 ranges on notes of any make up to the limit, in any room");
     let mut random = Random::new(17);
     for turn in 0..60 {
-        let len = if turn % 2 == 0 { LIMIT } else { 300 + random.below(LIMIT - 300) };
+        let len = samples::long_len(turn, 2, &mut random);
         let sample = Sample::from(samples::any(len, &mut random));
         convert_any_list(tally, &sample, 100, &mut random);
     }
@@ -582,91 +544,14 @@ fn long_lists(tally: &mut Tally) {
 fn no_list_anywhere(tally: &mut Tally) {
     tally.family("no list, at any pointer");
     let sample = Sample::from(NormalizedString::from("aéb"));
-    let Note { original, normalized, starts, ends, original_shift } = &sample.lent;
-    for address in [0_usize, 4, 8, usize::MAX - 3] {
+    for address in ADDRESSES {
         let (list, numbers, column) = (address as *const u32, address as *mut u8, address as *mut u32);
         for of_original in [false, true] {
             let ours = unsafe {
-                library::zulmyren_convert_all(
-                    original.as_ptr(),
-                    original.len(),
-                    normalized.as_ptr(),
-                    normalized.len(),
-                    starts.as_ptr(),
-                    starts.len(),
-                    ends.as_ptr(),
-                    ends.len(),
-                    *original_shift,
-                    of_original,
-                    list,
-                    0,
-                    list,
-                    0,
-                    numbers,
-                    0,
-                    column,
-                    0,
-                    column,
-                    0,
-                )
+                lend!(library::zulmyren_convert_all; note sample.lent, plain of_original, plain list, plain 0,
+                    plain list, plain 0, plain numbers, plain 0, plain column, plain 0, plain column, plain 0)
             };
             tally.case(tally::refusal(ours), ours != 0, || format!("ours {ours} on no list at {address:#x}"));
         }
-    }
-}
-
-pub fn bench() {
-    bench::title_beyond("convert_offsets, 51 bytes near the original's end to normalized (ours to be at most 1.00)");
-    bench_walk(|text| text.len() - 60);
-    bench::title_beyond("convert_offsets, from the original's beginning to near its end");
-    bench_walk(|_| 0);
-    bench_list();
-}
-
-/// Wherever the range begins, the alignments are walked from the first to its end.
-fn bench_walk(begin: fn(&str) -> usize) {
-    for (name, text) in bench::texts() {
-        let theirs = NormalizedString::from(text.as_str());
-        let note = Note::from(&theirs);
-        let cut = |at| texts::boundary_before(&text, at);
-        let (start, end) = (cut(begin(&text)), cut(text.len() - 9));
-        bench::row_beyond(
-            name,
-            || timed(|| library::convert_offsets(black_box(&note), true, start as u32, end as u32)),
-            || timed(|| library::check_note(black_box(&note))),
-            || timed(|| black_box(&theirs).convert_offsets(Range::Original(start..end))),
-        );
-    }
-}
-
-fn bench_list() {
-    bench::title_beyond(
-        "convert_all, 8000 ranges normalized to original, beside 8000 calls (beyond to be at most 1.00)",
-    );
-    for (name, text) in bench::texts() {
-        let theirs = NormalizedString::from(text.as_str());
-        let note = Note::from(&theirs);
-        let ranges = bench::ranges(&text);
-        let list = List::of(&ranges.iter().map(|range| (range.start as u32, range.end as u32)).collect::<Vec<_>>());
-        let mut numbers = vec![0; ranges.len()];
-        let (mut starts, mut ends) = (vec![0; ranges.len()], vec![0; ranges.len()]);
-        let mut answers = vec![None; ranges.len()];
-        bench::row_beyond(
-            name,
-            || {
-                let out = Columns { numbers: &mut numbers, starts: &mut starts, ends: &mut ends };
-                let (from, to) = (black_box(&list.from), black_box(&list.to));
-                timed(|| library::convert_all(black_box(&note), false, from, to, out))
-            },
-            || timed(|| library::check_note(black_box(&note))),
-            || {
-                timed(|| {
-                    for (range, answer) in black_box(&ranges).iter().zip(&mut answers) {
-                        *answer = theirs.convert_offsets(Range::Normalized(range.clone()));
-                    }
-                    black_box(&answers).len()
-                })
-            },
-        );
     }
 }

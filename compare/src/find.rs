@@ -1,19 +1,16 @@
 //! Finding a literal beside `&str`'s `find_matches`, with `core::str`'s `match_indices` as the second implementation.
 
-use crate::bench::{self, timed};
 use crate::every;
 use crate::lent::Lent;
 use crate::library::{self, Count};
-use crate::note::Note;
 use crate::places::{self, Place};
 use crate::random::Random;
-use crate::replace::{bench_texts, time_of_from_and_replace, Buffers, LITERAL};
+use crate::refusals::{ILL_FORMED, NO_ROOM, TOO_LONG};
+use crate::samples::{self, ADDRESSES};
 use crate::tally::{self, hex, Report, Tally};
-use crate::texts::{self, KINDS, LIMIT};
-use std::hint::black_box;
+use crate::texts::{self, LIMIT};
 use std::str::from_utf8;
 use tokenizers::pattern::Pattern;
-use tokenizers::NormalizedString;
 
 pub fn compare(report: &mut Report) {
     report.call("zulmyren_find_matches", "find_matches of a &str, and match_indices", |tally| {
@@ -56,14 +53,14 @@ fn theirs(text: &str, literal: &str) -> Option<Vec<Place>> {
     (!too_long).then(|| list.expect("a literal is a regular expression"))
 }
 
-/// The list's bytes, or the refusal that document 01 gives in any room.
+/// The list's bytes, or the refusal that docs/RULES.md gives in any room.
 pub fn expected(text: &[u8], literal: &[u8]) -> Result<Vec<u8>, u32> {
     if text.len() > LIMIT {
-        return Err(2);
+        return Err(TOO_LONG);
     }
     match (from_utf8(text), from_utf8(literal)) {
         (Ok(text), Ok(literal)) => Ok(places::bytes(&second(text, literal))),
-        _ => Err(1),
+        _ => Err(ILL_FORMED),
     }
 }
 
@@ -82,7 +79,7 @@ fn find(tally: &mut Tally, text: &[u8], literal: &[u8], rooms: impl FnOnce(usize
         let ours = library::find_matches(text, literal, out.part());
         let (refusal, bytes): (u32, &[u8]) = match &list {
             Err(refusal) => (*refusal, &[]),
-            Ok(list) if room < list.len() => (9, &[]),
+            Ok(list) if room < list.len() => (NO_ROOM, &[]),
             Ok(list) => (0, list),
         };
         let wanted = Count { refusal, count: bytes.len() as u32 };
@@ -97,18 +94,10 @@ fn find(tally: &mut Tally, text: &[u8], literal: &[u8], rooms: impl FnOnce(usize
     }
 }
 
-/// Every string of up to so many characters out of three.
-pub fn strings(most: usize) -> Vec<String> {
-    (0..=most)
-        .flat_map(|len| every::list(&['a', 'b', 'é'], len))
-        .map(|characters| characters.iter().collect())
-        .collect()
-}
-
 fn every_short_text(tally: &mut Tally) {
     tally.family("every text of up to 6 characters out of a, b and é, every literal of up to 3");
-    for literal in strings(3) {
-        for text in strings(6) {
+    for literal in every::strings(3) {
+        for text in every::strings(6) {
             find(tally, text.as_bytes(), literal.as_bytes(), |len| vec![len + 3]);
         }
     }
@@ -116,8 +105,8 @@ fn every_short_text(tally: &mut Tally) {
 
 fn every_room(tally: &mut Tally) {
     tally.family("every text of up to 3 characters, every literal of up to 2, in every room");
-    for literal in strings(2) {
-        for text in strings(3) {
+    for literal in every::strings(2) {
+        for text in every::strings(3) {
             find(tally, text.as_bytes(), literal.as_bytes(), |len| (0..=len + 6).collect());
         }
     }
@@ -125,7 +114,7 @@ fn every_room(tally: &mut Tally) {
 
 fn every_two_byte_strings(tally: &mut Tally) {
     tally.family("texts and literals of up to 3 of 5 bytes, well-formed or not");
-    let all: Vec<Vec<u8>> = (0..=3).flat_map(|len| every::list(b"a\xC3\xA9\x80\xFF", len)).collect();
+    let all = every::texts(b"a\xC3\xA9\x80\xFF", 3);
     for text in &all {
         for literal in &all {
             find(tally, text, literal, |len| vec![len, 0]);
@@ -165,23 +154,23 @@ fn any_texts(tally: &mut Tally) {
     tally.family("any text up to the limit, literals out of it, whole and with one byte damaged");
     let mut random = Random::new(46);
     for turn in 0..2_000 {
-        let len = 1 + random.below(if turn % 20 == 0 { LIMIT } else { 400 });
-        let text = texts::text(*random.choose(&KINDS), len, &mut random);
-        let at = texts::any_boundary(&text, &mut random);
-        let literal: String = text[at..].chars().take(random.below(6)).collect();
+        let (text, literal) = samples::text_and_literal(turn, &mut random);
         find(tally, text.as_bytes(), literal.as_bytes(), rooms);
-        let (mut torn, mut torn_literal) = (text.into_bytes(), literal.into_bytes());
-        torn[random.below(len)] = random.byte();
-        find(tally, &torn, &torn_literal, rooms);
-        if let Some(last) = torn_literal.last_mut() {
+        let (mut damaged, mut damaged_literal) = (text.into_bytes(), literal.into_bytes());
+        let at = random.below(damaged.len());
+        damaged[at] = random.byte();
+        find(tally, &damaged, &damaged_literal, rooms);
+        if let Some(last) = damaged_literal.last_mut() {
             *last = random.byte();
-            find(tally, &torn, &torn_literal, rooms);
+            find(tally, &damaged, &damaged_literal, rooms);
         }
     }
 }
 
 fn around_the_limit(tally: &mut Tally) {
-    tally.family("texts of 65533 to 65538 bytes: a match at the end, at every byte, nowhere; beside a torn literal");
+    tally.family(
+        "texts of 65533 to 65538 bytes: a match at the end, at every byte, nowhere; beside an ill-formed literal",
+    );
     for len in LIMIT - 2..=LIMIT + 3 {
         let mut text = vec![b'a'; len];
         for literal in [&b"a"[..], b"aa", b"b", b"", b"\xFF"] {
@@ -208,54 +197,10 @@ fn long_literals(tally: &mut Tally) {
 /// The list of an empty text has one place: there is always something to write.
 fn nothing_anywhere(tally: &mut Tally) {
     tally.family("nothing lent, at any pointer");
-    for address in [0_usize, 2, 8, usize::MAX - 1] {
+    for address in ADDRESSES {
         let (text, out) = (address as *const u8, address as *mut u8);
         let ours = Count::from(unsafe { library::zulmyren_find_matches(text, 0, text, 0, out, 0) });
-        let no_room = Count { refusal: 9, count: 0 };
+        let no_room = Count { refusal: NO_ROOM, count: 0 };
         tally.case(tally::refusal(ours.refusal), ours != no_room, || format!("ours {ours:?} at {address:#x}"));
-    }
-}
-
-/// The header's room for any list of the literal.
-fn any_list(text: &str) -> Vec<u8> {
-    vec![0; 5 * (2 * (text.len() / LITERAL.len()) + 1)]
-}
-
-pub fn bench() {
-    bench::title("find_matches of a literal that stands every 45 bytes beside find_matches");
-    for (name, text, places) in &bench_texts() {
-        let mut list = any_list(text);
-        assert!(5 * places.len() <= list.len());
-        let ours =
-            || timed(|| library::find_matches(black_box(text.as_bytes()), black_box(LITERAL.as_bytes()), &mut list));
-        bench::row(name, ours, || timed(|| black_box(LITERAL).find_matches(black_box(text))));
-    }
-    bench::title("find_matches of a literal that is nowhere beside find_matches");
-    for (name, text, _) in &bench_texts() {
-        let mut list = [0; 5];
-        let ours = || timed(|| library::find_matches(black_box(text.as_bytes()), black_box(b"QQQ"), &mut list));
-        bench::row(name, ours, || timed(|| black_box("QQQ").find_matches(black_box(text))));
-    }
-    bench::title("find_matches of a literal that nearly matches at every byte beside find_matches");
-    for len in [2, 20, 200] {
-        let (text, literal) = ("a".repeat(60_000), "a".repeat(len - 1) + "b");
-        let mut list = [0; 5];
-        let ours =
-            || timed(|| library::find_matches(black_box(text.as_bytes()), black_box(literal.as_bytes()), &mut list));
-        bench::row(&len.to_string(), ours, || timed(|| black_box(literal.as_str()).find_matches(black_box(&text))));
-    }
-    bench::title("from_text, find_matches and replace, each with its own checks, beside from and replace of a literal");
-    for (name, text, _) in &bench_texts() {
-        let mut list = any_list(text);
-        let mut note = Note::from(&NormalizedString::from(text.as_str()));
-        let mut buffers = Buffers::new(text.len());
-        let ours = || {
-            timed(|| {
-                let fresh = library::from_text(black_box(text.as_bytes()), &mut note.starts, &mut note.ends);
-                let found = library::find_matches(black_box(text.as_bytes()), black_box(LITERAL.as_bytes()), &mut list);
-                (fresh, found, buffers.replace(&note, &list[..found.count as usize]))
-            })
-        };
-        bench::row(name, ours, || time_of_from_and_replace(text, LITERAL));
     }
 }

@@ -1,6 +1,6 @@
-//! Compares the proved library with the Rust original, call by call, measures both (`bench`), and writes the list of the
-//! original's answers that crates/replay replays (`list`).
-//! Each module of calls has a file with two functions, `compare` and `bench`.
+//! Compares the proved library and the program `redact` with the Rust original, call by call, measures the library
+//! (`bench`), and writes the list of the original's answers that crates/replay replays (`list`).
+//! Each module of calls has a file whose function `compare` has the families; the bench's tables stand below `bench`.
 
 mod answers;
 mod bench;
@@ -18,8 +18,10 @@ mod note;
 mod notes;
 mod places;
 mod positions;
+mod program;
 mod random;
 mod redact;
+mod refusals;
 mod replace;
 mod samples;
 mod tally;
@@ -30,7 +32,7 @@ use std::process::ExitCode;
 fn main() -> ExitCode {
     match std::env::args().nth(1).as_deref() {
         None => compare(),
-        Some("bench") => measure(),
+        Some("bench") => bench::measure(),
         Some("list") => answers::write(),
         Some(_) => {
             eprintln!("usage: compare/run [bench | list]");
@@ -47,19 +49,9 @@ fn compare() -> ExitCode {
     positions::compare(&mut report);
     find::compare(&mut report);
     replace::compare(&mut report);
+    blanking::compare(&mut report);
     redact::compare(&mut report);
+    program::compare(&mut report);
     comments::compare(&mut report);
     report.finish()
-}
-
-fn measure() -> ExitCode {
-    bench::heading();
-    characters::bench();
-    notes::bench();
-    convert::bench();
-    positions::bench();
-    find::bench();
-    replace::bench();
-    redact::bench();
-    ExitCode::SUCCESS
 }

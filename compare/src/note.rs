@@ -1,11 +1,12 @@
-//! A note as the library is lent it, and a second check of its soundness, written from document 01 over `core::str`.
+//! A note as the library is lent it, and a second check of its soundness, written from docs/RULES.md over `core::str`.
 
+use crate::refusals::{ILL_FORMED, LENGTH_MISMATCH, MISALIGNED, TOO_LONG};
 use crate::tally::{hex, numbers};
 use crate::texts::LIMIT;
 use std::fmt;
 use tokenizers::NormalizedString;
 
-#[derive(Clone)]
+#[derive(Clone, Default)]
 pub struct Note {
     pub original: Vec<u8>,
     pub normalized: Vec<u8>,
@@ -28,25 +29,25 @@ impl From<&NormalizedString> for Note {
 }
 
 impl Note {
-    /// 0, or the first met of 2, 3, 1 and 4.
+    /// 0, or the first refusal met.
     pub fn refusal(&self) -> u32 {
         let shifted = self.original_shift as usize + self.original.len();
         if self.normalized.len().max(shifted) > LIMIT {
-            return 2;
+            return TOO_LONG;
         }
         let bytes = self.normalized.len();
         if (self.starts.len(), self.ends.len()) != (bytes, bytes) {
-            return 3;
+            return LENGTH_MISMATCH;
         }
         match (std::str::from_utf8(&self.original), std::str::from_utf8(&self.normalized)) {
             (Ok(original), Ok(normalized)) if self.is_sound(original, normalized) => 0,
-            (Ok(_), Ok(_)) => 4,
-            _ => 1,
+            (Ok(_), Ok(_)) => MISALIGNED,
+            _ => ILL_FORMED,
         }
     }
 
     fn is_sound(&self, original: &str, normalized: &str) -> bool {
-        let alignments: Vec<(u16, u16)> = self.starts.iter().copied().zip(self.ends.iter().copied()).collect();
+        let alignments: Vec<(u16, u16)> = self.alignments().collect();
         // `str::get` is there for start ≤ end ≤ length, both on character boundaries, and for nothing else.
         let inside = alignments.iter().all(|&(start, end)| original.get(start.into()..end.into()).is_some());
         let whole = normalized.char_indices().all(|(at, character)| {
@@ -54,6 +55,18 @@ impl Note {
             of_character.iter().all(|alignment| *alignment == of_character[0])
         });
         inside && whole && self.starts.is_sorted() && self.ends.is_sorted()
+    }
+
+    /// As the Rust original holds it, where both texts are well-formed.
+    pub fn of_the_original(&self) -> NormalizedString {
+        let text = |bytes: &[u8]| std::str::from_utf8(bytes).expect("a checked text").to_owned();
+        let alignments = self.alignments().map(|(start, end)| (start.into(), end.into())).collect();
+        let (original, normalized) = (text(&self.original), text(&self.normalized));
+        NormalizedString::of_fields(original, normalized, alignments, self.original_shift as usize)
+    }
+
+    pub fn alignments(&self) -> impl Iterator<Item = (u16, u16)> + '_ {
+        self.starts.iter().copied().zip(self.ends.iter().copied())
     }
 }
 

@@ -1,16 +1,14 @@
 //! The calls on notes: the starting note beside `NormalizedString::from`, and soundness beside a second check.
 
-use crate::bench::{self, timed};
 use crate::every;
 use crate::lent::Lent;
 use crate::library;
 use crate::note::Note;
 use crate::random::Random;
-use crate::replace::{bench_texts, FILLER, LITERAL};
-use crate::samples::{self, DAMAGES, DAMAGES_AT};
+use crate::refusals::{ILL_FORMED, NO_ROOM, TOO_LONG};
+use crate::samples::{self, ADDRESSES, DAMAGES, DAMAGES_AT};
 use crate::tally::{self, hex, Report, Tally};
 use crate::texts::{self, KINDS, LIMIT, OFFSETS, UNITS};
-use std::hint::black_box;
 use std::str::from_utf8;
 use tokenizers::NormalizedString;
 
@@ -36,12 +34,12 @@ pub fn compare(report: &mut Report) {
     });
 }
 
-/// The note that the Rust original makes of a text, or the refusal that document 01 gives it.
+/// The note that the Rust original makes of a text, or the refusal that docs/RULES.md gives it.
 pub fn expected_from_text(text: &[u8]) -> Result<Note, u32> {
     if text.len() > LIMIT {
-        return Err(2);
+        return Err(TOO_LONG);
     }
-    let text = from_utf8(text).map_err(|_| 1_u32)?;
+    let text = from_utf8(text).map_err(|_| ILL_FORMED)?;
     Ok(Note::from(&NormalizedString::from(text)))
 }
 
@@ -53,7 +51,7 @@ fn from_text(tally: &mut Tally, text: &[u8], rooms: impl IntoIterator<Item = (us
         let ours = library::from_text(text, starts.part(), ends.part());
         let (theirs, their_starts, their_ends): (u32, &[u16], &[u16]) = match &note {
             Err(refusal) => (*refusal, &[], &[]),
-            Ok(_) if room.0.min(room.1) < text.len() => (9, &[], &[]),
+            Ok(_) if room.0.min(room.1) < text.len() => (NO_ROOM, &[], &[]),
             Ok(note) => (0, &note.starts, &note.ends),
         };
         let starts_hold = starts.holds(their_starts);
@@ -153,17 +151,13 @@ fn check_note(tally: &mut Tally, note: &Note, made: impl FnOnce() -> String) {
 /// The note, and the note with each damage that needs no byte.
 fn check_and_damage(tally: &mut Tally, note: &Note) {
     check_note(tally, note, || "whole".into());
-    for (name, damage) in DAMAGES {
-        let mut damaged = note.clone();
-        damage(&mut damaged);
+    for (name, damaged) in samples::damaged(note) {
         check_note(tally, &damaged, || name.into());
     }
 }
 
 fn check_damage_at(tally: &mut Tally, note: &Note, offset: usize) {
-    for (name, damage) in DAMAGES_AT {
-        let mut damaged = note.clone();
-        damage(&mut damaged, offset);
+    for (name, damaged) in samples::damaged_at(note, offset) {
         check_note(tally, &damaged, || format!("{name} at {offset}"));
     }
 }
@@ -191,7 +185,7 @@ fn every_column(tally: &mut Tally) {
 
 fn every_size(tally: &mut Tally) {
     tally.family("texts of up to 2 bytes, well-formed or not, columns of every length to 3, shifts to the limit");
-    let texts: Vec<Vec<u8>> = (0..=2).flat_map(|len| every::list(b"a\xC3\xA9\xFF", len)).collect();
+    let texts = every::texts(b"a\xC3\xA9\xFF", 2);
     for original in &texts {
         for normalized in &texts {
             for (starts, ends) in every::pair(3) {
@@ -208,7 +202,7 @@ fn every_size(tally: &mut Tally) {
     }
 }
 
-/// A fault of each rank and kind; document 01's order decides among those of one note.
+/// A fault of each rank and kind; the order of docs/RULES.md decides among those of one note.
 pub const FAULTS: [fn(&mut Note); 9] = [
     |note| note.original.resize(LIMIT + 1, b'o'),
     |note| note.normalized.resize(LIMIT + 1, b'n'),
@@ -221,15 +215,18 @@ pub const FAULTS: [fn(&mut Note); 9] = [
     |note| note.ends[0] = 2,
 ];
 
-/// `aéb` with every set of these faults, a bit for each.
+/// `aéb` with a set of these faults, a bit for each.
+pub fn with(set: u32) -> Note {
+    let mut note = Note::from(&NormalizedString::from("aéb"));
+    for (_, fault) in FAULTS.iter().enumerate().filter(|(i, _)| set >> i & 1 == 1) {
+        fault(&mut note);
+    }
+    note
+}
+
+/// `aéb` with every set of these faults.
 pub fn with_faults() -> impl Iterator<Item = (u32, Note)> {
-    (0..1_u32 << FAULTS.len()).map(|set| {
-        let mut note = Note::from(&NormalizedString::from("aéb"));
-        for (_, fault) in FAULTS.iter().enumerate().filter(|(i, _)| set >> i & 1 == 1) {
-            fault(&mut note);
-        }
-        (set, note)
-    })
+    (0..1_u32 << FAULTS.len()).map(|set| (set, with(set)))
 }
 
 fn every_set_of_faults(tally: &mut Tally) {
@@ -244,15 +241,8 @@ fn sizes_around_the_limit(tally: &mut Tally) {
     const LAST: u16 = u16::MAX - 1;
     for (original, normalized) in every::pair(3) {
         let (original, normalized) = (LIMIT - 1 + original, LIMIT - 1 + normalized);
-        for (start, end) in [(0, 0), (9, LAST), (LAST, LAST), (9, u16::MAX)] {
-            let note = Note {
-                original: vec![b'o'; original],
-                normalized: vec![b'n'; normalized],
-                starts: vec![start; normalized],
-                ends: vec![end; normalized],
-                original_shift: 0,
-            };
-            check_and_damage(tally, &note);
+        for alignment in [(0, 0), (9, LAST), (LAST, LAST), (9, u16::MAX)] {
+            check_and_damage(tally, &samples::uniform(original, normalized, alignment));
         }
     }
 }
@@ -299,7 +289,7 @@ fn damage_at_the_end(tally: &mut Tally) {
     }
 }
 
-/// Document 01 calls every edited note sound; only sizes may pass the limit. This tries the second check itself.
+/// Every edited note is sound, and only sizes may pass the limit. This tries the second check itself.
 fn notes_of_the_original(tally: &mut Tally) {
     tally.family("notes that the Rust original edited are sound");
     let mut random = Random::new(7);
@@ -308,7 +298,7 @@ fn notes_of_the_original(tally: &mut Tally) {
         let note = Note::from(&samples::edited(len, &mut random));
         let ours = library::check_note(&note);
         let second = note.refusal();
-        let differs = ours != second || ![0, 2].contains(&second);
+        let differs = ours != second || ![0, TOO_LONG].contains(&second);
         tally.case(tally::refusal(ours), differs, || format!("ours {ours}, second check {second}: {note}"));
     }
 }
@@ -337,7 +327,7 @@ fn long_notes(tally: &mut Tally) {
     tally.family("notes of any make up to the limit, damaged anywhere");
     let mut random = Random::new(9);
     for turn in 0..120 {
-        let len = if turn % 2 == 0 { LIMIT } else { 300 + random.below(LIMIT - 300) };
+        let len = samples::long_len(turn, 2, &mut random);
         let note = Note::from(&samples::any(len, &mut random));
         check_and_damage(tally, &note);
         if !note.normalized.is_empty() {
@@ -350,39 +340,9 @@ fn long_notes(tally: &mut Tally) {
 
 fn nothing_anywhere(tally: &mut Tally) {
     tally.family("nothing lent, at any pointer");
-    for address in [0_usize, 2, 8, usize::MAX - 1] {
+    for address in ADDRESSES {
         let (text, column) = (address as *const u8, address as *const u16);
         let ours = unsafe { library::zulmyren_check_note(text, 0, text, 0, column, 0, column, 0, 0) };
         tally.case(tally::refusal(ours), ours != 0, || format!("ours {ours} on nothing at {address:#x}"));
     }
-}
-
-pub fn bench() {
-    bench::title("check_note of the starting note beside NormalizedString::from (to be at most 0.20)");
-    for (name, text) in bench::texts() {
-        let note = Note::from(&NormalizedString::from(text.as_str()));
-        bench::row(name, || timed(|| library::check_note(black_box(&note))), || time_of_from(&text));
-    }
-    bench::title("check_note of a note edited every 45 bytes, which is the general way, beside NormalizedString::from");
-    for (name, text, _) in bench_texts() {
-        let mut edited = NormalizedString::from(text.as_str());
-        edited.replace(LITERAL, FILLER).expect("a literal is a regular expression");
-        let note = Note::from(&edited);
-        assert_eq!(note.refusal(), 0);
-        bench::row(name, || timed(|| library::check_note(black_box(&note))), || time_of_from(&text));
-    }
-    bench::title("from_text beside NormalizedString::from");
-    for (name, text) in bench::texts() {
-        let (mut starts, mut ends) = (vec![0; text.len()], vec![0; text.len()]);
-        bench::row(
-            name,
-            || timed(|| library::from_text(black_box(text.as_bytes()), black_box(&mut starts), black_box(&mut ends))),
-            || time_of_from(&text),
-        );
-    }
-}
-
-fn time_of_from(text: &str) -> std::time::Duration {
-    let owned = text.to_owned();
-    timed(|| NormalizedString::from(black_box(owned)))
 }

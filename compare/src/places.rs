@@ -1,4 +1,4 @@
-//! Place lists: their bytes, a second judge of them written from document 01, and lists to compare on.
+//! Place lists: their bytes, a second judge of them written from docs/RULES.md, and lists to compare on.
 
 use crate::random::Random;
 use crate::texts;

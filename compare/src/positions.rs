@@ -1,13 +1,13 @@
 //! Character positions: pairs of bytes as pairs of characters, beside the Rust original's map of a text.
 
-use crate::bench::{self, timed};
 use crate::every;
-use crate::library::{self, Columns, Offsets};
+use crate::library::{self, Offsets};
 use crate::lists::{self, List};
 use crate::random::Random;
+use crate::refusals::{ILL_FORMED, TOO_LONG};
+use crate::samples::{self, ADDRESSES};
 use crate::tally::{self, hex, Report, Tally};
 use crate::texts::{self, KINDS, LIMIT, OFFSETS, UNITS};
-use std::hint::black_box;
 use std::str::from_utf8;
 use tokenizers::pre_tokenizer::Converter;
 
@@ -32,7 +32,7 @@ pub fn compare(report: &mut Report) {
     });
 }
 
-/// A text, and the Rust original's map of it, or the refusal that document 01 gives it.
+/// A text, and the Rust original's map of it, or the refusal that docs/RULES.md gives it.
 pub struct Sample {
     pub text: Vec<u8>,
     theirs: Result<Converter, u32>,
@@ -41,9 +41,9 @@ pub struct Sample {
 impl From<Vec<u8>> for Sample {
     fn from(text: Vec<u8>) -> Self {
         let theirs = match from_utf8(&text) {
-            _ if text.len() > LIMIT => Err(2),
+            _ if text.len() > LIMIT => Err(TOO_LONG),
             Ok(text) => Ok(Converter::new(text)),
-            Err(_) => Err(1),
+            Err(_) => Err(ILL_FORMED),
         };
         Sample { text, theirs }
     }
@@ -148,23 +148,12 @@ fn texts_around_the_limit(tally: &mut Tally) {
     }
 }
 
-/// Any text up to a length, and the same with one byte damaged.
-fn whole_and_damaged(longest: usize, random: &mut Random) -> [Sample; 2] {
-    let len = random.below(longest + 1);
-    let text = texts::text(*random.choose(&KINDS), len, random).into_bytes();
-    let mut damaged = text.clone();
-    if len > 0 {
-        damaged[random.below(len)] = random.byte();
-    }
-    [text, damaged].map(Sample::from)
-}
-
 fn any_texts(tally: &mut Tally) {
     tally.family("any pairs of texts of any length, whole and with one byte damaged");
     let mut random = Random::new(21);
     for turn in 0..2_000 {
         let longest = if turn % 10 == 0 { LIMIT } else { 300 };
-        for sample in whole_and_damaged(longest, &mut random) {
+        for sample in samples::whole_and_damaged(longest, &mut random).map(Sample::from) {
             for _ in 0..60 {
                 char_offsets(tally, &sample, sample.any_pair(&mut random));
             }
@@ -175,7 +164,7 @@ fn any_texts(tally: &mut Tally) {
 fn empty_text_anywhere(tally: &mut Tally) {
     tally.family("the empty text at any pointer");
     let empty = Sample::from(vec![]);
-    for address in [0_usize, 1, 8, usize::MAX] {
+    for address in ADDRESSES {
         for (start, end) in pairs_to(3) {
             let ours = unsafe { library::zulmyren_char_offsets(address as *const u8, 0, start, end) };
             let theirs = empty.expected(start, end);
@@ -219,14 +208,15 @@ fn lists_of_four_characters(tally: &mut Tally) {
     }
 }
 
-fn shuffle<T>(list: &mut [T], random: &mut Random) {
+pub fn shuffle<T>(list: &mut [T], random: &mut Random) {
     for i in 1..list.len() {
         list.swap(i, random.below(i + 1));
     }
 }
 
 fn lists_in_every_room(tally: &mut Tally) {
-    tally.family("texts whole, torn, overlong and both, lists of every two lengths to 3 in every three rooms to 4");
+    tally
+        .family("texts well-formed or not, too long or not, lists of every two lengths to 3 in every three rooms to 4");
     let long = |character: &str| texts::repeated(character, LIMIT + 1).into_bytes();
     let texts: [Vec<u8>; 6] =
         [vec![], "aéb".into(), b"a\xC3".into(), long("a"), long("漢"), [long("a"), b"\xFF".into()].concat()];
@@ -242,7 +232,7 @@ fn lists_of_any_texts(tally: &mut Tally) {
     let mut random = Random::new(23);
     for turn in 0..3_000 {
         let longest = if turn % 20 == 0 { LIMIT } else { 300 };
-        for sample in whole_and_damaged(longest, &mut random) {
+        for sample in samples::whole_and_damaged(longest, &mut random).map(Sample::from) {
             any_lists(tally, &sample, 60, &mut random);
         }
     }
@@ -274,7 +264,7 @@ fn long_lists(tally: &mut Tally) {
 
 fn no_list_anywhere(tally: &mut Tally) {
     tally.family("no list, at any pointer");
-    for address in [0_usize, 4, 8, usize::MAX - 3] {
+    for address in ADDRESSES {
         let (list, numbers, column) = (address as *const u32, address as *mut u8, address as *mut u32);
         for text in ["", "aéb"] {
             let ours = unsafe {
@@ -284,42 +274,4 @@ fn no_list_anywhere(tally: &mut Tally) {
             tally.case(tally::refusal(ours), ours != 0, || format!("ours {ours} on no list at {address:#x}"));
         }
     }
-}
-
-pub fn bench() {
-    bench::title(
-        "char_offsets_all, 8000 pairs in order, beside the map built and asked 8000 times (to be at most 0.020)",
-    );
-    for (name, text) in bench::texts() {
-        row(name, &text, bench::ranges(&text));
-    }
-    bench::title("the same in random order, where ours is no longer one pass");
-    let [_, (name, text), _] = bench::texts();
-    let mut pairs = bench::ranges(&text);
-    shuffle(&mut pairs, &mut Random::new(61));
-    row(name, &text, pairs);
-}
-
-fn row(name: &str, text: &str, pairs: Vec<std::ops::Range<usize>>) {
-    let list = List::of(&pairs.iter().map(|pair| (pair.start as u32, pair.end as u32)).collect::<Vec<_>>());
-    let mut numbers = vec![0; pairs.len()];
-    let (mut starts, mut ends) = (vec![0; pairs.len()], vec![0; pairs.len()]);
-    let mut answers = vec![None; pairs.len()];
-    bench::row(
-        name,
-        || {
-            let out = Columns { numbers: &mut numbers, starts: &mut starts, ends: &mut ends };
-            let (from, to) = (black_box(&list.from), black_box(&list.to));
-            timed(|| library::char_offsets_all(black_box(text.as_bytes()), from, to, out))
-        },
-        || {
-            timed(|| {
-                let map = Converter::new(black_box(text));
-                for (pair, answer) in black_box(&pairs).iter().zip(&mut answers) {
-                    *answer = map.convert((pair.start, pair.end));
-                }
-                map
-            })
-        },
-    );
 }

@@ -1,20 +1,19 @@
 //! Replacing beside `NormalizedString::replace`, on lists from outside, and refusals beside a second judge.
 
-use crate::bench::{self, timed};
-use crate::blanking;
 use crate::characters::sequences;
 use crate::every;
 use crate::lent::Lent;
-use crate::library::{self, Count};
+use crate::library::{self, Count, Publishing};
 use crate::note::Note;
-use crate::notes::FAULTS;
-use crate::places::{self, Given, Handed, Place};
+use crate::notes;
+use crate::places::{self, Given, Place};
 use crate::random::Random;
-use crate::samples::{self, DAMAGES, DAMAGES_AT};
+use crate::refusals::{BAD_MATCHES, ILL_FORMED, LENGTH_MISMATCH, MISALIGNED, NO_ROOM, TOO_LONG};
+use crate::samples::{self, sound_notes, ADDRESSES, FILLERS};
 use crate::tally::{self, hex, Report, Tally};
 use crate::texts::{self, Kind, LIMIT};
-use std::hint::black_box;
 use std::str::from_utf8;
+use tokenizers::pattern::Pattern;
 use tokenizers::NormalizedString;
 
 pub fn compare(report: &mut Report) {
@@ -27,48 +26,44 @@ pub fn compare(report: &mut Report) {
         results_around_the_limit(tally);
         fillers_and_lists_past_the_limit(tally);
         damaged_lists(tally);
-        torn_fillers(tally);
+        ill_formed_fillers(tally);
         every_set_of_faults(tally);
         damaged_notes(tally);
         nothing_anywhere(tally);
     });
-    report.call("two calls of zulmyren_replace, zulmyren_published_alike", "document 01's claim about them", |tally| {
-        blanking::every_two_notes(tally);
-        blanking::any_two_notes(tally);
-    });
-    report.call("zulmyren_published_alike", "two calls of NormalizedString::replace", blanking::refused_notes);
 }
 
-pub const FILLERS: [&str; 5] = ["", "x", "é", "**", "日x"];
-
-/// The note that the Rust original makes, or the refusal that document 01 gives in any room.
+/// The note that the Rust original makes, or the refusal that docs/RULES.md gives in any room.
 pub fn expected(note: &Note, list: &[u8], filler: &[u8]) -> Result<Note, u32> {
     let refusal = note.refusal();
-    if [2, 3, 1].contains(&refusal) {
+    if [TOO_LONG, LENGTH_MISMATCH, ILL_FORMED].contains(&refusal) {
         return Err(refusal);
     }
-    let filler = from_utf8(filler).map_err(|_| 1_u32)?;
-    if refusal == 4 {
-        return Err(4);
+    let filler = from_utf8(filler).map_err(|_| ILL_FORMED)?;
+    if refusal == MISALIGNED {
+        return Err(MISALIGNED);
     }
-    let mut theirs = of_the_original(note);
-    let places = places::read(list).filter(|places| places::cover(theirs.get(), places)).ok_or(8_u32)?;
-    // The original has no limit: far past it, it would make gigabytes.
-    if places::size(&places, filler.len()) > 4 * LIMIT as u64 {
-        return Err(9);
-    }
-    theirs.replace(Given(places), filler).expect("the places are given");
-    if theirs.len() > LIMIT {
-        return Err(9);
-    }
-    Ok(Note::from(&theirs))
+    let theirs = note.of_the_original();
+    let places = places::read(list).filter(|places| places::cover(theirs.get(), places)).ok_or(BAD_MATCHES)?;
+    published(theirs, Given(places.clone()), filler, &places)
 }
 
-/// A note of two well-formed texts.
-pub fn of_the_original(note: &Note) -> NormalizedString {
-    let text = |bytes: &[u8]| from_utf8(bytes).expect("a checked text").to_owned();
-    let alignments = note.starts.iter().zip(&note.ends).map(|(&start, &end)| (start.into(), end.into())).collect();
-    NormalizedString::of_fields(text(&note.original), text(&note.normalized), alignments, note.original_shift as usize)
+/// What the original makes of a note and a pattern that finds these places, or `NO_ROOM` where it is past the limit.
+/// The original has no limit: far past ours, it would make gigabytes.
+pub fn published(
+    mut note: NormalizedString,
+    pattern: impl Pattern,
+    filler: &str,
+    places: &[Place],
+) -> Result<Note, u32> {
+    if places::size(places, filler.len()) > 4 * LIMIT as u64 {
+        return Err(NO_ROOM);
+    }
+    note.replace(pattern, filler).expect("a list or a literal is found");
+    if note.len() > LIMIT {
+        return Err(NO_ROOM);
+    }
+    Ok(Note::from(&note))
 }
 
 /// The lengths of the three lent buffers.
@@ -110,15 +105,16 @@ fn replace(
     let published = expected(note, list, filler);
     let len = match &published {
         Ok(published) => published.normalized.len(),
-        Err(9) => LIMIT + 9,
+        Err(NO_ROOM) => LIMIT + 9,
         Err(_) => note.normalized.len().min(300),
     };
     for room in rooms(len) {
         let (mut out, mut starts, mut ends) = (Lent::new(room[0]), Lent::new(room[1]), Lent::new(room[2]));
-        let ours = library::replace(note, list, filler, out.part(), starts.part(), ends.part());
+        let lent = Publishing { text: out.part(), starts: starts.part(), ends: ends.part() };
+        let ours = library::replace(note, list, filler, lent);
         let (refusal, text, their_starts, their_ends): (u32, &[u8], &[u16], &[u16]) = match &published {
             Err(refusal) => (*refusal, &[], &[], &[]),
-            Ok(_) if room.iter().any(|&room| room < len) => (9, &[], &[], &[]),
+            Ok(_) if room.iter().any(|&room| room < len) => (NO_ROOM, &[], &[], &[]),
             Ok(published) => (0, &published.normalized, &published.starts, &published.ends),
         };
         let theirs = Count { refusal, count: text.len() as u32 };
@@ -140,9 +136,9 @@ fn plainly(tally: &mut Tally, note: &Note, places: &[Place], filler: &str, rooms
 /// Text, places, filler; the result's text and alignments.
 type Worked<'a> = (&'a str, &'a [Place], &'a str, &'a str, &'a [(u16, u16)]);
 
-/// The answers are document 01's own, and both sides give them.
+/// The answers are written down here, and both sides give them.
 fn worked_notes(tally: &mut Tally) {
-    tally.family("document 01's worked notes");
+    tally.family("worked notes");
     let stars = [(0, 1), (1, 2), (2, 3), (3, 4), (4, 5), (6, 7), (6, 7)];
     let digits: &[Place] = &[((0, 5), false), ((5, 7), true)];
     let before: &[Place] = &[((0, 0), true), ((0, 2), false)];
@@ -155,33 +151,9 @@ fn worked_notes(tally: &mut Tally) {
         let note = Note::from(&NormalizedString::from(text));
         plainly(tally, &note, places, filler, rooms);
         let theirs = expected(&note, &places::bytes(places), filler.as_bytes()).expect("a worked note is accepted");
-        let columns: Vec<(u16, u16)> = theirs.starts.iter().copied().zip(theirs.ends.iter().copied()).collect();
-        let differs = theirs.normalized != result.as_bytes() || columns != alignments;
-        tally.case("accepted", differs, || format!("document 01 {result} at {alignments:?}, theirs {theirs}"));
+        let differs = theirs.normalized != result.as_bytes() || !theirs.alignments().eq(alignments.iter().copied());
+        tally.case("accepted", differs, || format!("wanted {result} at {alignments:?}, theirs {theirs}"));
     }
-}
-
-/// Every sound note of the two texts.
-pub fn sound_notes(original: &str, normalized: &str) -> Vec<Note> {
-    let boundaries: Vec<u16> = (0..=original.len() as u16).filter(|&at| original.is_char_boundary(at.into())).collect();
-    let mut columns: Vec<Vec<(u16, u16)>> = vec![vec![]];
-    for character in normalized.chars() {
-        let mut longer = vec![];
-        for alignments in &columns {
-            let &(least_start, least_end) = alignments.last().unwrap_or(&(0, 0));
-            for &start in boundaries.iter().filter(|&&start| start >= least_start) {
-                for &end in boundaries.iter().filter(|&&end| end >= least_end.max(start)) {
-                    longer.push([&alignments[..], &vec![(start, end); character.len_utf8()]].concat());
-                }
-            }
-        }
-        columns = longer;
-    }
-    let note = |alignments: Vec<(u16, u16)>| {
-        let (starts, ends) = alignments.into_iter().unzip();
-        Note { original: original.into(), normalized: normalized.into(), starts, ends, original_shift: 0 }
-    };
-    columns.into_iter().map(note).collect()
 }
 
 fn every_list(tally: &mut Tally) {
@@ -234,7 +206,7 @@ fn long_lists(tally: &mut Tally) {
     tally.family("notes of any make up to the limit, any list to 65536 places, in 9 rooms");
     let mut random = Random::new(42);
     for turn in 0..240 {
-        let len = if turn % 3 == 0 { LIMIT } else { 300 + random.below(LIMIT - 300) };
+        let len = samples::long_len(turn, 3, &mut random);
         let note = samples::any(len, &mut random);
         let most = [100, 3_000, LIMIT + 1][turn % 3];
         let cuts = random.below(most);
@@ -287,8 +259,8 @@ fn fillers_and_lists_past_the_limit(tally: &mut Tally) {
             plainly(tally, &nothing, &[], &filler, rooms);
             plainly(tally, &nothing, &[((0, 0), false)], &filler, rooms);
             plainly(tally, &nothing, &[((0, 0), true)], &filler, rooms);
-            let torn = [filler.as_bytes(), &[0xC3]].concat();
-            replace(tally, (&note, &places::bytes(&[((0, 4), false)]), &torn), ample, || "torn filler".into());
+            let damaged = [filler.as_bytes(), &[0xC3]].concat();
+            replace(tally, (&note, &places::bytes(&[((0, 4), false)]), &damaged), ample, || "ill-formed filler".into());
         }
     }
     for (places, filler) in [(65_536, 65_536), (65_536, 65_537), (32_768, 131_072), (200_000, 0), (200_000, 1)] {
@@ -357,15 +329,7 @@ fn damaged_lists(tally: &mut Tally) {
     }
 }
 
-/// A sound note, an uneven one and a stray one.
-fn sound_uneven_stray() -> [Note; 3] {
-    let [sound, mut uneven, mut stray] = [(); 3].map(|()| Note::from(&NormalizedString::from("aéb")));
-    uneven.starts.push(4);
-    stray.starts[0] = 3;
-    [sound, uneven, stray]
-}
-
-fn torn_fillers(tally: &mut Tally) {
+fn ill_formed_fillers(tally: &mut Tally) {
     tally.family(
         "fillers with a character, or a wrong or cut one, anywhere, beside notes and lists that are whole or not",
     );
@@ -375,7 +339,8 @@ fn torn_fillers(tally: &mut Tally) {
         &places::bytes(&[((0, 3), true)]),
         &[12],
     ];
-    for note in sound_uneven_stray() {
+    // A sound note, one with a start too many, and one whose alignments are not sound.
+    for note in [0, 1 << 3, 1 << 7].map(notes::with) {
         for list in lists {
             for sequence in sequences() {
                 for (before, behind) in [(0, 0), (1, 1), (63, 70), (126, 0), (128, 131)] {
@@ -388,14 +353,9 @@ fn torn_fillers(tally: &mut Tally) {
 }
 
 fn every_set_of_faults(tally: &mut Tally) {
-    tally.family("every set of faults out of nine of the note, a torn filler, a broken list and each short room");
-    let sound = Note::from(&NormalizedString::from("aéb"));
+    tally.family("every set of faults out of nine of the note, an ill-formed filler, a bad list and each short room");
     let whole = places::bytes(&[((0, 1), false), ((1, 3), true), ((3, 4), false)]);
-    for set in 0..1_u32 << FAULTS.len() {
-        let mut note = sound.clone();
-        for (_, fault) in FAULTS.iter().enumerate().filter(|(i, _)| set >> i & 1 == 1) {
-            fault(&mut note);
-        }
+    for (set, note) in notes::with_faults() {
         for filler in [&b"**"[..], b"*\xFF"] {
             for list in [&whole[..], &whole[1..]] {
                 let in_every_room = |_| every::list(&[3, 4], 3).map(|r| [r[0], r[1], r[2]]).collect();
@@ -419,9 +379,7 @@ fn damaged_notes(tally: &mut Tally) {
             replace(tally, (note, &list[1..], b"x"), ample, || made.into());
             replace(tally, (note, &list, b"\xC3"), ample, || made.into());
         };
-        for (name, damage) in DAMAGES {
-            let mut damaged = note.clone();
-            damage(&mut damaged);
+        for (name, damaged) in samples::damaged(&note) {
             beside(&damaged, name);
         }
         let offsets: Vec<usize> = match note.normalized.len() {
@@ -429,19 +387,15 @@ fn damaged_notes(tally: &mut Tally) {
             bytes @ 1..=10 => (0..bytes).collect(),
             bytes => vec![0, random.below(bytes), random.below(bytes), bytes - 1],
         };
-        for (name, damage) in DAMAGES_AT {
-            for &offset in &offsets {
-                let mut damaged = note.clone();
-                damage(&mut damaged, offset);
-                beside(&damaged, name);
-            }
+        for (name, damaged) in offsets.into_iter().flat_map(|offset| samples::damaged_at(&note, offset)) {
+            beside(&damaged, name);
         }
     }
 }
 
 fn nothing_anywhere(tally: &mut Tally) {
     tally.family("nothing lent, at any pointer");
-    for address in [0_usize, 2, 8, usize::MAX - 1] {
+    for address in ADDRESSES {
         let (text, column) = (address as *const u8, address as *const u16);
         let (out, written) = (address as *mut u8, address as *mut u16);
         let ours = unsafe {
@@ -452,138 +406,4 @@ fn nothing_anywhere(tally: &mut Tally) {
         let accepted = Count { refusal: 0, count: 0 };
         tally.case(tally::refusal(ours.refusal), ours != accepted, || format!("ours {ours:?} at {address:#x}"));
     }
-}
-
-pub const LITERAL: &str = "Nest 12";
-pub const FILLER: &str = "*****";
-
-/// The bench's texts with `LITERAL` every 45 bytes, and their places.
-pub fn bench_texts() -> Vec<(&'static str, String, Vec<Place>)> {
-    let of = |(name, text): (&'static str, String)| {
-        let mut marked = String::with_capacity(text.len());
-        let mut places = vec![];
-        while text.len() - marked.len() >= 45 {
-            let start = marked.len();
-            let end = texts::boundary_before(&text, start + 45 - LITERAL.len());
-            let begin = (start..=end).find(|&at| text.is_char_boundary(at)).expect("`end` is a boundary");
-            marked.push_str(&text[begin..end]);
-            marked.push_str(&"-".repeat(start + 45 - LITERAL.len() - marked.len()));
-            places.extend([((start, marked.len()), false), ((marked.len(), start + 45), true)]);
-            marked.push_str(LITERAL);
-        }
-        assert_eq!(marked.matches(LITERAL).count(), marked.len() / 45);
-        (name, marked, places)
-    };
-    bench::texts().map(of).into()
-}
-
-/// Lent buffers for results of up to `len` bytes.
-pub struct Buffers {
-    out: Vec<u8>,
-    starts: Vec<u16>,
-    ends: Vec<u16>,
-}
-
-impl Buffers {
-    pub fn new(len: usize) -> Self {
-        Buffers { out: vec![0; len], starts: vec![0; len], ends: vec![0; len] }
-    }
-
-    pub fn replace(&mut self, note: &Note, list: &[u8]) -> Count {
-        let (note, list, filler) = (black_box(note), black_box(list), black_box(FILLER.as_bytes()));
-        library::replace(note, list, filler, &mut self.out, &mut self.starts, &mut self.ends)
-    }
-
-    /// As many bytes and numbers as a result has.
-    fn copy(&mut self, result: &Note) {
-        let len = result.normalized.len();
-        self.out[..len].copy_from_slice(&result.normalized);
-        self.starts[..len].copy_from_slice(&result.starts);
-        self.ends[..len].copy_from_slice(&result.ends);
-    }
-}
-
-/// glibc's `mallopt`.
-mod heap {
-    extern "C" {
-        fn mallopt(parameter: i32, value: i32) -> i32;
-    }
-
-    /// From here on what is freed stays with the process, up to 32 MiB.
-    pub fn keep_what_is_freed() {
-        let (trim_threshold, mmap_threshold) = (-1, -3);
-        let kept = unsafe { [mallopt(trim_threshold, i32::MAX), mallopt(mmap_threshold, 32 << 20)] };
-        assert_eq!(kept, [1, 1], "mallopt takes both");
-    }
-}
-
-pub fn bench() {
-    // The original's alignments are 960 KB before and after, more than glibc keeps by default: each run takes fresh pages
-    // from the system, at more than half of its time. With a heap that keeps them, both sides work in warm memory.
-    bench::title(
-        "from_text and replace of a list, a match every 45 bytes, beside from and replace; theirs in fresh pages",
-    );
-    from_text_and_replace();
-    heap::keep_what_is_freed();
-    bench::title("the same, all in warm memory, as are the next ones");
-    from_text_and_replace();
-    replace_alone();
-}
-
-fn from_text_and_replace() {
-    for (name, text, places) in &bench_texts() {
-        let list = places::bytes(places);
-        let mut note = Note::from(&NormalizedString::from(text.as_str()));
-        let mut buffers = Buffers::new(text.len());
-        let ours = || {
-            timed(|| {
-                let fresh = library::from_text(black_box(text.as_bytes()), &mut note.starts, &mut note.ends);
-                (fresh, buffers.replace(&note, &list))
-            })
-        };
-        bench::row(name, ours, || time_of_from_and_replace(text, Handed::new(places)));
-    }
-}
-
-fn replace_alone() {
-    let texts = bench_texts();
-    bench::title("replace of a list on a ready note, which it checks, beside replace, which does not");
-    for (name, text, places) in &texts {
-        let list = places::bytes(places);
-        let ready = NormalizedString::from(text.as_str());
-        let note = Note::from(&ready);
-        let mut buffers = Buffers::new(text.len());
-        bench::row(
-            name,
-            || timed(|| buffers.replace(&note, &list)),
-            || {
-                let (mut theirs, places) = (ready.clone(), Handed::new(places));
-                timed(|| {
-                    theirs.replace(places, black_box(FILLER)).expect("the places are given");
-                    theirs
-                })
-            },
-        );
-    }
-    bench::title("the same beside copying the result's bytes and columns");
-    for (name, text, places) in &texts {
-        let list = places::bytes(places);
-        let note = Note::from(&NormalizedString::from(text.as_str()));
-        let result = expected(&note, &list, FILLER.as_bytes()).expect("the bench's lists are accepted");
-        let (mut buffers, mut copies) = (Buffers::new(text.len()), Buffers::new(text.len()));
-        bench::row(
-            name,
-            || timed(|| buffers.replace(&note, &list)),
-            || timed(|| black_box(&mut copies).copy(black_box(&result))),
-        );
-    }
-}
-
-pub fn time_of_from_and_replace(text: &str, pattern: impl tokenizers::pattern::Pattern) -> std::time::Duration {
-    let owned = text.to_owned();
-    timed(|| {
-        let mut note = NormalizedString::from(black_box(owned));
-        note.replace(pattern, black_box(FILLER)).expect("a literal is a regular expression");
-        note
-    })
 }

@@ -1,4 +1,4 @@
-//! Notes to compare on, and ways to damage one.
+//! What several comparisons take: notes, texts and fillers to compare on, and ways to damage a note.
 
 use crate::note::Note;
 use crate::random::Random;
@@ -6,6 +6,75 @@ use crate::texts::{self, KINDS, LIMIT};
 use std::iter::repeat_n;
 use tokenizers::normalizer::Range;
 use tokenizers::NormalizedString;
+
+pub const FILLERS: [&str; 5] = ["", "x", "é", "**", "日x"];
+
+/// Nothing may be read or written at any of these: they are lent with length 0.
+pub const ADDRESSES: [usize; 4] = [0, 4, 8, usize::MAX - 3];
+
+/// A text up to the limit, mostly a short one, and up to 5 characters out of it.
+pub fn text_and_literal(turn: usize, random: &mut Random) -> (String, String) {
+    let len = 1 + random.below(if turn.is_multiple_of(20) { LIMIT } else { 400 });
+    let text = texts::text(*random.choose(&KINDS), len, random);
+    let at = texts::any_boundary(&text, random);
+    let literal = text[at..].chars().take(random.below(6)).collect();
+    (text, literal)
+}
+
+/// Any text up to a length, and the same with one byte damaged.
+pub fn whole_and_damaged(longest: usize, random: &mut Random) -> [Vec<u8>; 2] {
+    let len = random.below(longest + 1);
+    let text = texts::text(*random.choose(&KINDS), len, random).into_bytes();
+    let mut damaged = text.clone();
+    if len > 0 {
+        damaged[random.below(len)] = random.byte();
+    }
+    [text, damaged]
+}
+
+/// A length past the short ones: every so often the limit itself.
+pub fn long_len(turn: usize, every: usize, random: &mut Random) -> usize {
+    if turn.is_multiple_of(every) {
+        LIMIT
+    } else {
+        300 + random.below(LIMIT - 300)
+    }
+}
+
+/// Texts of so many equal letters, and one alignment for all.
+pub fn uniform(original: usize, normalized: usize, (start, end): (u16, u16)) -> Note {
+    Note {
+        original: vec![b'o'; original],
+        normalized: vec![b'n'; normalized],
+        starts: vec![start; normalized],
+        ends: vec![end; normalized],
+        original_shift: 0,
+    }
+}
+
+/// Every sound note of the two texts without a shift: boundaries in order, neither starts nor ends going back, one pair
+/// a character.
+pub fn sound_notes(original: &str, normalized: &str) -> Vec<Note> {
+    let boundaries: Vec<u16> = (0..=original.len() as u16).filter(|&at| original.is_char_boundary(at.into())).collect();
+    let mut columns: Vec<Vec<(u16, u16)>> = vec![vec![]];
+    for character in normalized.chars() {
+        let mut longer = vec![];
+        for alignments in &columns {
+            let &(least_start, least_end) = alignments.last().unwrap_or(&(0, 0));
+            for &start in boundaries.iter().filter(|&&start| start >= least_start) {
+                for &end in boundaries.iter().filter(|&&end| end >= least_end.max(start)) {
+                    longer.push([&alignments[..], &vec![(start, end); character.len_utf8()]].concat());
+                }
+            }
+        }
+        columns = longer;
+    }
+    let note = |alignments: Vec<(u16, u16)>| {
+        let (starts, ends) = alignments.into_iter().unzip();
+        Note { original: original.into(), normalized: normalized.into(), starts, ends, original_shift: 0 }
+    };
+    columns.into_iter().map(note).collect()
+}
 
 /// A note that the Rust original edited, on an original text of `len` bytes.
 pub fn edited(len: usize, random: &mut Random) -> NormalizedString {
@@ -101,6 +170,24 @@ pub fn any(len: usize, random: &mut Random) -> NormalizedString {
 
 /// A change at one normalized byte, by name. Some leave the note sound.
 pub type DamageAt = (&'static str, fn(&mut Note, usize));
+
+/// The note with each damage that needs no byte, by name.
+pub fn damaged(note: &Note) -> impl Iterator<Item = (&'static str, Note)> + '_ {
+    DAMAGES.into_iter().map(|(name, damage)| {
+        let mut damaged = note.clone();
+        damage(&mut damaged);
+        (name, damaged)
+    })
+}
+
+/// The note with each damage at a byte, by name.
+pub fn damaged_at(note: &Note, offset: usize) -> impl Iterator<Item = (&'static str, Note)> + '_ {
+    DAMAGES_AT.into_iter().map(move |(name, damage)| {
+        let mut damaged = note.clone();
+        damage(&mut damaged, offset);
+        (name, damaged)
+    })
+}
 
 pub const DAMAGES_AT: [DamageAt; 24] = [
     ("start + 1", |note, i| add(&mut note.starts[i..=i], 1)),

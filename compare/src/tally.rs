@@ -1,29 +1,14 @@
 //! What a comparison found: for each call a block with its families of cases, what differed in them, and how often each
 //! answer was given. A family counts as one test.
 
+use crate::refusals;
 use std::process::ExitCode;
 
 /// Differences that a family prints; it counts them all.
 const PRINTED: usize = 5;
 
-/// Document 01's refusal table: number and word. 0 stands for acceptance.
-const REFUSALS: [&str; 12] = [
-    "accepted",
-    "1 torn",
-    "2 overlong",
-    "3 uneven",
-    "4 stray",
-    "5 off place",
-    "6 bad script",
-    "7 nothing left",
-    "8 broken list",
-    "9 no room",
-    "10 nothing there",
-    "11 miscounted",
-];
-
 pub fn refusal(number: u32) -> &'static str {
-    REFUSALS.get(number as usize).copied().unwrap_or("no refusal of the table")
+    refusals::NAMES.get(number as usize).copied().unwrap_or("no refusal")
 }
 
 #[derive(Default)]
@@ -41,6 +26,15 @@ impl Report {
         tally.print_answers();
         self.passed += tally.passed;
         self.failed += tally.failed;
+    }
+
+    /// A test that is no family.
+    pub fn test(&mut self, passed: bool) {
+        if passed {
+            self.passed += 1;
+        } else {
+            self.failed += 1;
+        }
     }
 
     pub fn finish(self) -> ExitCode {
@@ -90,7 +84,7 @@ impl Tally {
     }
 
     fn print_answers(&mut self) {
-        self.answers.sort_by_key(|(answer, _)| REFUSALS.iter().position(|known| known == answer));
+        self.answers.sort_by_key(|(answer, _)| refusals::NAMES.iter().position(|known| known == answer));
         println!("  in all {} cases", self.answers.iter().map(|(_, times)| times).sum::<u64>());
         for (answer, times) in &self.answers {
             println!("    {answer}: {times}");

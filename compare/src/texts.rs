@@ -8,6 +8,8 @@ pub enum Kind {
     /// Czech words: one and two bytes to a character.
     Mixed,
     Cjk,
+    /// English words with an emoji of four bytes after every second, to measure on.
+    Emoji,
     /// Scalar values of all four lengths, many at the ends of Table 3-7's rows.
     Any,
 }
@@ -20,7 +22,7 @@ pub const UNITS: [&str; 6] = ["a", "é", "漢", "😀", "kůň ", "a漢é😀"];
 /// The library reads blocks of 64 bytes: offsets up to here cover three of them and their edges.
 pub const OFFSETS: usize = 200;
 
-/// The largest length of a text (document 01).
+/// The largest length of a text (docs/RULES.md).
 pub const LIMIT: usize = 65_535;
 
 const ENGLISH: &str = "the warden rang nine bells at dusk and wrote down each peal in a small book before \
@@ -52,6 +54,8 @@ pub fn text(kind: Kind, len: usize, random: &mut Random) -> String {
             Kind::Mixed => text.extend([*random.choose(&czech), " "]),
             Kind::Cjk if random.below(12) == 0 => text.push('。'),
             Kind::Cjk => text.push(scalar(0x4E00, 0x9FA5, random)),
+            Kind::Emoji if random.below(2) == 0 => text.extend([scalar(0x1_F600, 0x1_F64F, random), ' ']),
+            Kind::Emoji => text.extend([*random.choose(&english), " "]),
             Kind::Any => text.push(any_scalar(random)),
         }
     }

@@ -1,5 +1,5 @@
--- A column by its length and its numbers; and numbers that are being written into a lent buffer, from either end: none yet, one more, a stretch more,
--- all of a column.
+-- Laws of `column` and of `Filled`: numbers that are being written into a lent buffer, from either end: none yet, one
+-- more, a stretch more, all of a column; and three columns written together.
 use Prim.Native.Nat.{ℕ, zero, suc, _+_, _-_, _≤_, _<_}
 use mathlib.Core.Path.{_≡_, _∙_, refl, sym}
 use mathlib.Core.List.{List, [], _∷_, _++_}
@@ -7,7 +7,7 @@ use native.Mathlib.Omega.{arith}
 use lib.ListN.{length, getD, drop, set, length-append, length-drop, length-set, List·getD-append}
 use lib.Seq.{getD-at, getD-append-add, getD-drop, getD-set-same, getD-set-other, ext-getD}
 use Rattle.buffers.specs.Splice.{overlay}
-use Rattle.buffers.proofs.Every.{le-or-lt}
+use Rattle.buffers.proofs.Cases.{le-or-lt}
 use Rattle.buffers.specs.Columns.{column, Filled}
 
 pub length-column : (n : ℕ) (f : ℕ → ℕ) → length (column n f) ≡ n
@@ -118,3 +118,41 @@ all-filled f d₀ n d w room =
     (λ below.
     w .within k (omega arith) below
     ∙ sym (List·getD-append (column n f) (drop (length (column n f)) d₀) 0 k (omega arith) ∙ getD-column n f k below)))
+
+-- three columns that are written together, an element of each in a turn; the first one's may stand there already
+pub record Filling (f g h : ℕ → ℕ) (n : ℕ) (a₀ b₀ c₀ a b c : List ℕ) (i : ℕ) : Type 0 where
+  pub most : i ≤ n
+  pub first : Filled f a₀ 0 i a
+  pub second : Filled g b₀ 0 i b
+  pub third : Filled h c₀ 0 i c
+
+pub none-filling : {f g h : ℕ → ℕ} {n : ℕ} {a b c : List ℕ} → Filling f g h n a b c a b c 0
+none-filling {a = a} {b = b} {c = c} =
+    record { most = omega arith; first = none-filled _ a 0; second = none-filled _ b 0; third = none-filled _ c 0 }
+
+module _ {f g h : ℕ → ℕ} {n : ℕ} {a₀ b₀ c₀ a b c : List ℕ} {i : ℕ} (w : Filling f g h n a₀ b₀ c₀ a b c i) where
+  pub one-filling : {x y z : ℕ} → i < n → n ≤ length a₀ → n ≤ length b₀ → n ≤ length c₀ → x ≡ f i → y ≡ g i → z ≡ h i → Filling f g h n a₀ b₀ c₀ (set a i x) (set b i y) (set c i z) (i + 1)
+  one-filling more ra rb rc p q r =
+      record {
+        most = omega arith;
+        first = filled-up f a₀ 0 i a _ (w .first) (omega arith) p;
+        second = filled-up g b₀ 0 i b _ (w .second) (omega arith) q;
+        third = filled-up h c₀ 0 i c _ (w .third) (omega arith) r;
+      }
+
+  pub kept-filling : {y z : ℕ} → i < n → n ≤ length b₀ → n ≤ length c₀ → getD a₀ i 0 ≡ f i → y ≡ g i → z ≡ h i → Filling f g h n a₀ b₀ c₀ a (set b i y) (set c i z) (i + 1)
+  kept-filling more rb rc p q r =
+      record {
+        most = omega arith;
+        first = filled-kept f a₀ 0 i a (w .first) p;
+        second = filled-up g b₀ 0 i b _ (w .second) (omega arith) q;
+        third = filled-up h c₀ 0 i c _ (w .third) (omega arith) r;
+      }
+
+  pub all-filling : n ≤ i → n ≤ length a₀ → n ≤ length b₀ → n ≤ length c₀ → (a ≡ overlay (column n f) a₀) × (b ≡ overlay (column n g) b₀) × (c ≡ overlay (column n h) c₀)
+  all-filling past ra rb rc =
+      let end : i ≡ n = omega (arith, w .most) in (
+        all-filled f a₀ n a (rw end at (w .first)) ra,
+        all-filled g b₀ n b (rw end at (w .second)) rb,
+        all-filled h c₀ n c (rw end at (w .third)) rc,
+      )

@@ -1,6 +1,7 @@
--- Laws that belong to no one function.
-pub mod Written
+-- Laws that belong to no one function, each file by the definition that it speaks of.
+pub mod Cases
+pub mod Booleans
+pub mod Splice
 pub mod Every
-pub mod Laying
 pub mod Columns
 pub mod Same

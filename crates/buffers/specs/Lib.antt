@@ -1,4 +1,4 @@
--- What the contracts of `runs`, and of every crate that writes a lent buffer, are said with.
+-- What the contracts of `buffers`, and of every crate that writes a lent buffer, are said with.
 pub mod Splice
 pub mod Every
 pub mod Columns

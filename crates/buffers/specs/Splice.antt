@@ -1,5 +1,6 @@
 -- Parts of a list, and a list that stands in another one's place.
 use Prim.Native.Nat.{ℕ, _+_, _-_}
+use mathlib.Core.Path.{_≡_}
 use mathlib.Core.List.{List, _++_}
 use lib.ListN.{length, take, drop}
 
@@ -14,3 +15,8 @@ splice d at r = take at d ++ r ++ drop (at + length r) d
 -- d with r in the place of its first elements: what a lent buffer holds after a result of r
 unfoldable pub overlay : List ℕ → List ℕ → List ℕ
 overlay r d = r ++ drop (length r) d
+
+-- d is d₀ with r laid into it from `at` on, and `end` is where r ends
+pub record Laid (r d₀ : List ℕ) (at end : ℕ) (d : List ℕ) : Type 0 where
+  pub reach : end ≡ at + length r
+  pub holds : d ≡ splice d₀ at r

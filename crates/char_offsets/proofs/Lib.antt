@@ -1,4 +1,5 @@
--- Laws that belong to no one function.
-pub mod Stepping
-pub mod Lists
-pub mod Answers
+-- Laws of character positions and letter counts.
+pub mod IndexOf
+pub mod PairStepped
+pub mod CharOffsetsList
+pub mod LetterCounts

@@ -1,4 +1,4 @@
--- Character positions and letter counts (document 01).
+-- Character positions (RULES 12, 15.4) and letter counts (RULES 3.7).
 pub mod Positions
-pub mod Bounded
+pub mod Steps
 pub mod Counting

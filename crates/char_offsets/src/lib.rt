@@ -1,18 +1,23 @@
-// Character positions (document 01; Rust: `BytesToCharOffsetConverter::convert`): which character a byte of a text belongs to.
-// A walk over the text, no table: from a byte whose character is known, the bytes between that begin a character are counted.
+// Character positions (RULES 12; Rust: `BytesToCharOffsetConverter::convert`): the character that a byte belongs to.
+// A walk over the text, no table: from a byte whose character is known, the bytes between that begin a character are
+// counted.
 pub mod letters;
 
+use checks::check_text;
+use checks::least_room;
 use note::CharIndex;
-use note::LIMIT;
 use note::OriginalByte;
 use note::Refusal;
 use note::Verdict;
+use note::answers::earlier;
+use note::answers::refused_if;
 use utf8::count::count_leads;
-use validity::well_formed;
 ghost use mathlib.Core.Path.{_≡_};
 ghost use Prim.Native.Nat.{_<_};
 ghost use lib.ListN.{length};
-ghost use Rattle.char_offsets.specs.Positions.{ConvertedAll, Known, Pairs, Room, Stepped, indexOf, converted};
+ghost use Rattle.note.specs.Notes.{limit};
+ghost use Rattle.char_offsets.specs.Positions.{charOffsets, CharOffsetsList, indexOf};
+ghost use Rattle.char_offsets.specs.Steps.{IndexKnown, PairRoom, PairsWritten, PairStepped};
 
 // What converting a pair answers.
 pub enum CharOffsets {
@@ -22,7 +27,7 @@ pub enum CharOffsets {
 
 // The index of the character of the byte `to`, from that of the byte `at`, wherever the two stand.
 fn index_from(text: &[u8], at: usize, index: u32, to: usize) -> u32
-    requires { ⌜ Known (now text) at index ⌝ }
+    requires { ⌜ IndexKnown limit (now text) at index ⌝ }
     requires { ⌜ to < length (now text) ⌝ }
     ensures { λ r. ⌜ r ≡ indexOf (now (text .entry)) to ⌝ }
 {
@@ -43,8 +48,8 @@ pub struct Step {
 
 // One pair of a well-formed text, from a byte whose character is known.
 fn convert_from(text: &[u8], at: usize, index: u32, start: u32, end: u32) -> Step
-    requires { ⌜ Known (now text) at index ⌝ }
-    ensures { λ r. ⌜ Stepped (now (text .entry)) start end r ⌝ }
+    requires { ⌜ IndexKnown limit (now text) at index ⌝ }
+    ensures { λ r. ⌜ PairStepped limit (now (text .entry)) start end r ⌝ }
 {
     let from = start as usize;
     let to = end as usize;
@@ -96,8 +101,11 @@ fn write_pairs(
     char_starts: &mut [u32],
     char_ends: &mut [u32],
 )
-    requires { ⌜ Room (now text) (now starts) (now ends) (now numbers) (now «char_starts») (now «char_ends») ⌝ }
-    ensures { λ _. ⌜ Pairs (now (text .entry)) (now (starts .entry)) (now (ends .entry)) (now (numbers .entry)) (now («char_starts» .entry)) (now («char_ends» .entry)) (now (numbers .exit)) (now («char_starts» .exit)) (now («char_ends» .exit)) ⌝ }
+    requires { ⌜ PairRoom limit (now text) (now starts) (now ends)
+        (now numbers) (now «char_starts») (now «char_ends») ⌝ }
+    ensures { λ _. ⌜ PairsWritten (now (text .entry)) (now (starts .entry)) (now (ends .entry))
+        (now (numbers .entry)) (now («char_starts» .entry)) (now («char_ends» .entry))
+        (now (numbers .exit)) (now («char_starts» .exit)) (now («char_ends» .exit)) ⌝ }
 {
     let mut at = 0;
     let mut index: u32 = 0;
@@ -113,15 +121,12 @@ fn write_pairs(
     }
 }
 
-// A pair of bytes of the text as a pair of its characters. Refusals, in this order: 2, 1, 10.
-pub fn convert(text: &[u8], start: OriginalByte, end: OriginalByte) -> CharOffsets
-    ensures { λ r. ⌜ r ≡ converted (now (text .entry)) (start .0) (end .0) ⌝ }
+// A pair of bytes of the text as a pair of its characters. Refusals: those of a text, then `Missing`.
+pub fn char_offsets(text: &[u8], start: OriginalByte, end: OriginalByte) -> CharOffsets
+    ensures { λ r. ⌜ r ≡ charOffsets limit (now (text .entry)) (start .0) (end .0) ⌝ }
 {
-    if LIMIT < text.len() {
-        return CharOffsets::Refused(Refusal::TooLong);
-    }
-    if !well_formed(text) {
-        return CharOffsets::Refused(Refusal::IllFormed);
+    if let Verdict::Refused(k) = check_text(text) {
+        return CharOffsets::Refused(k);
     }
     if text.len() <= start.0 as usize {
         return CharOffsets::Refused(Refusal::Missing);
@@ -130,9 +135,10 @@ pub fn convert(text: &[u8], start: OriginalByte, end: OriginalByte) -> CharOffse
     CharOffsets::Chars(CharIndex(step.start), CharIndex(step.end))
 }
 
-// A list of pairs, in one pass where they are in order: for each 0 and its two characters, or 10 beside 0 and 0.
-// Refusals, in this order: 2, 3 (starts and ends of the pairs differ in number), 1, 9.
-pub fn convert_all(
+// A list of pairs (RULES 15.4), in one pass where they are in order: for each 0 and its two characters, or the number
+// of `Missing` beside 0 and 0. Refusals: those of a text and, beside them, `LengthMismatch` where the list has not as
+// many ends as starts; then `NoRoom`.
+pub fn char_offsets_list(
     text: &[u8],
     starts: &[u32],
     ends: &[u32],
@@ -140,24 +146,16 @@ pub fn convert_all(
     char_starts: &mut [u32],
     char_ends: &mut [u32],
 ) -> Verdict
-    ensures { λ r. ⌜ ConvertedAll (now (text .entry)) (now (starts .entry)) (now (ends .entry)) (now (numbers .entry)) (now («char_starts» .entry)) (now («char_ends» .entry)) r (now (numbers .exit)) (now («char_starts» .exit)) (now («char_ends» .exit)) ⌝ }
+    ensures { λ r. ⌜ CharOffsetsList limit (now (text .entry)) (now (starts .entry)) (now (ends .entry))
+        (now (numbers .entry)) (now («char_starts» .entry)) (now («char_ends» .entry)) r
+        (now (numbers .exit)) (now («char_starts» .exit)) (now («char_ends» .exit)) ⌝ }
 {
-    if LIMIT < text.len() {
-        return Verdict::Refused(Refusal::TooLong);
+    let checked = check_text(text);
+    let unpaired = refused_if(starts.len() != ends.len(), Refusal::LengthMismatch);
+    if let Verdict::Refused(k) = earlier(checked, unpaired) {
+        return Verdict::Refused(k);
     }
-    if starts.len() != ends.len() {
-        return Verdict::Refused(Refusal::LengthMismatch);
-    }
-    if !well_formed(text) {
-        return Verdict::Refused(Refusal::IllFormed);
-    }
-    if numbers.len() < starts.len() {
-        return Verdict::Refused(Refusal::NoRoom);
-    }
-    if char_starts.len() < starts.len() {
-        return Verdict::Refused(Refusal::NoRoom);
-    }
-    if char_ends.len() < starts.len() {
+    if least_room(numbers.len(), char_starts.len(), char_ends.len()) < starts.len() {
         return Verdict::Refused(Refusal::NoRoom);
     }
     write_pairs(text, starts, ends, numbers, char_starts, char_ends);

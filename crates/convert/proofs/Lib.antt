@@ -1,3 +1,7 @@
--- Laws that belong to no one function.
-pub mod Walking
+-- Laws of the conversions.
+pub mod Walked
+pub mod Leading
 pub mod Conversions
+pub mod Answered
+pub mod Inside
+pub mod Itself

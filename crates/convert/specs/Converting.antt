@@ -1,18 +1,24 @@
--- Document 01, 'Converting' (Rust: `convert_offsets`, `expand_alignments`): a range of one text as a range of the other.
+-- RULES 4 (Rust: `convert_offsets`, `expand_alignments`): a range of one text as a range of the other.
 -- The definitions go over the two columns of alignments; what the texts hold plays no part in them.
-use Prim.Native.Nat.{ℕ, suc, _+_, _-_, _≤_, _<_}
-use mathlib.Core.Path.{_≡_}
-use mathlib.Core.Bool.{Bool, false, cond, _&&_, not}
+use Prim.Native.Nat.{ℕ, _+_, _-_}
+use mathlib.Core.Bool.{Bool, true, false, cond, _&&_, not}
 use mathlib.Core.List.{List, [], _∷_}
 use lib.Dec.{leb, ltb, eqb}
 use lib.ListN.{length, getD}
 use Rattle.note.specs.declared.OriginalByte.{OriginalByte}
 use Rattle.note.specs.declared.NormalizedByte.{NormalizedByte}
+use Rattle.note.specs.declared.Refusal.{Refusal}
 use Rattle.note.specs.declared.Refusal.the-variants.{Missing}
 use Rattle.note.specs.declared.Verdict.{Verdict}
 use Rattle.note.specs.declared.Verdict.the-variants.{Accepted, Refused as Rejected}
-use Rattle.note.specs.Refusals.{numberOf, meets, verdict}
-use Rattle.note.specs.Notes.{Note, limit, noteFaults}
+use Rattle.note.specs.Refusals.{none, meets, also, verdict}
+use Rattle.note.specs.Notes.{Note}
+use Rattle.note.specs.Faults.{noteFaults}
+use Rattle.convert.specs.declared.OffsetReferential.{OffsetReferential}
+use Rattle.convert.specs.declared.OffsetReferential.the-variants.{
+  Original as OfOriginal,
+  Normalized as OfNormalized,
+}
 use Rattle.convert.specs.declared.Range.{Range}
 use Rattle.convert.specs.declared.Range.the-variants.{Original, Normalized}
 use Rattle.convert.specs.declared.Converted.{Converted}
@@ -20,12 +26,16 @@ use Rattle.convert.specs.declared.Converted.the-variants.{Found, Refused
 use Rattle.convert.specs.declared.Places.{Places}
 use Rattle.convert.specs.declared.Places.the-variants.{Neither, Last, Both}
 
--- a range by its numbers
+-- a range by its numbers, and by the text that they are of
 abbrev pub inOriginal : ℕ → ℕ → Range
 inOriginal a b = Original (record { 0 = a }) (record { 0 = b })
 
 abbrev pub inNormalized : ℕ → ℕ → Range
 inNormalized a b = Normalized (record { 0 = a }) (record { 0 = b })
+
+unfoldable pub rangeOf : OffsetReferential → ℕ → ℕ → Range
+rangeOf OfOriginal a b = inOriginal a b
+rangeOf OfNormalized a b = inNormalized a b
 
 abbrev pub startOf : Range → ℕ
 startOf (Original a b) = a .0
@@ -35,17 +45,16 @@ abbrev pub endOf : Range → ℕ
 endOf (Original a b) = b .0
 endOf (Normalized a b) = b .0
 
--- "Cleaned to transcript: past the text 10, else first byte's start to last byte's end."
+-- RULES 4.4: the cleaned bytes a..b in the transcript, from the first one's start to the last one's end
 unfoldable pub expanded : List ℕ → List ℕ → ℕ → ℕ → Converted
 expanded starts ends a b =
     cond (leb b (length ends)) (Found (inOriginal (getD starts a 0) (getD ends (b - 1) 0))) (Refused Missing)
 
--- "start ≥ target start and nonzero width"
+-- RULES 4.5: an alignment s..e at which a first place can be: not before the range's start, and not empty
 abbrev pub begins : ℕ → ℕ → ℕ → Bool
 begins from s e = leb from s && not (eqb s e)
 
--- the byte at i is walked, with the alignment s..e: "First place: the first walked with start ≥ target start and nonzero width.
--- Last place: the last walked, plus 1."
+-- the byte at i is walked, with the alignment s..e: where no first place is noted yet, and after any places
 unfoldable pub begun : ℕ → ℕ → ℕ → ℕ → Places
 begun from i s e =
     cond (begins from s e) (Both (record { 0 = i }) (record { 0 = i + 1 })) (Last (record { 0 = i + 1 }))
@@ -55,7 +64,7 @@ stepped from i s e (Both first last) = Both first (record { 0 = i + 1 })
 stepped from i s e (Last last) = begun from i s e
 stepped from i s e Neither = begun from i s e
 
--- "walk the alignments, and leave the walk at the first whose end exceeds the target's end": from the byte at i on
+-- the walk from the byte at i on: over at the first alignment that ends past the range
 unfoldable pub walkFrom : ℕ → List ℕ → List ℕ → ℕ → ℕ → Places → Places
 walkFrom i [] ends from to found = found
 walkFrom i (s ∷ starts) [] from to found = found
@@ -65,13 +74,13 @@ walkFrom i (s ∷ starts) (e ∷ ends) from to found =
 unfoldable pub walked : List ℕ → List ℕ → ℕ → ℕ → Places
 walked starts ends from to = walkFrom 0 starts ends from to Neither
 
--- "Both: that range. Only a last place e: e..e. Neither: 10."
+-- RULES 4.6: what the places answer
 abbrev pub spanned : Places → Converted
 spanned (Both first last) = Found (Normalized first last)
 spanned (Last last) = Found (Normalized last last)
 spanned Neither = Refused Missing
 
--- "start = end returns the same range, unconverted, even past the text. start > end: 10."
+-- RULES 4.2, 4.3: an empty range is the same numbers of the other text, a reversed one has no answer
 unfoldable pub toOriginal : List ℕ → List ℕ → NormalizedByte → NormalizedByte → Converted
 toOriginal starts ends a b =
     cond (eqb (a .0) (b .0)) (Found (inOriginal (a .0) (b .0)))
@@ -88,25 +97,20 @@ unfoldable pub converted : List ℕ → List ℕ → Range → Converted
 converted starts ends (Normalized a b) = toOriginal starts ends a b
 converted starts ends (Original a b) = toNormalized starts ends a b
 
--- the answer says 10
+-- RULES 4.1: what a call says that is lent a note and answers a range: the note's refusals, then `Missing`
 abbrev pub missing : Converted → Bool
 missing (Found range) = false
-missing (Refused k) = eqb (numberOf k) (numberOf Missing)
+missing (Refused k) = true
 
-abbrev pub said : Verdict → Converted → Converted
-said Accepted answer = answer
-said (Rejected k) answer = Refused k
+abbrev pub rangeFaults : ℕ → Note → Converted → Refusal → Bool
+rangeFaults most n answer = also (noteFaults most n) (meets Missing (missing answer) none)
 
--- what a call answers that is lent a note: the note's refusals first, then 10
-unfoldable pub answered : Note → Converted → Converted
-answered n answer = said (verdict (meets Missing (missing answer) (noteFaults n))) answer
+abbrev pub unlessRefused : Verdict → Converted → Converted
+unlessRefused Accepted answer = answer
+unlessRefused (Rejected k) answer = Refused k
 
-unfoldable pub convertOffsets : Note → Range → Converted
-convertOffsets n range = answered n (converted (n .starts) (n .ends) range)
+unfoldable pub answered : ℕ → Note → Converted → Converted
+answered most n answer = unlessRefused (verdict (rangeFaults most n answer)) answer
 
--- what the inner calls ask: one start for each end, no more than a text has bytes, and "neither starts nor ends ever go back"
-pub record Columns (starts ends : List ℕ) : Type 0 where
-  pub paired : length starts ≡ length ends
-  pub few : length ends ≤ limit
-  pub starts-forward : (i : ℕ) → suc i < length ends → getD starts i 0 ≤ getD starts (suc i) 0
-  pub ends-forward : (i : ℕ) → suc i < length ends → getD ends i 0 ≤ getD ends (suc i) 0
+unfoldable pub convertOffsets : ℕ → Note → Range → Converted
+convertOffsets most n range = answered most n (converted (n .starts) (n .ends) range)

@@ -1,6 +1,5 @@
--- Converting (document 01).
+-- Converting a range of one text to the other (RULES 4).
 pub mod Converting
 pub mod Blocks
-pub mod Answers
-pub mod Standing
-pub mod Identity
+pub mod Leading
+pub mod Inside

@@ -1,23 +1,42 @@
-// Converting (document 01): a range of the transcript as a range of the cleaned text, and back.
+// Converting (RULES 4): a range of the transcript as a range of the cleaned text, and back.
 use buffers::Offset;
+use checks::check_note;
 use note::NormalizedByte;
 use note::OriginalByte;
 use note::Refusal;
 use note::Verdict;
-use note::check_note;
 use note::rewrap::same_in_normalized;
 use note::rewrap::same_in_original;
 ghost use mathlib.Core.Path.{_≡_};
 ghost use Prim.Native.Nat.{_≤_, _<_, _-_};
 ghost use lib.ListN.{length, getD};
-ghost use Rattle.note.specs.Notes.{limit};
-ghost use Rattle.convert.specs.Converting.{Columns, startOf, endOf, begun, stepped, walked, expanded, toOriginal, toNormalized, converted, convertOffsets};
-ghost use Rattle.convert.specs.Blocks.{settled, Block};
+ghost use Rattle.note.specs.Notes.{lent, limit};
+ghost use Rattle.convert.specs.Converting.{begun, converted, convertOffsets, endOf, expanded, rangeOf};
+ghost use Rattle.convert.specs.Converting.{startOf, stepped, toNormalized, toOriginal, walked};
+ghost use Rattle.convert.specs.Blocks.{Block, Columns, settled};
+
+// The text that numbers are of (Rust: `OffsetReferential`).
+pub enum OffsetReferential {
+    Original,
+    Normalized,
+}
 
 // A range start..end, in the bytes of the one text or of the other (Rust: `Range`).
 pub enum Range {
     Original(OriginalByte, OriginalByte),
     Normalized(NormalizedByte, NormalizedByte),
+}
+
+pub fn range_of(side: OffsetReferential, from: u32, to: u32) -> Range
+    ensures { λ r. ⌜ r ≡ rangeOf side from to ⌝ }
+{
+    match side {
+        OffsetReferential::Original => Range::Original(OriginalByte(from), OriginalByte(to)),
+        OffsetReferential::Normalized => Range::Normalized(
+            NormalizedByte(from),
+            NormalizedByte(to),
+        ),
+    }
 }
 
 // A range's numbers, in the text that it names.
@@ -90,10 +109,17 @@ fn settled(found: Places, start: Offset, from: u32) -> bool
     }
 }
 
-// The last alignment of a block that one step walks: the block is the next 64, or the one at `i` alone. Neither column ever
-// goes back, so the last of 64 speaks for them all.
-fn block_last(found: Places, starts: &[Offset], ends: &[Offset], i: usize, from: u32, to: u32) -> usize
-    requires { ⌜ (Columns (now starts) (now ends)) × (i < length (now ends)) × (getD (now ends) i 0 ≤ to) ⌝ }
+// The last alignment of a block that one step walks: the block is the next 64, or the one at `i` alone. Neither column
+// ever falls, so the last of 64 speaks for them all.
+fn block_last(
+    found: Places,
+    starts: &[Offset],
+    ends: &[Offset],
+    i: usize,
+    from: u32,
+    to: u32,
+) -> usize
+    requires { ⌜ (Columns limit (now starts) (now ends)) × (i < length (now ends)) × (getD (now ends) i 0 ≤ to) ⌝ }
     ensures { λ r. ⌜ Block (now (starts .entry)) (now (ends .entry)) from to found i r ⌝ }
 {
     if ends.len() - i < 64 {
@@ -109,9 +135,9 @@ fn block_last(found: Places, starts: &[Offset], ends: &[Offset], i: usize, from:
     last
 }
 
-// The alignments are walked up to the first that ends past the target.
+// The alignments are walked up to the first that ends past the range.
 fn walk(starts: &[Offset], ends: &[Offset], from: u32, to: u32) -> Places
-    requires { ⌜ Columns (now starts) (now ends) ⌝ }
+    requires { ⌜ Columns limit (now starts) (now ends) ⌝ }
     ensures { λ r. ⌜ r ≡ walked (now (starts .entry)) (now (ends .entry)) from to ⌝ }
 {
     let mut found = Places::Neither;
@@ -135,7 +161,7 @@ fn walk(starts: &[Offset], ends: &[Offset], from: u32, to: u32) -> Places
 
 // Rust: `expand_alignments`, of the alignments from `from` up to `to`: two reads.
 fn expand_alignments(starts: &[Offset], ends: &[Offset], from: u32, to: u32) -> Converted
-    requires { ⌜ (Columns (now starts) (now ends)) × (from < to) ⌝ }
+    requires { ⌜ (Columns limit (now starts) (now ends)) × (from < to) ⌝ }
     ensures { λ r. ⌜ r ≡ expanded (now (starts .entry)) (now (ends .entry)) from to ⌝ }
 {
     let first = from as usize;
@@ -149,8 +175,13 @@ fn expand_alignments(starts: &[Offset], ends: &[Offset], from: u32, to: u32) -> 
 }
 
 // A range of the cleaned text, in the transcript.
-fn to_original(starts: &[Offset], ends: &[Offset], from: NormalizedByte, to: NormalizedByte) -> Converted
-    requires { ⌜ Columns (now starts) (now ends) ⌝ }
+fn to_original(
+    starts: &[Offset],
+    ends: &[Offset],
+    from: NormalizedByte,
+    to: NormalizedByte,
+) -> Converted
+    requires { ⌜ Columns limit (now starts) (now ends) ⌝ }
     ensures { λ r. ⌜ r ≡ toOriginal (now (starts .entry)) (now (ends .entry)) from to ⌝ }
 {
     let a = from.0;
@@ -165,8 +196,13 @@ fn to_original(starts: &[Offset], ends: &[Offset], from: NormalizedByte, to: Nor
 }
 
 // A range of the transcript, in the cleaned text.
-fn to_normalized(starts: &[Offset], ends: &[Offset], from: OriginalByte, to: OriginalByte) -> Converted
-    requires { ⌜ Columns (now starts) (now ends) ⌝ }
+fn to_normalized(
+    starts: &[Offset],
+    ends: &[Offset],
+    from: OriginalByte,
+    to: OriginalByte,
+) -> Converted
+    requires { ⌜ Columns limit (now starts) (now ends) ⌝ }
     ensures { λ r. ⌜ r ≡ toNormalized (now (starts .entry)) (now (ends .entry)) from to ⌝ }
 {
     let a = from.0;
@@ -189,7 +225,7 @@ fn to_normalized(starts: &[Offset], ends: &[Offset], from: OriginalByte, to: Ori
 
 // `convert_offsets` for proved callers that have had the note checked: it asks for the columns that a check leaves.
 pub fn convert_checked(starts: &[Offset], ends: &[Offset], range: Range) -> Converted
-    requires { ⌜ Columns (now starts) (now ends) ⌝ }
+    requires { ⌜ Columns limit (now starts) (now ends) ⌝ }
     ensures { λ r. ⌜ r ≡ converted (now (starts .entry)) (now (ends .entry)) range ⌝ }
 {
     match range {
@@ -198,7 +234,7 @@ pub fn convert_checked(starts: &[Offset], ends: &[Offset], range: Range) -> Conv
     }
 }
 
-// Rust: `convert_offsets`. Refusals, in this order: 2, 3, 1, 4, 10.
+// Rust: `convert_offsets`. Refusals: those of a note, then `Missing`.
 pub fn convert_offsets(
     original: &[u8],
     normalized: &[u8],
@@ -207,7 +243,9 @@ pub fn convert_offsets(
     original_shift: u32,
     range: Range,
 ) -> Converted
-    ensures { λ r. ⌜ r ≡ convertOffsets (record { original = now (original .entry); normalized = now (normalized .entry); starts = now (starts .entry); ends = now (ends .entry); original-shift = «original_shift» }) range ⌝ }
+    ensures { λ r. ⌜ r ≡ convertOffsets limit
+        (lent (now (original .entry)) (now (normalized .entry)) (now (starts .entry)) (now (ends .entry))
+        «original_shift») range ⌝ }
 {
     match check_note(original, normalized, starts, ends, original_shift) {
         Verdict::Refused(k) => Converted::Refused(k),

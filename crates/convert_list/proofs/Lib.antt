@@ -1,2 +1,4 @@
--- Laws that belong to no one function.
-pub mod Filling
+-- Laws of the answers of a list of ranges.
+pub mod TwoReads
+pub mod Answering
+pub mod ConvertedList

@@ -1,2 +1,3 @@
--- Converting a list of ranges over one note.
-pub mod Ranges
+-- Converting a list of ranges over one note (RULES 15.3).
+pub mod ConvertList
+pub mod TwoReads

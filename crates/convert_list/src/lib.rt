@@ -1,40 +1,27 @@
-// Converting a list of ranges over one note, which is checked once.
+// Converting a list of ranges over one note (RULES 15.3), which is checked once.
 use buffers::Offset;
+use buffers::fill_bytes;
+use checks::check_note;
+use checks::least_room;
 use convert::Converted;
-use convert::Range;
+use convert::OffsetReferential;
 use convert::convert_checked;
 use convert::end_of;
+use convert::range_of;
 use convert::start_of;
-use note::NormalizedByte;
-use note::OriginalByte;
 use note::Refusal;
 use note::Verdict;
-use note::check_note;
-use note::number;
-use buffers::fill_bytes;
+use note::answers::earlier;
+use note::answers::number;
+use note::answers::refused_if;
 ghost use mathlib.Core.Path.{_≡_};
 ghost use Prim.Native.Nat.{_-_, _≤_, _<_};
 ghost use lib.ListN.{length, getD};
-ghost use Rattle.convert.specs.Converting.{Columns, converted};
-ghost use Rattle.convert_list.specs.Ranges.{rangeOf, expands, startIn, endIn, numberIn, answerAt, unevenOf, Answers, ConvertedAll, Room};
-
-// The text that a list's numbers are of (Rust: `OffsetReferential`).
-pub enum OffsetReferential {
-    Original,
-    Normalized,
-}
-
-pub fn range_of(side: OffsetReferential, from: u32, to: u32) -> Range
-    ensures { λ r. ⌜ r ≡ rangeOf side from to ⌝ }
-{
-    match side {
-        OffsetReferential::Original => Range::Original(OriginalByte(from), OriginalByte(to)),
-        OffsetReferential::Normalized => Range::Normalized(
-            NormalizedByte(from),
-            NormalizedByte(to),
-        ),
-    }
-}
+ghost use Rattle.note.specs.Notes.{lent, limit};
+ghost use Rattle.convert.specs.Converting.{converted};
+ghost use Rattle.convert.specs.Blocks.{Columns};
+ghost use Rattle.convert_list.specs.ConvertList.{answerAt, ConvertedList, endIn, numberIn, startIn};
+ghost use Rattle.convert_list.specs.TwoReads.{AnswerRoom, AnswersWritten, expands};
 
 // An answer's three numbers.
 fn start_in(answer: Converted) -> u32
@@ -64,22 +51,8 @@ fn number_in(answer: Converted) -> u8
     }
 }
 
-// What is said where the list's starts and ends differ in number: 2 comes before 3, and nothing else does.
-fn uneven(checked: Verdict) -> Verdict
-    ensures { λ r. ⌜ r ≡ unevenOf checked ⌝ }
-{
-    match checked {
-        Verdict::Accepted => Verdict::Refused(Refusal::LengthMismatch),
-        Verdict::Refused(k) => {
-            if number(k) == 2 {
-                return Verdict::Refused(k);
-            }
-            Verdict::Refused(Refusal::LengthMismatch)
-        }
-    }
-}
-
-// Whether a range is one of the cleaned text that has a byte and ends in it, as nearly all of a list do: its answer is two reads.
+// Whether a range is one of the cleaned text that has a byte and ends in it, as nearly all of a list do: its answer is
+// two reads.
 fn expands(side: OffsetReferential, from: u32, to: u32, len: usize) -> bool
     ensures { λ r. ⌜ r ≡ expands side from to len ⌝ }
 {
@@ -104,7 +77,8 @@ fn last_end(ends: &[Offset], to: u32) -> u32
     ends[to as usize - 1] as u32
 }
 
-// Every range of the list, on a checked note and with room for the answers. The numbers are 0 from the beginning, so that two stores are left of most answers.
+// Every range of the list, on a checked note and with room for the answers. The numbers are 0 from the beginning, so
+// that two stores are left of most answers.
 fn convert_each(
     starts: &[Offset],
     ends: &[Offset],
@@ -115,9 +89,12 @@ fn convert_each(
     out_starts: &mut [u32],
     out_ends: &mut [u32],
 )
-    requires { ⌜ Columns (now starts) (now ends) ⌝ }
-    requires { ⌜ Room (now from) (now to) (now numbers) (now «out_starts») (now «out_ends») ⌝ }
-    ensures { λ _. ⌜ Answers (answerAt (converted (now (starts .entry)) (now (ends .entry))) side (now (from .entry)) (now (to .entry))) (length (now (from .entry))) (now (numbers .entry)) (now («out_starts» .entry)) (now («out_ends» .entry)) (now (numbers .exit)) (now («out_starts» .exit)) (now («out_ends» .exit)) ⌝ }
+    requires { ⌜ Columns limit (now starts) (now ends) ⌝ }
+    requires { ⌜ AnswerRoom (now from) (now to) (now numbers) (now «out_starts») (now «out_ends») ⌝ }
+    ensures { λ _. ⌜ AnswersWritten
+        (answerAt (converted (now (starts .entry)) (now (ends .entry))) side (now (from .entry)) (now (to .entry)))
+        (length (now (from .entry))) (now (numbers .entry)) (now («out_starts» .entry)) (now («out_ends» .entry))
+        (now (numbers .exit)) (now («out_starts» .exit)) (now («out_ends» .exit)) ⌝ }
 {
     fill_bytes(0, from.len(), numbers, 0);
     let mut i = 0;
@@ -138,8 +115,9 @@ fn convert_each(
 }
 
 // Each range start..end of the list is answered as `convert_offsets` answers it, in three numbers: 0, start and end, or
-// its refusal's number, 0 and 0. The call itself: 2, 3 (also where the list's starts and ends differ in number), 1, 4, 9.
-pub fn convert_all(
+// its refusal's number, 0 and 0. Refusals: those of a note and, beside them, `LengthMismatch` where the list has not as
+// many ends as starts; then `NoRoom`.
+pub fn convert_list(
     original: &[u8],
     normalized: &[u8],
     starts: &[Offset],
@@ -152,22 +130,18 @@ pub fn convert_all(
     out_starts: &mut [u32],
     out_ends: &mut [u32],
 ) -> Verdict
-    ensures { λ r. ⌜ ConvertedAll (record { original = now (original .entry); normalized = now (normalized .entry); starts = now (starts .entry); ends = now (ends .entry); original-shift = «original_shift» }) side (now (from .entry)) (now (to .entry)) (now (numbers .entry)) (now («out_starts» .entry)) (now («out_ends» .entry)) r (now (numbers .exit)) (now («out_starts» .exit)) (now («out_ends» .exit)) ⌝ }
+    ensures { λ r. ⌜ ConvertedList limit
+        (lent (now (original .entry)) (now (normalized .entry)) (now (starts .entry)) (now (ends .entry))
+        «original_shift») side (now (from .entry)) (now (to .entry))
+        (now (numbers .entry)) (now («out_starts» .entry)) (now («out_ends» .entry)) r
+        (now (numbers .exit)) (now («out_starts» .exit)) (now («out_ends» .exit)) ⌝ }
 {
     let checked = check_note(original, normalized, starts, ends, original_shift);
-    if from.len() != to.len() {
-        return uneven(checked);
-    }
-    if let Verdict::Refused(k) = checked {
+    let uneven = refused_if(from.len() != to.len(), Refusal::LengthMismatch);
+    if let Verdict::Refused(k) = earlier(checked, uneven) {
         return Verdict::Refused(k);
     }
-    if numbers.len() < from.len() {
-        return Verdict::Refused(Refusal::NoRoom);
-    }
-    if out_starts.len() < from.len() {
-        return Verdict::Refused(Refusal::NoRoom);
-    }
-    if out_ends.len() < from.len() {
+    if least_room(numbers.len(), out_starts.len(), out_ends.len()) < from.len() {
         return Verdict::Refused(Refusal::NoRoom);
     }
     convert_each(starts, ends, side, from, to, numbers, out_starts, out_ends);

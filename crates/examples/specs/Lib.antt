@@ -1,2 +1,2 @@
--- Document 01's worked notes.
+-- The worked notes of the rules.
 pub mod Worked

@@ -1,1 +1,1 @@
-// Document 01's worked notes, those marked to be proved: they speak of the definitions alone, so nothing runs here (specs/Worked.antt).
+// The worked notes of the rules: they speak of the definitions alone, so nothing runs here (specs/Worked.antt).

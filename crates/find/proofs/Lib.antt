@@ -1,6 +1,7 @@
--- Laws that belong to no one function.
-pub mod Passing
-pub mod Listing
-pub mod Progress
-pub mod Longest
-pub mod Answers
+-- Laws of matches and of the search for them.
+pub mod Occurs
+pub mod FirstFrom
+pub mod Candidates
+pub mod MatchesFrom
+pub mod FoundPlaces
+pub mod Found

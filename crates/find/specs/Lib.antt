@@ -1,7 +1,4 @@
--- Finding a literal (document 01, Finding).
+-- Finding a literal (RULES 9).
 pub mod Matching
-pub mod Encoding
-pub mod Leftmost
+pub mod Finding
 pub mod Searching
-pub mod Covered
-pub mod ReadBack

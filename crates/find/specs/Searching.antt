@@ -1,26 +1,24 @@
--- What the contracts of the inner functions are said with, of searching and of writing.
-use Prim.Native.Nat.{ℕ, _+_, _≤_, _<_}
+-- What the contracts of the inner functions of searching are said with.
+use Prim.Native.Nat.{ℕ, _≤_, _<_}
 use mathlib.Core.Path.{_≡_}
 use mathlib.Core.Bool.{Bool, true, false, cond, _&&_}
 use mathlib.Core.Logic.{_⊎_}
 use mathlib.Core.List.{List}
 use lib.Dec.{eqb}
 use lib.ListN.{length, getD}
-use Rattle.buffers.specs.Splice.{splice}
-use Rattle.note.specs.Notes.{limit}
 use Rattle.find.specs.Matching.{occursAt, firstFrom}
 
 -- `first` stands in a and `last` in b, at one index
 unfoldable pub together : List ℕ → List ℕ → ℕ → ℕ → ℕ → Bool
 together a b first last j = eqb (getD a j 0) first && eqb (getD b j 0) last
 
--- r is the first of n places at which they do, or 255 where they do at none
+-- r is the first of n indices at which they do, or 255 where they do at none
 pub record Candidate (a b : List ℕ) (first last n r : ℕ) : Type 0 where
   pub before : (k : ℕ) → k < n → k < r → together a b first last k ≡ false
   pub here : (r ≡ 255) ⊎ ((r < n) × (together a b first last r ≡ true))
 
--- the literal occurs at no place from `from` up to `to`, which is one of the text's
-pub record Passed (text literal : List ℕ) (from to : ℕ) : Type 0 where
+-- the literal stands at no position from `from` up to `to`, which is one of the text's
+pub record Absent (text literal : List ℕ) (from to : ℕ) : Type 0 where
   pub onward : from ≤ to
   pub most : to ≤ length text
   pub not-there : (k : ℕ) → from ≤ k → k < to → occursAt text literal k ≡ false
@@ -28,14 +26,3 @@ pub record Passed (text literal : List ℕ) (from to : ℕ) : Type 0 where
 -- the first match; the text's length where there is none, as of a literal without a byte
 unfoldable pub firstMatch : List ℕ → List ℕ → ℕ
 firstMatch text literal = cond (eqb (length literal) 0) (length text) (firstFrom text literal 0)
-
--- a place that two bytes each can say, and room up to `to`
-pub record Room (start end room to : ℕ) : Type 0 where
-  pub start-short : start ≤ limit
-  pub end-short : end ≤ limit
-  pub enough : to ≤ room
-
--- bytes laid into d₀ from i on, up to r
-pub record Laid (bytes d₀ : List ℕ) (i r : ℕ) (d : List ℕ) : Type 0 where
-  pub reach : r ≡ i + length bytes
-  pub holds : d ≡ splice d₀ i bytes

@@ -1,13 +1,14 @@
-// Where a literal stands next in a text. Of 64 places at once the first is named at which its first byte and, as far on as it is long, its
-// last one stand together, and the literal is tried there; fewer than 64 places are tried one by one. The worst case is the text's length
-// times the literal's, where they nearly match everywhere: a literal a..aba..a in a text a..a.
+// Where a literal stands next in a text. Of 64 positions at once the first is named at which its first byte and, as
+// far on as it is long, its last one stand together, and it is tried there; fewer than 64 are tried one by one. The
+// worst case is the text's length times the literal's, where they nearly match everywhere: a literal a..aba..a in a
+// text a..a.
 use buffers::equality::same_bytes;
 ghost use mathlib.Core.Path.{_≡_};
 ghost use mathlib.Core.Bool.{cond};
 ghost use Prim.Native.Nat.{_+_, _≤_, _<_, min};
 ghost use lib.ListN.{length};
 ghost use Rattle.find.specs.Matching.{occursAt, firstFrom};
-ghost use Rattle.find.specs.Searching.{Candidate, Passed, firstMatch};
+ghost use Rattle.find.specs.Searching.{Absent, Candidate, firstMatch};
 
 // Whether the literal stands in the text at `p`.
 fn occurs_at(text: &[u8], literal: &[u8], p: usize) -> bool
@@ -38,7 +39,8 @@ fn min(a: u8, b: u8) -> u8
     a
 }
 
-// The first of 64 places at which `first` stands in `a` and `last` in `b`, or 255. No branch inside, so that the loop is vectorised.
+// The first of 64 indices at which `first` stands in `a` and `last` in `b`, or 255.
+// No branch inside, so that the loop is vectorised.
 fn candidate(a: &[u8], b: &[u8], first: u8, last: u8) -> u8
     requires { ⌜ (64 ≤ length (now a)) × (64 ≤ length (now b)) ⌝ }
     ensures { λ r. ⌜ Candidate (now (a .entry)) (now (b .entry)) first last 64 r ⌝ }
@@ -52,10 +54,11 @@ fn candidate(a: &[u8], b: &[u8], first: u8, last: u8) -> u8
     best
 }
 
-// The next place to try the literal at: past all at which two of its bytes say that it does not stand, while 64 are left.
+// The next position to try the literal at: past all at which two of its bytes say that it does not stand, while 64
+// are left.
 fn next_candidate(text: &[u8], literal: &[u8], from: usize) -> usize
     requires { ⌜ (0 < length (now literal)) × (from ≤ length (now text)) ⌝ }
-    ensures { λ r. ⌜ Passed (now (text .entry)) (now (literal .entry)) from r ⌝ }
+    ensures { λ r. ⌜ Absent (now (text .entry)) (now (literal .entry)) from r ⌝ }
 {
     let width = literal.len() - 1;
     let first = literal[0];
@@ -72,7 +75,8 @@ fn next_candidate(text: &[u8], literal: &[u8], from: usize) -> usize
     i
 }
 
-// The first place from `from` on at which the literal stands; the text's length where there is none. An inner function: the literal has a byte.
+// The first position from `from` on at which the literal stands; the text's length where there is none.
+// An inner function: the literal has a byte.
 pub fn next_match(text: &[u8], literal: &[u8], from: usize) -> usize
     requires { ⌜ (0 < length (now literal)) × (from ≤ length (now text)) ⌝ }
     ensures { λ r. ⌜ r ≡ firstFrom (now (text .entry)) (now (literal .entry)) from ⌝ }

@@ -9,7 +9,7 @@ use Rattle.buffers.specs.Columns.{Filled}
 use Rattle.buffers.proofs.Columns.{none-filled, filled-up, filled-down}
 use Rattle.utf8.specs.Formed.{wellFormed, continues}
 use Rattle.note.specs.Starting.{charStart, charEnd}
-use Rattle.note.specs.StartingSound.{Ranged, ranged, charStart-continues, charEnd-continues, charEnd-begins}
+use Rattle.note.proofs.Starting.{Ranged, ranged, charStart-continues, charEnd-continues, charEnd-begins}
 
 -- the starts of the first i bytes stand in d, and `start` is the last of them
 pub record StartsTo (s d₀ d : List ℕ) (start i : ℕ) : Type 0 where
@@ -25,8 +25,8 @@ pub start-carried : (s : List ℕ) (i : ℕ) → continues (getD s i 0) ≡ true
 start-carried s zero e = refl
 start-carried s (suc i) e = let back : suc i - 1 ≡ i = omega arith in rw back (charStart-continues s i e)
 
-pub one-start : (s d₀ d : List ℕ) (start i x : ℕ) → StartsTo s d₀ d start i → i < length s → length s ≤ length d₀ → x ≡ charStart s i → StartsTo s d₀ (set d i x) x (i + 1)
-one-start s d₀ d start i x w more room is =
+pub one-start : {s d₀ d : List ℕ} {start i x : ℕ} → StartsTo s d₀ d start i → i < length s → length s ≤ length d₀ → x ≡ charStart s i → StartsTo s d₀ (set d i x) x (i + 1)
+one-start {s} {d₀} {d} {i = i} {x = x} w more room is =
     let back : i + 1 - 1 ≡ i = omega arith in
     record {
       filled = filled-up (charStart s) d₀ 0 i d x (w .filled) (omega arith) is;
@@ -60,7 +60,7 @@ end-carried s zero more some = absurd (omega arith)
 end-carried s (suc i) more some = let back : suc i - 1 ≡ i = omega arith in rw back (charEnd-continues s i more)
 
 -- a byte's end is written, and the end before it becomes x
-module _ (s d₀ d : List ℕ) (end i : ℕ) (w : EndsFrom s d₀ d end i) (some : 0 < i) (room : length s ≤ length d₀) where
+module _ {s d₀ d : List ℕ} {end i : ℕ} (w : EndsFrom s d₀ d end i) (some : 0 < i) (room : length s ≤ length d₀) where
   one-end : (x : ℕ) → (0 < i - 1 → x ≡ charEnd s (i - 1 - 1)) → EndsFrom s d₀ (set d (i - 1) end) x (i - 1)
   one-end x next =
       let last : i - 1 + 1 ≡ i = omega arith in

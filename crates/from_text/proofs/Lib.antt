@@ -1,4 +1,4 @@
--- Laws that belong to no one function.
+-- Laws of the starting note's columns as they are written.
 pub mod CharRanges
-pub mod Blocks
-pub mod Answers
+pub mod ContinuationRun
+pub mod Started

@@ -1,2 +1,3 @@
--- The working form of the starting note; its definition is in `note`.
-pub mod Counts
+-- The call that writes the note of a fresh text, and its working form; the note itself is defined in `note`.
+pub mod FromText
+pub mod ContinuationRun

@@ -1,7 +1,7 @@
 // The two columns of a fresh text: where each byte's character begins and where it ends.
-// A byte's start is counted from the three bytes up to it and its end from the three bytes after it, 64 bytes at a time and
-// without a branch, so that the loops are vectorised; what is left is carried from byte to byte. Each function here is an inner one: the text
-// and the room were judged before.
+// A byte's start is counted from the three bytes up to it and its end from the three bytes after it, 64 bytes at a time
+// and without a branch, so that the loops are vectorised; what is left is carried from byte to byte.
+// Each function here is an inner one: the text and the room were judged before.
 use buffers::Offset;
 use utf8::continues;
 ghost use mathlib.Core.Path.{_≡_};
@@ -13,11 +13,11 @@ ghost use Rattle.buffers.specs.Splice.{overlay};
 ghost use Rattle.utf8.specs.Formed.{wellFormed};
 ghost use Rattle.note.specs.Notes.{limit};
 ghost use Rattle.note.specs.Starting.{charStart, charEnd, starting};
-ghost use Rattle.from_text.specs.Counts.{gapless};
+ghost use Rattle.from_text.specs.ContinuationRun.{continuationRun, runAt};
 
 // How many of three bytes continue a character, up to the first that does not.
-fn gapless(a: u8, b: u8, c: u8) -> u8
-    ensures { λ r. ⌜ r ≡ gapless a b c ⌝ }
+fn continuation_run(a: u8, b: u8, c: u8) -> u8
+    ensures { λ r. ⌜ r ≡ continuationRun a b c ⌝ }
 {
     let one = continues(a);
     let two = one & continues(b);
@@ -26,14 +26,15 @@ fn gapless(a: u8, b: u8, c: u8) -> u8
 }
 
 // For each index of `counts`, how many of the bytes at it from `a`, from `b` and from `c` on.
-fn count_gapless(text: &[u8], a: usize, b: usize, c: usize, counts: &mut [u8])
+fn count_runs(text: &[u8], a: usize, b: usize, c: usize, counts: &mut [u8])
     requires { ⌜ a + length (now counts) ≤ length (now text) ⌝ }
     requires { ⌜ (b + length (now counts) ≤ length (now text)) × (c + length (now counts) ≤ length (now text)) ⌝ }
-    ensures { λ _. ⌜ Filled (λ k. gapless (getD (now (text .entry)) (a + k) 0) (getD (now (text .entry)) (b + k) 0) (getD (now (text .entry)) (c + k) 0)) (now (counts .entry)) 0 (length (now (counts .entry))) (now (counts .exit)) ⌝ }
+    ensures { λ _. ⌜ Filled (runAt (now (text .entry)) a b c) (now (counts .entry)) 0 (length (now (counts .entry)))
+        (now (counts .exit)) ⌝ }
 {
     let mut j = 0;
     while j < counts.len() {
-        counts[j] = gapless(text[a + j], text[b + j], text[c + j]);
+        counts[j] = continuation_run(text[a + j], text[b + j], text[c + j]);
         j += 1;
     }
 }
@@ -42,7 +43,8 @@ fn count_gapless(text: &[u8], a: usize, b: usize, c: usize, counts: &mut [u8])
 fn step_back(i: usize, counts: &[u8], starts: &mut [Offset])
     requires { ⌜ (i + length (now counts) ≤ length (now starts)) × (i + length (now counts) ≤ limit) ⌝ }
     requires { ⌜ ((k : ℕ) → getD (now counts) k 0 ≤ i) ⌝ }
-    ensures { λ _. ⌜ Filled (λ k. k - getD (now (counts .entry)) (k - i) 0) (now (starts .entry)) i (i + length (now (counts .entry))) (now (starts .exit)) ⌝ }
+    ensures { λ _. ⌜ Filled (λ k. k - getD (now (counts .entry)) (k - i) 0) (now (starts .entry)) i
+        (i + length (now (counts .entry))) (now (starts .exit)) ⌝ }
 {
     let mut k = 0;
     while k < counts.len() {
@@ -55,7 +57,8 @@ fn step_back(i: usize, counts: &[u8], starts: &mut [Offset])
 fn step_ahead(i: usize, counts: &[u8], ends: &mut [Offset])
     requires { ⌜ (i + length (now counts) ≤ length (now ends)) × (i + length (now counts) + 3 ≤ limit) ⌝ }
     requires { ⌜ ((k : ℕ) → getD (now counts) k 0 ≤ 3) ⌝ }
-    ensures { λ _. ⌜ Filled (λ k. k + 1 + getD (now (counts .entry)) (k - i) 0) (now (ends .entry)) i (i + length (now (counts .entry))) (now (ends .exit)) ⌝ }
+    ensures { λ _. ⌜ Filled (λ k. k + 1 + getD (now (counts .entry)) (k - i) 0) (now (ends .entry)) i
+        (i + length (now (counts .entry))) (now (ends .exit)) ⌝ }
 {
     let mut k = 0;
     while k < counts.len() {
@@ -71,7 +74,7 @@ fn starts_block(text: &[u8], i: usize, starts: &mut [Offset])
     ensures { λ _. ⌜ Filled (charStart (now (text .entry))) (now (starts .entry)) i (i + 64) (now (starts .exit)) ⌝ }
 {
     let mut counts = [0u8; 64];
-    count_gapless(text, i, i - 1, i - 2, &mut counts);
+    count_runs(text, i, i - 1, i - 2, &mut counts);
     step_back(i, &counts, starts);
 }
 
@@ -82,11 +85,12 @@ fn ends_block(text: &[u8], i: usize, ends: &mut [Offset])
     ensures { λ _. ⌜ Filled (charEnd (now (text .entry))) (now (ends .entry)) i (i + 64) (now (ends .exit)) ⌝ }
 {
     let mut counts = [0u8; 64];
-    count_gapless(text, i + 1, i + 2, i + 3, &mut counts);
+    count_runs(text, i + 1, i + 2, i + 3, &mut counts);
     step_ahead(i, &counts, ends);
 }
 
-// The starts of the bytes before `to`, carried forwards: a byte that continues a character begins where the one before it does.
+// The starts of the bytes before `to`, carried forwards: a byte that continues a character begins where the one before
+// it does.
 fn carry_starts(text: &[u8], to: usize, starts: &mut [Offset])
     requires { ⌜ (to ≤ length (now text)) × (length (now text) ≤ limit) ⌝ }
     requires { ⌜ length (now text) ≤ length (now starts) ⌝ }
@@ -107,7 +111,8 @@ fn carry_starts(text: &[u8], to: usize, starts: &mut [Offset])
 fn carry_ends(text: &[u8], from: usize, ends: &mut [Offset])
     requires { ⌜ (wellFormed (now text) ≡ true) × (length (now text) ≤ limit) ⌝ }
     requires { ⌜ (from ≤ length (now text)) × (length (now text) ≤ length (now ends)) ⌝ }
-    ensures { λ _. ⌜ Filled (charEnd (now (text .entry))) (now (ends .entry)) from (length (now (text .entry))) (now (ends .exit)) ⌝ }
+    ensures { λ _. ⌜ Filled (charEnd (now (text .entry))) (now (ends .entry)) from (length (now (text .entry)))
+        (now (ends .exit)) ⌝ }
 {
     let mut end = text.len() as Offset;
     let mut i = text.len();

@@ -1,3 +1,3 @@
--- Laws that belong to no one function.
-pub mod Getting
+-- Laws of reading.
+pub mod Got
 pub mod Parts

@@ -1,2 +1,2 @@
--- Reading (document 01).
+-- Reading (RULES 5).
 pub mod Reading

@@ -1,28 +1,28 @@
--- Document 01, 'Reading' (Rust: `get_range`, `get_range_original`, `str::get`), and the added reader.
+-- RULES 5 (Rust: `get_range`, `get_range_original`, `str::get`), and the added reader.
 use Prim.Native.Nat.{ℕ}
 use mathlib.Core.Bool.{Bool, cond, _&&_, not}
 use mathlib.Core.List.{List, []}
 use lib.Dec.{leb}
-use lib.ListN.{length}
 use Rattle.buffers.specs.Splice.{part}
-use Rattle.utf8.specs.Formed.{wellFormed, boundary}
+use Rattle.utf8.specs.Formed.{boundary}
 use Rattle.note.specs.declared.Refusal.{Refusal}
-use Rattle.note.specs.declared.Refusal.the-variants.{IllFormed, TooLong, Missing}
+use Rattle.note.specs.declared.Refusal.the-variants.{Missing}
 use Rattle.note.specs.declared.Verdict.{Verdict}
 use Rattle.note.specs.declared.Verdict.the-variants.{Accepted, Refused as Rejected}
-use Rattle.note.specs.Refusals.{none, meets, verdict}
-use Rattle.note.specs.Notes.{Note, limit}
+use Rattle.note.specs.Refusals.{none, meets, also, verdict}
+use Rattle.note.specs.Notes.{Note}
+use Rattle.note.specs.Faults.{textFaults}
 use Rattle.convert.specs.declared.Range.{Range}
 use Rattle.convert.specs.declared.Range.the-variants.{Original, Normalized}
 use Rattle.convert.specs.declared.Converted.{Converted}
 use Rattle.convert.specs.declared.Converted.the-variants.{Found, Refused}
 use Rattle.convert.specs.Converting.{startOf, endOf, converted, answered}
 
--- Rust's `str::get` has a part at a..e
+-- RULES 5.1: Rust's `str::get` has a part at a..e
 unfoldable pub readable : List ℕ → ℕ → ℕ → Bool
 readable s a e = leb a e && (boundary s a && boundary s e)
 
--- "Any `None` is 10.": of the conversion, and then of `str::get`
+-- what `str::get` makes of a range that may have been missed already
 unfoldable pub got : List ℕ → Converted → Converted
 got s (Found range) = cond (readable s (startOf range) (endOf range)) (Found range) (Refused Missing)
 got s (Refused k) = Refused k
@@ -36,28 +36,32 @@ unfoldable pub asOriginal : Note → Range → Converted
 asOriginal n (Original a b) = Found (Original a b)
 asOriginal n (Normalized a b) = converted (n .starts) (n .ends) (Normalized a b)
 
-unfoldable pub getRange : Note → Range → Converted
-getRange n range = answered n (got (n .normalized) (asNormalized n range))
+-- RULES 5.2, 5.3: the two calls
+unfoldable pub getRange : ℕ → Note → Range → Converted
+getRange most n range = answered most n (got (n .normalized) (asNormalized n range))
 
-unfoldable pub getRangeOriginal : Note → Range → Converted
-getRangeOriginal n range = answered n (got (n .original) (asOriginal n range))
+unfoldable pub getRangeOriginal : ℕ → Note → Range → Converted
+getRangeOriginal most n range = answered most n (got (n .original) (asOriginal n range))
 
--- the reader: the text that was asked for, and "which of 2, 1 and 10 applies, if any"
+-- RULES 5.6, of the added reader: both texts are judged, then the range in the one that it names
 abbrev pub textOf : List ℕ → List ℕ → Range → List ℕ
 textOf original normalized (Original a b) = original
 textOf original normalized (Normalized a b) = normalized
 
-unfoldable pub partFaults : List ℕ → List ℕ → Range → Refusal → Bool
-partFaults original normalized range =
-    meets TooLong (not (leb (length original) limit && leb (length normalized) limit))
-    (meets IllFormed (not (wellFormed original && wellFormed normalized))
-    (meets Missing (not (readable (textOf original normalized range) (startOf range) (endOf range))) none))
+abbrev pub readFaults : List ℕ → ℕ → ℕ → Refusal → Bool
+readFaults s a e = meets Missing (not (readable s a e)) none
 
--- "where one does, the reader's part is the empty start of that text"
-abbrev pub given : Verdict → List ℕ → List ℕ
-given Accepted s = s
-given (Rejected k) s = []
+unfoldable pub partFaults : ℕ → List ℕ → List ℕ → Range → Refusal → Bool
+partFaults most original normalized range =
+    also (also (textFaults most original) (textFaults most normalized))
+    (readFaults (textOf original normalized range) (startOf range) (endOf range))
 
-unfoldable pub partOf : List ℕ → List ℕ → Range → List ℕ
-partOf original normalized range =
-    given (verdict (partFaults original normalized range)) (part (textOf original normalized range) (startOf range) (endOf range))
+-- RULES 5.5: the part itself; nothing of that text where the reader is refused
+abbrev pub partUnlessRefused : Verdict → List ℕ → List ℕ
+partUnlessRefused Accepted s = s
+partUnlessRefused (Rejected k) s = []
+
+unfoldable pub partOf : ℕ → List ℕ → List ℕ → Range → List ℕ
+partOf most original normalized range =
+    partUnlessRefused (verdict (partFaults most original normalized range))
+    (part (textOf original normalized range) (startOf range) (endOf range))

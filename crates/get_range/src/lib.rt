@@ -1,22 +1,21 @@
-// Reading (document 01): the part of a text that a range names.
+// Reading (RULES 5): the part of a text that a range names.
 use buffers::Offset;
+use checks::check_note;
+use checks::check_text;
 use convert::Converted;
 use convert::Range;
 use convert::convert_checked;
 use convert::end_of;
 use convert::start_of;
-use note::LIMIT;
 use note::Refusal;
 use note::Verdict;
-use note::check_note;
+use note::answers::earlier;
+use note::answers::refused_if;
 use utf8::is_char_boundary;
-use validity::well_formed;
 ghost use mathlib.Core.Path.{_≡_};
-ghost use mathlib.Core.Bool.{cond};
-ghost use Rattle.note.specs.declared.Refusal.the-variants.{Missing};
-ghost use Rattle.note.specs.declared.Verdict.the-variants.{Accepted, Refused};
+ghost use Rattle.note.specs.Notes.{lent, limit};
 ghost use Rattle.note.specs.Refusals.{verdict};
-ghost use Rattle.get_range.specs.Reading.{readable, got, getRange, getRangeOriginal, textOf, partFaults, partOf};
+ghost use Rattle.get_range.specs.Reading.{getRange, getRangeOriginal, got, partFaults, partOf, readable, textOf};
 
 // Whether Rust's `str::get` has a part at start..end.
 pub fn readable(s: &[u8], start: u32, end: u32) -> bool
@@ -44,7 +43,7 @@ fn get(s: &[u8], answer: Converted) -> Converted
     }
 }
 
-// Rust: `get_range`: the range in the cleaned text. Refusals, in this order: 2, 3, 1, 4, 10.
+// Rust: `get_range`: the range in the cleaned text. Refusals: those of a note, then `Missing`.
 pub fn get_range(
     original: &[u8],
     normalized: &[u8],
@@ -53,7 +52,9 @@ pub fn get_range(
     original_shift: u32,
     range: Range,
 ) -> Converted
-    ensures { λ r. ⌜ r ≡ getRange (record { original = now (original .entry); normalized = now (normalized .entry); starts = now (starts .entry); ends = now (ends .entry); original-shift = «original_shift» }) range ⌝ }
+    ensures { λ r. ⌜ r ≡ getRange limit
+        (lent (now (original .entry)) (now (normalized .entry)) (now (starts .entry)) (now (ends .entry))
+        «original_shift») range ⌝ }
 {
     if let Verdict::Refused(k) = check_note(original, normalized, starts, ends, original_shift) {
         return Converted::Refused(k);
@@ -64,7 +65,7 @@ pub fn get_range(
     }
 }
 
-// Rust: `get_range_original`: the range in the transcript. Refusals, in this order: 2, 3, 1, 4, 10.
+// Rust: `get_range_original`: the range in the transcript. Refusals: those of a note, then `Missing`.
 pub fn get_range_original(
     original: &[u8],
     normalized: &[u8],
@@ -73,7 +74,9 @@ pub fn get_range_original(
     original_shift: u32,
     range: Range,
 ) -> Converted
-    ensures { λ r. ⌜ r ≡ getRangeOriginal (record { original = now (original .entry); normalized = now (normalized .entry); starts = now (starts .entry); ends = now (ends .entry); original-shift = «original_shift» }) range ⌝ }
+    ensures { λ r. ⌜ r ≡ getRangeOriginal limit
+        (lent (now (original .entry)) (now (normalized .entry)) (now (starts .entry)) (now (ends .entry))
+        «original_shift») range ⌝ }
 {
     if let Verdict::Refused(k) = check_note(original, normalized, starts, ends, original_shift) {
         return Converted::Refused(k);
@@ -94,42 +97,23 @@ fn text_of<'a>(original: &'a [u8], normalized: &'a [u8], range: Range) -> &'a [u
     }
 }
 
-// 10 where nothing is there.
-fn found(there: bool) -> Verdict
-    ensures { λ r. ⌜ r ≡ cond there Accepted (Refused Missing) ⌝ }
+// What the reader below refuses: the two texts, each as a text alone, then `Missing`.
+pub fn part_verdict<'a>(original: &'a [u8], normalized: &'a [u8], range: Range) -> Verdict
+    ensures { λ r. ⌜ r ≡ verdict (partFaults limit (now (original .entry)) (now (normalized .entry)) range) ⌝ }
 {
-    if there {
-        Verdict::Accepted
-    } else {
-        Verdict::Refused(Refusal::Missing)
+    if let Verdict::Refused(k) = earlier(check_text(original), check_text(normalized)) {
+        return Verdict::Refused(k);
     }
-}
-
-// Which of 2, 1 and 10 applies to the reader below.
-pub fn part_verdict(original: &[u8], normalized: &[u8], range: Range) -> Verdict
-    ensures { λ r. ⌜ r ≡ verdict (partFaults (now (original .entry)) (now (normalized .entry)) range) ⌝ }
-{
-    if LIMIT < original.len() {
-        return Verdict::Refused(Refusal::TooLong);
-    }
-    if LIMIT < normalized.len() {
-        return Verdict::Refused(Refusal::TooLong);
-    }
-    if !well_formed(original) {
-        return Verdict::Refused(Refusal::IllFormed);
-    }
-    if !well_formed(normalized) {
-        return Verdict::Refused(Refusal::IllFormed);
-    }
-    match range {
-        Range::Original(from, to) => found(readable(original, from.0, to.0)),
-        Range::Normalized(from, to) => found(readable(normalized, from.0, to.0)),
-    }
+    let text = text_of(original, normalized, range);
+    refused_if(
+        !readable(text, start_of(range), end_of(range)),
+        Refusal::Missing,
+    )
 }
 
 // The part that the range names of the text that it names, or that text's empty start where `part_verdict` refuses.
 pub fn part_of<'a>(original: &'a [u8], normalized: &'a [u8], range: Range) -> &'a [u8]
-    ensures { λ r. ⌜ now r ≡ partOf (now (original .entry)) (now (normalized .entry)) range ⌝ }
+    ensures { λ r. ⌜ now r ≡ partOf limit (now (original .entry)) (now (normalized .entry)) range ⌝ }
 {
     let text = text_of(original, normalized, range);
     if let Verdict::Refused(_) = part_verdict(original, normalized, range) {

@@ -1,3 +1,3 @@
--- Laws that belong to no one function.
-pub mod Walking
-pub mod Answers
+-- Laws of the comparison.
+pub mod Walk
+pub mod Alike

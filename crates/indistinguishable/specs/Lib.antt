@@ -1,3 +1,3 @@
--- Whether two notes publish the same (demand 3, as a call).
-pub mod Walk
+-- Whether two notes publish the same (RULES 15).
 pub mod Alike
+pub mod Walk

@@ -1,38 +1,37 @@
--- Two columns compared place by place, without laying anything down.
-use Prim.Native.Nat.{ℕ, _≤_}
+-- The working form: two columns compared place by place, without laying anything down.
+use Prim.Native.Nat.{ℕ}
 use mathlib.Core.Path.{_≡_}
-use mathlib.Core.Bool.{Bool, true, _&&_, _||_}
+use mathlib.Core.Bool.{Bool, true, cond, _&&_, _||_}
 use mathlib.Core.List.{List, [], _∷_}
 use lib.Dec.{eqb}
 use lib.ListN.{length}
 use Rattle.buffers.specs.Splice.{part}
 use Rattle.buffers.specs.Same.{same}
+use Rattle.note.specs.Notes.{beforeEnd}
 use Rattle.pattern.specs.declared.Place.{Place}
-use Rattle.pattern.specs.declared.Place.the-variants.{Unmatched, Matched, Broken}
-use Rattle.pattern.specs.Places.{placesOf, fitsAt, covers}
-use Rattle.replace.specs.Replacing.{beforeEnd}
+use Rattle.pattern.specs.Entries.{placesOf}
+use Rattle.pattern.specs.Places.{fitsAt, coversFrom}
+
+abbrev pub samePart : List ℕ → List ℕ → Place → Bool
+samePart xs ys p = same (part xs (p .start .0) (p .end .0)) (part ys (p .start .0) (p .end .0))
 
 -- what a place gives of two texts is the same
 unfoldable pub textAlike : List ℕ → List ℕ → Place → Bool
-textAlike xs ys (Unmatched start end) = same (part xs (start .0) (end .0)) (part ys (start .0) (end .0))
-textAlike xs ys (Matched start end) = true
-textAlike xs ys Broken = true
+textAlike xs ys p = cond (p .matched) true (samePart xs ys p)
 
--- and of two columns of alignments, beside a filler of `wide` bytes
+-- and of two columns of alignments, beside a content of `wide` bytes
 unfoldable pub columnAlike : ℕ → List ℕ → List ℕ → Place → Bool
-columnAlike wide xs ys (Unmatched start end) = same (part xs (start .0) (end .0)) (part ys (start .0) (end .0))
-columnAlike wide xs ys (Matched start end) = eqb wide 0 || eqb (beforeEnd xs (end .0)) (beforeEnd ys (end .0))
-columnAlike wide xs ys Broken = true
+columnAlike wide xs ys p =
+    cond (p .matched) (eqb wide 0 || eqb (beforeEnd xs (p .end .0)) (beforeEnd ys (p .end .0))) (samePart xs ys p)
 
 unfoldable pub everyPlace : (Place → Bool) → List Place → Bool
 everyPlace f [] = true
 everyPlace f (p ∷ ps) = f p && everyPlace f ps
 
--- from `from` to `to` in both lists
-pub record Inside (xs ys : List ℕ) (from to : ℕ) : Type 0 where
-  pub onward : from ≤ to
-  pub in-one : to ≤ length xs
-  pub in-other : to ≤ length ys
+-- text, starts and ends of two notes
+unfoldable pub allAlike : List ℕ → List ℕ → List ℕ → List ℕ → List ℕ → List ℕ → ℕ → List Place → Bool
+allAlike t xs ys u vs ws wide ps =
+    everyPlace (textAlike t u) ps && everyPlace (columnAlike wide xs vs) ps && everyPlace (columnAlike wide ys ws) ps
 
 -- a place that fits a text, of whose bytes the two lists have one each
 pub record Lying (xs ys : List ℕ) (p : Place) : Type 0 where
@@ -42,14 +41,9 @@ pub record Lying (xs ys : List ℕ) (p : Place) : Type 0 where
   pub one : length xs ≡ length text
   pub other : length ys ≡ length text
 
--- a list that covers such a text
+-- places that cover such a text
 pub record Covering (xs ys list : List ℕ) : Type 0 where
   pub text : List ℕ
-  pub covered : covers text (placesOf list) ≡ true
+  pub covered : coversFrom text 0 (placesOf list) ≡ true
   pub one : length xs ≡ length text
   pub other : length ys ≡ length text
-
--- text, starts and ends of two notes
-unfoldable pub allAlike : List ℕ → List ℕ → List ℕ → List ℕ → List ℕ → List ℕ → ℕ → List Place → Bool
-allAlike t xs ys u vs ws wide ps =
-    everyPlace (textAlike t u) ps && everyPlace (columnAlike wide xs vs) ps && everyPlace (columnAlike wide ys ws) ps

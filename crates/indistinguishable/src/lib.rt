@@ -1,39 +1,27 @@
-// Whether two notes publish the same under one list and one filler (demand 3, as a call), found by walking the list.
+// Whether two notes publish the same under one list and one content (RULES 15; the blanking claim as a call), found by
+// walking the list.
 use buffers::Offset;
-use note::Refusal;
-use note::Verdict;
-use pattern::Place;
-use pattern::place_at;
-use replace::before_end;
-use replace::judged;
 use buffers::equality::same_bytes;
 use buffers::equality::same_offsets;
+use note::LIMIT;
+use note::Refusal;
+use note::Verdict;
+use note::answers::earlier;
+use note::before_end;
+use pattern::Entry;
+use pattern::Place;
+use pattern::entry_at;
+use replace::check_replace;
 ghost use mathlib.Core.Path.{_≡_};
-ghost use Rattle.buffers.specs.Same.{same};
-ghost use Rattle.buffers.specs.Splice.{part};
-ghost use Rattle.pattern.specs.Places.{placesOf};
+ghost use Rattle.note.specs.Notes.{lent, limit};
+ghost use Rattle.pattern.specs.Entries.{placesOf};
 ghost use Rattle.indistinguishable.specs.Alike.{PublishedAlike};
-ghost use Rattle.indistinguishable.specs.Walk.{Covering, Inside, Lying, allAlike, columnAlike, everyPlace, textAlike};
+ghost use Rattle.indistinguishable.specs.Walk.{Covering, Lying, allAlike, columnAlike, everyPlace, textAlike};
 
 // What the comparison answers.
 pub enum Comparison {
     Compared(bool),
-    Uncompared(Refusal),
-}
-
-// Whether two lists are the same from `from` to `to`.
-fn part8_alike(a: &[u8], b: &[u8], from: usize, to: usize) -> bool
-    requires { ⌜ Inside (now a) (now b) from to ⌝ }
-    ensures { λ r. ⌜ r ≡ same (part (now (a .entry)) from to) (part (now (b .entry)) from to) ⌝ }
-{
-    same_bytes(&a[from..to], &b[from..to])
-}
-
-fn part16_alike(a: &[Offset], b: &[Offset], from: usize, to: usize) -> bool
-    requires { ⌜ Inside (now a) (now b) from to ⌝ }
-    ensures { λ r. ⌜ r ≡ same (part (now (a .entry)) from to) (part (now (b .entry)) from to) ⌝ }
-{
-    same_offsets(&a[from..to], &b[from..to])
+    Refused(Refusal),
 }
 
 // Whether a place of a judged list gives the same of two texts.
@@ -41,37 +29,32 @@ fn text_alike(a: &[u8], b: &[u8], place: Place) -> bool
     requires { ⌜ Lying (now a) (now b) place ⌝ }
     ensures { λ r. ⌜ r ≡ textAlike (now (a .entry)) (now (b .entry)) place ⌝ }
 {
-    match place {
-        Place::Unmatched(start, end) => {
-            let from = start.0 as usize;
-            let to = end.0 as usize;
-            part8_alike(a, b, from, to)
-        }
-        Place::Matched(_, _) => true,
-        Place::Broken => true,
+    let start = place.start;
+    let end = place.end;
+    let from = start.0 as usize;
+    let to = end.0 as usize;
+    if place.matched {
+        return true;
     }
+    same_bytes(&a[from..to], &b[from..to])
 }
 
-// And of two columns of alignments, beside a filler of `wide` bytes.
+// And of two columns of alignments, beside a content of `wide` bytes.
 fn column_alike(a: &[Offset], b: &[Offset], wide: usize, place: Place) -> bool
     requires { ⌜ Lying (now a) (now b) place ⌝ }
     ensures { λ r. ⌜ r ≡ columnAlike wide (now (a .entry)) (now (b .entry)) place ⌝ }
 {
-    match place {
-        Place::Unmatched(start, end) => {
-            let from = start.0 as usize;
-            let to = end.0 as usize;
-            part16_alike(a, b, from, to)
+    let start = place.start;
+    let end = place.end;
+    let from = start.0 as usize;
+    let to = end.0 as usize;
+    if place.matched {
+        if wide == 0 {
+            return true;
         }
-        Place::Matched(_, end) => {
-            let to = end.0 as usize;
-            if wide == 0 {
-                return true;
-            }
-            before_end(a, to) == before_end(b, to)
-        }
-        Place::Broken => true,
+        return before_end(a, to) == before_end(b, to);
     }
+    same_offsets(&a[from..to], &b[from..to])
 }
 
 fn texts_alike(a: &[u8], b: &[u8], list: &[u8]) -> bool
@@ -80,29 +63,40 @@ fn texts_alike(a: &[u8], b: &[u8], list: &[u8]) -> bool
 {
     let mut i = 0;
     while i < list.len() {
-        if !text_alike(a, b, place_at(list, i)) {
-            return false;
+        match entry_at(list, i) {
+            Entry::At(place, next) => {
+                if !text_alike(a, b, place) {
+                    return false;
+                }
+                i = next;
+            }
+            Entry::Broken => return true,
         }
-        i += 5;
     }
     true
 }
 
 fn columns_alike(a: &[Offset], b: &[Offset], list: &[u8], wide: usize) -> bool
     requires { ⌜ Covering (now a) (now b) (now list) ⌝ }
-    ensures { λ r. ⌜ r ≡ everyPlace (columnAlike wide (now (a .entry)) (now (b .entry))) (placesOf (now (list .entry))) ⌝ }
+    ensures { λ r. ⌜ r ≡ everyPlace (columnAlike wide (now (a .entry)) (now (b .entry)))
+        (placesOf (now (list .entry))) ⌝ }
 {
     let mut i = 0;
     while i < list.len() {
-        if !column_alike(a, b, wide, place_at(list, i)) {
-            return false;
+        match entry_at(list, i) {
+            Entry::At(place, next) => {
+                if !column_alike(a, b, wide, place) {
+                    return false;
+                }
+                i = next;
+            }
+            Entry::Broken => return true,
         }
-        i += 5;
     }
     true
 }
 
-// Whether two notes that a list covers publish the same beside a filler of `wide` bytes.
+// Whether two notes that a list covers publish the same beside a content of `wide` bytes.
 fn all_alike(
     normalized: &[u8],
     starts: &[Offset],
@@ -113,8 +107,12 @@ fn all_alike(
     list: &[u8],
     wide: usize,
 ) -> bool
-    requires { ⌜ Covering (now normalized) (now other) (now list) × Covering (now starts) (now «other_starts») (now list) × Covering (now ends) (now «other_ends») (now list) ⌝ }
-    ensures { λ r. ⌜ r ≡ allAlike (now (normalized .entry)) (now (starts .entry)) (now (ends .entry)) (now (other .entry)) (now («other_starts» .entry)) (now («other_ends» .entry)) wide (placesOf (now (list .entry))) ⌝ }
+    requires { ⌜ Covering (now normalized) (now other) (now list)
+        × (Covering (now starts) (now «other_starts») (now list)
+        × Covering (now ends) (now «other_ends») (now list)) ⌝ }
+    ensures { λ r. ⌜ r ≡ allAlike (now (normalized .entry)) (now (starts .entry)) (now (ends .entry))
+        (now (other .entry)) (now («other_starts» .entry)) (now («other_ends» .entry))
+        wide (placesOf (now (list .entry))) ⌝ }
 {
     if !texts_alike(normalized, other, list) {
         return false;
@@ -125,7 +123,7 @@ fn all_alike(
     columns_alike(ends, other_ends, list, wide)
 }
 
-// Whether the two notes that `replace` makes of these with this list and filler are equal, text and alignments.
+// Whether the two notes that `replace` makes of these with this list and content are equal, text and alignments.
 pub fn published_alike(
     original: &[u8],
     normalized: &[u8],
@@ -140,12 +138,14 @@ pub fn published_alike(
     list: &[u8],
     content: &[u8],
 ) -> Comparison
-    ensures { λ r. ⌜ PublishedAlike
-        (record { original = now (original .entry); normalized = now (normalized .entry); starts = now (starts .entry); ends = now (ends .entry); original-shift = «original_shift» })
-        (record { original = now («other_original» .entry); normalized = now (other .entry); starts = now («other_starts» .entry); ends = now («other_ends» .entry); original-shift = «other_shift» })
+    ensures { λ r. ⌜ PublishedAlike limit
+        (lent (now (original .entry)) (now (normalized .entry))
+        (now (starts .entry)) (now (ends .entry)) «original_shift»)
+        (lent (now («other_original» .entry)) (now (other .entry))
+        (now («other_starts» .entry)) (now («other_ends» .entry)) «other_shift»)
         (now (list .entry)) (now (content .entry)) r ⌝ }
 {
-    if let Verdict::Refused(k) = judged(
+    let one = check_replace(
         original,
         normalized,
         starts,
@@ -153,13 +153,9 @@ pub fn published_alike(
         original_shift,
         list,
         content,
-        65535,
-        65535,
-        65535,
-    ) {
-        return Comparison::Uncompared(k);
-    }
-    if let Verdict::Refused(k) = judged(
+        LIMIT,
+    );
+    let two = check_replace(
         other_original,
         other,
         other_starts,
@@ -167,11 +163,10 @@ pub fn published_alike(
         other_shift,
         list,
         content,
-        65535,
-        65535,
-        65535,
-    ) {
-        return Comparison::Uncompared(k);
+        LIMIT,
+    );
+    if let Verdict::Refused(k) = earlier(one, two) {
+        return Comparison::Refused(k);
     }
     Comparison::Compared(all_alike(
         normalized,

@@ -1,7 +1,9 @@
--- Laws that belong to no one function.
-pub mod Aligning
-pub mod Checking
-pub mod Mirroring
-pub mod SoundAt
+-- Laws of the note's definitions.
 pub mod Verdicts
-pub mod SoundFrom
+pub mod Sound
+pub mod BeforeEnd
+pub mod Faults
+pub mod Starting
+pub mod Stretch
+pub mod Numbers
+pub mod Uneven

@@ -1,7 +1,6 @@
--- The note and the refusals (document 01, 'A note and what it holds' and 'Refusal table').
-pub mod Refusals
+-- The note and the refusals (RULES 1 and 2).
 pub mod Notes
-pub mod Steady
-pub mod Unedited
+pub mod Refusals
+pub mod Faults
 pub mod Starting
-pub mod StartingSound
+pub mod Rank

@@ -1,17 +1,14 @@
--- Document 01, 'A note and what it holds': the note, its limits, and when it is sound.
-use Prim.Native.Nat.{ℕ, zero, suc, _+_, _≤_}
+-- RULES 1: the note, its limits, and when it is sound.
+use Prim.Native.Nat.{ℕ, zero, suc, _+_, _-_}
 use mathlib.Core.Path.{_≡_}
-use mathlib.Core.Bool.{Bool, true, _&&_, _||_, not}
+use mathlib.Core.Bool.{Bool, true, cond, _&&_, _||_, not}
 use mathlib.Core.List.{List}
 use lib.Dec.{leb, eqb}
 use lib.ListN.{length, getD}
 use Rattle.buffers.specs.Every.{everyBelow}
 use Rattle.utf8.specs.Formed.{wellFormed, continues, boundary}
-use Rattle.note.specs.declared.Refusal.{Refusal}
-use Rattle.note.specs.declared.Refusal.the-variants.{IllFormed, TooLong, LengthMismatch, Misaligned}
-use Rattle.note.specs.Refusals.{none, meets}
 
--- transcript, cleaned text, one alignment (start, end) per cleaned byte in two columns, shift; Rust's names
+-- transcript, cleaned text, one alignment (start, end) for each cleaned byte in two columns, shift; the Rust's names
 pub record Note : Type 0 where
   pub original : List ℕ
   pub normalized : List ℕ
@@ -19,19 +16,26 @@ pub record Note : Type 0 where
   pub ends : List ℕ
   pub original-shift : ℕ
 
--- the most bytes that a text has, and that a shift and a transcript have together
+-- the note that a call is lent in five arguments
+abbrev pub lent : List ℕ → List ℕ → List ℕ → List ℕ → ℕ → Note
+lent original normalized starts ends shift =
+    record { original = original; normalized = normalized; starts = starts; ends = ends; original-shift = shift }
+
+-- the most bytes that a text has, and that a shift and a transcript have together; `LIMIT` in the code
 abbrev pub limit : ℕ
 limit = 65535
 
--- "Transcript and cleaned text have at most 65,535 bytes each; shift plus transcript length is at most 65,535."
-unfoldable pub fits : Note → Bool
-fits n = leb (length (n .original)) limit && leb (length (n .normalized)) limit && leb (n .original-shift + length (n .original)) limit
+-- both texts, and the shift and the transcript together, are within a limit
+unfoldable pub fits : ℕ → Note → Bool
+fits most n =
+    leb (length (n .original)) most && leb (length (n .normalized)) most
+    && leb (n .original-shift + length (n .original)) most
 
--- "one alignment (start, end) per cleaned byte"
+-- a start and an end for each cleaned byte
 unfoldable pub paired : Note → Bool
 paired n = eqb (length (n .starts)) (length (n .normalized)) && eqb (length (n .ends)) (length (n .normalized))
 
--- "both texts are well-formed UTF-8"
+-- both texts are UTF-8
 unfoldable pub textsFormed : Note → Bool
 textsFormed n = wellFormed (n .original) && wellFormed (n .normalized)
 
@@ -41,20 +45,22 @@ startAt n i = getD (n .starts) i 0
 abbrev pub endAt : Note → ℕ → ℕ
 endAt n i = getD (n .ends) i 0
 
--- "start ≤ end ≤ transcript length"
+-- an alignment is not reversed, and lies inside the transcript
 unfoldable pub inside : Note → ℕ → Bool
 inside n i = leb (startAt n i) (endAt n i) && leb (endAt n i) (length (n .original))
 
--- "both ends stand on transcript character boundaries"
+-- neither of its ends cuts a character of the transcript
 unfoldable pub onBoundaries : Note → ℕ → Bool
 onBoundaries n i = boundary (n .original) (startAt n i) && boundary (n .original) (endAt n i)
 
--- "all bytes of one cleaned character carry one alignment"
+-- a byte that continues a cleaned character has the alignment of the byte before it
 unfoldable pub shared : Note → ℕ → Bool
 shared n zero = true
-shared n (suc i) = not (continues (getD (n .normalized) (suc i) 0)) || (eqb (startAt n i) (startAt n (suc i)) && eqb (endAt n i) (endAt n (suc i)))
+shared n (suc i) =
+    not (continues (getD (n .normalized) (suc i) 0))
+    || (eqb (startAt n i) (startAt n (suc i)) && eqb (endAt n i) (endAt n (suc i)))
 
--- "neither starts nor ends ever go back along the text"
+-- from byte to byte neither column falls
 unfoldable pub forward : Note → ℕ → Bool
 forward n zero = true
 forward n (suc i) = leb (startAt n i) (startAt n (suc i)) && leb (endAt n i) (endAt n (suc i))
@@ -70,23 +76,8 @@ pub record Sound (n : Note) : Type 0 where
   pub has-texts : textsFormed n ≡ true
   pub has-alignments : aligned n ≡ true
 
--- which refusal conditions a lent note meets: 2, 3, 1, 4
-abbrev pub noteFaults : Note → Refusal → Bool
-noteFaults n =
-    meets TooLong (not (fits n))
-    (meets LengthMismatch (not (paired n))
-    (meets IllFormed (not (textsFormed n))
-    (meets Misaligned (not (aligned n)) none)))
-
--- the same beside another string of the call, a filler say, that may be ill-formed
-abbrev pub besideFaults : Note → Bool → Refusal → Bool
-besideFaults n torn = meets IllFormed (not (textsFormed n) || torn) (noteFaults n)
-
--- what the first three checks, 2, 3 and 1, tell, and a flag that is set only where the two texts are the same
-pub record Judged (original normalized starts ends : List ℕ) (same : Bool) : Type 0 where
-  pub short : length original ≤ limit
-  pub normalized-short : length normalized ≤ limit
-  pub starts-paired : length starts ≡ length normalized
-  pub ends-paired : length ends ≡ length normalized
-  pub formed : wellFormed normalized ≡ true
-  pub alike : same ≡ true → original ≡ normalized
+-- what a new character at a place that ends at `end` carries of a column: the number of the byte before that end, 0 at
+-- the
+-- text's beginning (RULES 10: what a filler carries)
+unfoldable pub beforeEnd : List ℕ → ℕ → ℕ
+beforeEnd column end = cond (eqb end 0) 0 (getD column (end - 1) 0)

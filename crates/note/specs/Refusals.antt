@@ -1,14 +1,28 @@
--- Document 01's refusal table and its order of checks; every call's answer is said with `verdict`.
-use Prim.Native.Nat.{ℕ}
-use mathlib.Core.Bool.{Bool, false, cond}
+-- RULES 2: the refusals, the order in which they are judged, and what a refusal leaves. Every call's answer is said
+-- with `verdict`.
+use Prim.Native.Nat.{ℕ, min}
+use mathlib.Core.Bool.{Bool, false, cond, _||_}
 use mathlib.Core.List.{List, [], _∷_}
 use lib.Dec.{eqb}
 use Rattle.buffers.specs.Splice.{overlay}
 use Rattle.note.specs.declared.Refusal.{Refusal}
-use Rattle.note.specs.declared.Refusal.the-variants.{IllFormed, TooLong, LengthMismatch, Misaligned, NotBoundary, BadScript, Exhausted, BadMatches, NoRoom, Missing, CountMismatch}
+use Rattle.note.specs.declared.Refusal.the-variants.{
+  IllFormed,
+  TooLong,
+  LengthMismatch,
+  Misaligned,
+  NotBoundary,
+  BadScript,
+  Exhausted,
+  BadMatches,
+  NoRoom,
+  Missing,
+  CountMismatch,
+}
 use Rattle.note.specs.declared.Verdict.{Verdict}
 use Rattle.note.specs.declared.Verdict.the-variants.{Accepted, Refused}
 
+-- a refusal's number
 abbrev pub numberOf : Refusal → ℕ
 numberOf IllFormed = 1
 numberOf TooLong = 2
@@ -27,7 +41,7 @@ abbrev pub answerOf : Verdict → ℕ
 answerOf Accepted = 0
 answerOf (Refused k) = numberOf k
 
--- "Checks run 2, 3, 1, 4, then 6, 8, 11, then 5, 10, 7, 9; the first met is given."
+-- the order in which conditions are judged
 abbrev pub order : List Refusal
 order =
     TooLong ∷ LengthMismatch ∷ IllFormed ∷ Misaligned
@@ -38,16 +52,25 @@ abbrev pub firstMet : List Refusal → (Refusal → Bool) → Verdict
 firstMet [] conditions = Accepted
 firstMet (k ∷ ks) conditions = cond (conditions k) (Refused k) (firstMet ks conditions)
 
--- no refusal condition is met; and the condition of one refusal, beside the others'
+-- what is said of an input, from which refusal conditions it meets: the first met, in that order
+unfoldable pub verdict : (Refusal → Bool) → Verdict
+verdict conditions = firstMet order conditions
+
+-- no condition is met
 abbrev pub none : Refusal → Bool
 none k = false
 
+-- a condition of one refusal beside others: two conditions of one refusal add up
 abbrev pub meets : Refusal → Bool → (Refusal → Bool) → Refusal → Bool
-meets k met others j = cond (eqb (numberOf k) (numberOf j)) met (others j)
+meets k met others j = cond (eqb (numberOf k) (numberOf j)) (others j || met) (others j)
 
--- what is said of an input, from which refusal conditions it meets
-unfoldable pub verdict : (Refusal → Bool) → Verdict
-verdict conditions = firstMet order conditions
+-- the conditions of two inputs together
+abbrev pub also : (Refusal → Bool) → (Refusal → Bool) → Refusal → Bool
+also f g k = f k || g k
+
+-- the room that three lent buffers have for one size
+abbrev pub least : ℕ → ℕ → ℕ → ℕ
+least a b c = min a (min b c)
 
 -- a lent buffer after the call: a refusal leaves it, and beyond the result it keeps its contents
 abbrev pub after : Verdict → List ℕ → List ℕ → List ℕ

@@ -1,15 +1,12 @@
-// The note: its referentials, the refusals of every call on it, and the check that it is sound.
-pub mod aligned;
+// The note's numbers, and the refusals of every call on it (RULES 1 and 2).
+pub mod answers;
 pub mod rewrap;
-pub mod unedited;
 
-use aligned::aligned;
 use buffers::Offset;
-use buffers::equality::same_bytes;
-use unedited::texts_formed;
 ghost use mathlib.Core.Path.{_≡_};
-ghost use Rattle.note.specs.Notes.{noteFaults, besideFaults};
-ghost use Rattle.note.specs.Refusals.{answerOf, numberOf, verdict};
+ghost use Prim.Native.Nat.{_≤_};
+ghost use lib.ListN.{length};
+ghost use Rattle.note.specs.Notes.{beforeEnd};
 
 // A byte of the transcript (Rust: an offset in the referential `Original`).
 pub struct OriginalByte(pub u32);
@@ -20,7 +17,7 @@ pub struct NormalizedByte(pub u32);
 // A character of a text, counted from 0 (Rust: `OffsetType::Char`).
 pub struct CharIndex(pub u32);
 
-// Why a call is refused: document 01's refusal table, row by row. The number and the word are the table's.
+// Why a call is refused, with its number and the word that the programs print (RULES 2).
 pub enum Refusal {
     IllFormed, // 1 torn
     TooLong, // 2 overlong
@@ -41,86 +38,17 @@ pub enum Verdict {
     Refused(Refusal),
 }
 
-// A refusal's number in document 01.
-pub fn number(k: Refusal) -> u32
-    ensures { λ r. ⌜ r ≡ numberOf k ⌝ }
-{
-    match k {
-        Refusal::IllFormed => 1,
-        Refusal::TooLong => 2,
-        Refusal::LengthMismatch => 3,
-        Refusal::Misaligned => 4,
-        Refusal::NotBoundary => 5,
-        Refusal::BadScript => 6,
-        Refusal::Exhausted => 7,
-        Refusal::BadMatches => 8,
-        Refusal::NoRoom => 9,
-        Refusal::Missing => 10,
-        Refusal::CountMismatch => 11,
-    }
-}
-
-// A verdict as one number: 0 where the call is accepted.
-pub fn answer(v: Verdict) -> u32
-    ensures { λ r. ⌜ r ≡ answerOf v ⌝ }
-{
-    match v {
-        Verdict::Accepted => 0,
-        Verdict::Refused(k) => number(k),
-    }
-}
-
 // The most bytes that a text has, and that a shift and a transcript have together.
 pub const LIMIT: usize = 65535;
 
-// Whether a lent note, beside a string of the call that may be torn, is refused: 2, 3, 1, 4, the first met.
-pub fn check_beside(
-    original: &[u8],
-    normalized: &[u8],
-    starts: &[Offset],
-    ends: &[Offset],
-    original_shift: u32,
-    torn: bool,
-) -> Verdict
-    ensures { λ r. ⌜ r ≡ verdict (besideFaults (record { original = now (original .entry); normalized = now (normalized .entry); starts = now (starts .entry); ends = now (ends .entry); original-shift = «original_shift» }) torn) ⌝ }
+// What a new character carries of a column, at a place that ends at `end`. An inner function: `end` is no further than
+// the column.
+pub fn before_end(column: &[Offset], end: usize) -> Offset
+    requires { ⌜ end ≤ length (now column) ⌝ }
+    ensures { λ r. ⌜ r ≡ beforeEnd (now (column .entry)) end ⌝ }
 {
-    if LIMIT < original.len() {
-        return Verdict::Refused(Refusal::TooLong);
+    if end == 0 {
+        return 0;
     }
-    if LIMIT < normalized.len() {
-        return Verdict::Refused(Refusal::TooLong);
-    }
-    if LIMIT - original.len() < original_shift as usize {
-        return Verdict::Refused(Refusal::TooLong);
-    }
-    if starts.len() != normalized.len() {
-        return Verdict::Refused(Refusal::LengthMismatch);
-    }
-    if ends.len() != normalized.len() {
-        return Verdict::Refused(Refusal::LengthMismatch);
-    }
-    if torn {
-        return Verdict::Refused(Refusal::IllFormed);
-    }
-    let same = same_bytes(original, normalized);
-    if !texts_formed(original, normalized, same) {
-        return Verdict::Refused(Refusal::IllFormed);
-    }
-    if !aligned(original, normalized, starts, ends, same) {
-        return Verdict::Refused(Refusal::Misaligned);
-    }
-    Verdict::Accepted
-}
-
-// Whether a lent note is refused.
-pub fn check_note(
-    original: &[u8],
-    normalized: &[u8],
-    starts: &[Offset],
-    ends: &[Offset],
-    original_shift: u32,
-) -> Verdict
-    ensures { λ r. ⌜ r ≡ verdict (noteFaults (record { original = now (original .entry); normalized = now (normalized .entry); starts = now (starts .entry); ends = now (ends .entry); original-shift = «original_shift» })) ⌝ }
-{
-    check_beside(original, normalized, starts, ends, original_shift, false)
+    column[end - 1]
 }

@@ -1,4 +1,5 @@
-// A number of one text taken for the same number of the other, on purpose: an empty range is not converted, and only there.
+// A number of one text taken for the same number of the other, on purpose: an empty range is not converted, and only
+// there.
 use crate::NormalizedByte;
 use crate::OriginalByte;
 ghost use mathlib.Core.Path.{_≡_};

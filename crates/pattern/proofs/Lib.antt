@@ -1,4 +1,4 @@
--- Laws that belong to no one function.
-pub mod Reading
-pub mod Covering
-pub mod Judging
+-- Laws of match lists.
+pub mod Entries
+pub mod Places
+pub mod Encoding

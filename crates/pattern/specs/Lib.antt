@@ -1,2 +1,4 @@
--- Match lists (document 01, Finding).
+-- Match lists (RULES 9).
+pub mod Entries
 pub mod Places
+pub mod Encoding

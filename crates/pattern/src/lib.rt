@@ -1,105 +1,103 @@
-// Match lists (document 01's place lists): the function that reads one place, and the judge of a list against a text.
+// Match lists (RULES 9): the one reader of a place, the one writer, and the judge of a list against a text.
+// No other crate knows how many bytes a place has.
+pub mod writing;
+
 use note::NormalizedByte;
+use numbers::little_endian::get_u16_le;
 use utf8::is_char_boundary;
 ghost use mathlib.Core.Path.{_≡_};
-ghost use Prim.Native.Nat.{_+_, _<_};
+ghost use Prim.Native.Nat.{_+_, _≤_};
 ghost use lib.ListN.{length};
-ghost use Rattle.pattern.specs.Places.{covers, offsetAt, placeAt, placesOf, reachOf, spans};
+ghost use Rattle.pattern.specs.Entries.{entryAt, positionAt};
+ghost use Rattle.pattern.specs.Places.{covers, fitsAt};
 
-// A place of a list, from its first byte of the cleaned text up to its end (Rust: `(Offsets, bool)`).
-pub enum Place {
-    Unmatched(NormalizedByte, NormalizedByte), // command 11
-    Matched(NormalizedByte, NormalizedByte), // command 12
-    Broken, // another command, or a cut operand
+// A place of the cleaned text, and whether the pattern matched there (Rust: `(Offsets, bool)`).
+pub struct Place {
+    pub start: NormalizedByte,
+    pub end: NormalizedByte,
+    pub matched: bool,
 }
 
-// The two-byte operand at `at`.
-fn offset_at(list: &[u8], at: usize) -> NormalizedByte
-    requires { ⌜ at + 1 < length (now list) ⌝ }
-    ensures { λ r. ⌜ r ≡ offsetAt (now (list .entry)) at ⌝ }
+// What stands at a byte of a list: a place, and where the next one begins; or an unknown command or a cut operand.
+pub enum Entry {
+    At(Place, usize),
+    Broken,
+}
+
+// The most bytes that a place has in a list.
+pub const MOST: usize = 5;
+
+// The position whose two bytes stand at `i`.
+fn position_at(list: &[u8], i: usize) -> NormalizedByte
+    requires { ⌜ i + 2 ≤ length (now list) ⌝ }
+    ensures { λ r. ⌜ r ≡ positionAt (now (list .entry)) i ⌝ }
 {
-    NormalizedByte(list[at] as u32 + list[at + 1] as u32 * 256)
+    NormalizedByte(get_u16_le(list, i) as u32)
 }
 
-// The place whose command stands at `at` in the list.
-pub fn place_at(list: &[u8], at: usize) -> Place
-    ensures { λ r. ⌜ r ≡ placeAt (now (list .entry)) at ⌝ }
+// What stands at byte `i` of the list.
+pub fn entry_at(list: &[u8], i: usize) -> Entry
+    ensures { λ r. ⌜ r ≡ entryAt (now (list .entry)) i ⌝ }
 {
     if list.len() < 5 {
-        return Place::Broken;
+        return Entry::Broken;
     }
-    if list.len() - 5 < at {
-        return Place::Broken;
+    if list.len() - 5 < i {
+        return Entry::Broken;
     }
-    let start = offset_at(list, at + 1);
-    let end = offset_at(list, at + 3);
-    if list[at] == 11 {
-        return Place::Unmatched(start, end);
+    let command = list[i];
+    if command < 11 {
+        return Entry::Broken;
     }
-    if list[at] == 12 {
-        return Place::Matched(start, end);
+    if 12 < command {
+        return Entry::Broken;
     }
-    Place::Broken
+    let start = position_at(list, i + 1);
+    let end = position_at(list, i + 3);
+    let matched = command == 12;
+    Entry::At(
+        Place {
+            start,
+            end,
+            matched,
+        },
+        i + 5,
+    )
 }
 
-// How far a list's places have come, or that one of them does not fit.
-enum Reach {
-    To(usize),
-    Unfit,
-}
-
-// Whether a place from `start` to `end` can stand behind one that ended at `at`.
-fn spans(text: &[u8], at: usize, start: NormalizedByte, end: NormalizedByte) -> bool
-    ensures { λ r. ⌜ r ≡ spans (now (text .entry)) at (start .0) (end .0) ⌝ }
+// Whether a place can stand behind one that ended at `at`.
+fn fits_at(text: &[u8], at: usize, place: Place) -> bool
+    ensures { λ r. ⌜ r ≡ fitsAt (now (text .entry)) at place ⌝ }
 {
-    let s = start.0 as usize;
-    let e = end.0 as usize;
-    if s != at {
+    let start = place.start;
+    let end = place.end;
+    if start.0 as usize != at {
         return false;
     }
-    if e < s {
+    if end.0 < start.0 {
         return false;
     }
-    is_char_boundary(text, e)
+    is_char_boundary(text, end.0 as usize)
 }
 
-// Where the place ends, if it can stand behind one that ended at `at`.
-fn reach_of(text: &[u8], at: usize, place: Place) -> Reach
-    ensures { λ r. ⌜ r ≡ reachOf (now (text .entry)) at place ⌝ }
-{
-    match place {
-        Place::Unmatched(start, end) => {
-            let to = end.0 as usize;
-            if spans(text, at, start, end) {
-                Reach::To(to)
-            } else {
-                Reach::Unfit
-            }
-        }
-        Place::Matched(start, end) => {
-            let to = end.0 as usize;
-            if spans(text, at, start, end) {
-                Reach::To(to)
-            } else {
-                Reach::Unfit
-            }
-        }
-        Place::Broken => Reach::Unfit,
-    }
-}
-
-// Whether the list covers the text (8 where it does not).
+// Whether the list covers the text.
 pub fn covers(text: &[u8], list: &[u8]) -> bool
-    ensures { λ r. ⌜ r ≡ covers (now (text .entry)) (placesOf (now (list .entry))) ⌝ }
+    ensures { λ r. ⌜ r ≡ covers (now (text .entry)) (now (list .entry)) ⌝ }
 {
     let mut at = 0;
     let mut i = 0;
     while i < list.len() {
-        match reach_of(text, at, place_at(list, i)) {
-            Reach::To(end) => at = end,
-            Reach::Unfit => return false,
+        match entry_at(list, i) {
+            Entry::At(place, next) => {
+                if !fits_at(text, at, place) {
+                    return false;
+                }
+                let end = place.end;
+                at = end.0 as usize;
+                i = next;
+            }
+            Entry::Broken => return false,
         }
-        i += 5;
     }
     at == text.len()
 }

@@ -1,5 +1,5 @@
--- Why blanking a literal does what its contract says.
-pub mod Answers
-pub mod Measuring
-pub mod Walking
-pub mod Printing
+-- Laws of blanking, and of lines.
+pub mod BlankedSize
+pub mod Redacting
+pub mod Runs
+pub mod Lines

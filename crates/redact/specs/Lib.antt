@@ -1,5 +1,5 @@
--- What blanking a literal in a fresh note means, and the runs of bytes with one alignment.
+-- Blanking a literal in a fresh text, and the alignments of a text as lines.
 pub mod Redacting
 pub mod Publishing
-pub mod Runs
+pub mod Rooms
 pub mod Lines

@@ -13,6 +13,3 @@ Counted Unread buf = Unit {0}
 pub record Within (r : Input) (before after : List ℕ) : Type 0 where
   pub counted : Counted r after
   pub same : length after ≡ length before
-
-pub bytes-within : (r : Input) (before after : List ℕ) (n : ℕ) → Within r before after → r ≡ Bytes n → n ≤ length after
-bytes-within r before after n w is = let v : Within (Bytes n) before after = rw is at w in v .counted

@@ -1,21 +1,28 @@
 // The alignments of a published text, as lines to standard output.
 use buffers::Offset;
 use libc::STDOUT_FILENO;
+use note::LIMIT;
+use redact::alignments::LINE;
 use redact::alignments::write_lines;
 ghost use mathlib.Core.Path.{_≡_};
-ghost use Prim.Native.Nat.{_≤_};
+ghost use Prim.Native.Nat.{_*_, _≤_};
 ghost use lib.ListN.{length};
+ghost use Rattle.note.specs.Notes.{limit};
+ghost use Rattle.redact.specs.Lines.{longestLine};
 
-// Zeros for 65,536 lines of 24 bytes: four numbers of five digits, each with a byte after it.
-fn lines_buffer() -> [u8; 1572864]
-    ensures { λ r. ⌜ 1572864 ≡ length r ⌝ }
+// A line for each byte of the longest text.
+const LINES: usize = LINE * LIMIT;
+
+// Zeros for so many lines.
+fn lines_buffer() -> [u8; LINES]
+    ensures { λ r. ⌜ longestLine * limit ≡ length r ⌝ }
 {
-    [0; 1572864]
+    [0; LINES]
 }
 
 // Whether all of them could be written.
 pub fn write_alignments(starts: &[Offset], ends: &[Offset]) -> bool
-    requires { ⌜ (length (now starts) ≡ length (now ends)) × (length (now starts) ≤ 65536) ⌝ }
+    requires { ⌜ (length (now starts) ≡ length (now ends)) × (length (now starts) ≤ limit) ⌝ }
 {
     let mut lines = lines_buffer();
     let size = write_lines(starts, ends, &mut lines);

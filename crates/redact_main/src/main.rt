@@ -1,5 +1,6 @@
-// redact LITERAL FILLER [alignments] < note: blanks every match of the literal in a note and publishes the text, or the
-// alignments, to standard output. A refusal publishes nothing and says on standard error what to do.
+// redact LITERAL FILLER [alignments] < note (RULES 14.1 and 14.2): blanks every match of the literal in a note and
+// publishes the text, or the alignments, to standard output. A refusal publishes nothing and says on standard error
+// what to do.
 mod input;
 mod lines;
 mod refusals;
@@ -8,10 +9,15 @@ use input::Input;
 use input::asks_alignments;
 use input::read_note;
 use lines::write_alignments;
-use redact::Redaction;
+use note::LIMIT;
+use pattern::MOST;
 use redact::redact;
 use refusals::refuse;
 use refusals::say;
+use replace::Publication;
+
+// Room for the list of any literal's matches: one place for each, one before each, and one behind the last (RULES 9.6).
+const LIST: usize = MOST * (2 * LIMIT + 1);
 
 fn usage() {
     say(
@@ -30,12 +36,12 @@ fn judge_written(written: bool) {
 
 // The note in `text`, blanked and published.
 fn publish(text: &[u8], literal: &[u8], content: &[u8], alignments: bool) {
-    let mut starts = [0; 65536];
-    let mut ends = [0; 65536];
-    let mut list = [0u8; 655360];
-    let mut out = [0u8; 65536];
-    let mut out_starts = [0; 65536];
-    let mut out_ends = [0; 65536];
+    let mut starts = [0; LIMIT];
+    let mut ends = [0; LIMIT];
+    let mut list = [0u8; LIST];
+    let mut out = [0u8; LIMIT];
+    let mut out_starts = [0; LIMIT];
+    let mut out_ends = [0; LIMIT];
     match redact(
         text,
         literal,
@@ -47,14 +53,14 @@ fn publish(text: &[u8], literal: &[u8], content: &[u8], alignments: bool) {
         &mut out_starts,
         &mut out_ends,
     ) {
-        Redaction::Published(n) => {
+        Publication::Published(n) => {
             if alignments {
                 judge_written(write_alignments(&out_starts[..n], &out_ends[..n]));
             } else {
                 judge_written(io::write_all(libc::STDOUT_FILENO, &out[..n]));
             }
         }
-        Redaction::Refused(k) => refuse(k, text, literal),
+        Publication::Refused(k) => refuse(k, text, literal),
     }
 }
 
@@ -86,8 +92,12 @@ fn main() {
     let mut content = io::buffer();
     let filler_size = os::arg(2, &mut content);
     if os::errno() != 0 {
-        say(b"redact: the content has more than 4,096 bytes; take a shorter one\n");
+        say(b"redact: the filler has more than 4,096 bytes; take a shorter one\n");
         return;
     }
-    run(&literal[..literal_size], &content[..filler_size], alignments);
+    run(
+        &literal[..literal_size],
+        &content[..filler_size],
+        alignments,
+    );
 }

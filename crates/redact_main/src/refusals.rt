@@ -1,4 +1,4 @@
-// What the program says on standard error. The numbers and words are document 01's.
+// What the program says on standard error. The numbers and words are those of RULES 2.
 use note::Refusal;
 use validity::well_formed;
 
@@ -7,7 +7,7 @@ pub fn say(line: &[u8]) {
 }
 
 // Which of the three is not UTF-8.
-fn refuse_torn(text: &[u8], literal: &[u8]) {
+fn refuse_ill_formed(text: &[u8], literal: &[u8]) {
     if !well_formed(text) {
         say(b"refused 1 torn: the note is not UTF-8; save it as UTF-8\n");
         return;
@@ -16,13 +16,14 @@ fn refuse_torn(text: &[u8], literal: &[u8]) {
         say(b"refused 1 torn: the literal is not UTF-8; type it in a UTF-8 terminal\n");
         return;
     }
-    say(b"refused 1 torn: the content is not UTF-8; type it in a UTF-8 terminal\n");
+    say(b"refused 1 torn: the filler is not UTF-8; type it in a UTF-8 terminal\n");
 }
 
-// Why nothing is published, and what to do. A note of standard input meets 1, 2 or 9; the other words complete the table.
+// Why nothing is published, and what to do. A note of standard input meets `IllFormed`, `TooLong` or `NoRoom`; the
+// other words complete the table.
 pub fn refuse(k: Refusal, text: &[u8], literal: &[u8]) {
     match k {
-        Refusal::IllFormed => refuse_torn(text, literal),
+        Refusal::IllFormed => refuse_ill_formed(text, literal),
         Refusal::TooLong => say(
             b"refused 2 overlong: the note has more than 65,535 bytes; split it\n",
         ),
@@ -35,7 +36,7 @@ pub fn refuse(k: Refusal, text: &[u8], literal: &[u8]) {
         Refusal::Exhausted => say(b"refused 7 nothing left\n"),
         Refusal::BadMatches => say(b"refused 8 broken list\n"),
         Refusal::NoRoom => say(
-            b"refused 9 no room: the published text would have more than 65,535 bytes; take a shorter content or split the note\n",
+            b"refused 9 no room: the published text would have more than 65,535 bytes; take a shorter filler or split the note\n",
         ),
         Refusal::Missing => say(b"refused 10 nothing there\n"),
         Refusal::CountMismatch => say(b"refused 11 miscounted\n"),

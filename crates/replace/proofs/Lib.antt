@@ -1,4 +1,7 @@
--- Laws that belong to no one function.
+-- Laws of replacing.
 pub mod Sizes
-pub mod Places
-pub mod Answers
+pub mod Laid
+pub mod Columns
+pub mod Blanking
+pub mod Replaced
+pub mod Faults

@@ -1,6 +1,5 @@
--- Replacing (document 01), and what a reader of the published note can still tell (demand 3).
+-- Replacing, and what can be told of what was replaced (RULES 10).
 pub mod Replacing
-pub mod Writing
-pub mod Columns
 pub mod Blanking
-pub mod ReplaceSound
+pub mod Sizes
+pub mod Laying

@@ -1,48 +1,43 @@
--- Document 01, Replacing: what a list and a filler make of a note, when that is refused, and the call.
--- Rust: `NormalizedString::replace`, which calls the filler `content`.
-use Prim.Native.Nat.{ℕ, _-_}
+-- RULES 10: what a list and a content, the filler, make of a note, when that is refused, and the call (Rust:
+-- `NormalizedString::replace`).
+use Prim.Native.Nat.{ℕ, min}
 use mathlib.Core.Path.{_≡_}
-use mathlib.Core.Bool.{Bool, cond, _&&_, not}
+use mathlib.Core.Bool.{Bool, true, cond}
 use mathlib.Core.List.{List, [], _∷_, _++_}
-use lib.Dec.{leb, eqb}
-use lib.ListN.{length, getD, replicate}
+use lib.ListN.{length, replicate}
 use Rattle.buffers.specs.Splice.{part}
-use Rattle.utf8.specs.Formed.{wellFormed}
 use Rattle.note.specs.declared.Refusal.{Refusal}
-use Rattle.note.specs.declared.Refusal.the-variants.{BadMatches, NoRoom}
 use Rattle.note.specs.declared.Verdict.{Verdict}
-use Rattle.note.specs.Refusals.{meets, verdict, after}
-use Rattle.note.specs.Notes.{Note, limit, besideFaults}
+use Rattle.note.specs.declared.Verdict.the-variants.{Accepted, Refused as Rejected}
+use Rattle.note.specs.Refusals.{least, also, verdict, after}
+use Rattle.note.specs.Notes.{Note, lent, fits, beforeEnd, Sound}
+use Rattle.note.specs.Faults.{noteFaults, stringFaults, roomFaults}
 use Rattle.pattern.specs.declared.Place.{Place}
-use Rattle.pattern.specs.declared.Place.the-variants.{Unmatched, Matched, Broken}
-use Rattle.pattern.specs.Places.{placesOf, covers}
+use Rattle.pattern.specs.Entries.{placesOf}
+use Rattle.pattern.specs.Places.{listFaults}
+use Rattle.replace.specs.declared.Publication.{Publication}
+use Rattle.replace.specs.declared.Publication.the-variants.{Published, Refused}
 
 -- what one place gives: an unmatched one its elements of xs, a matched one what `fill` has for its end
 unfoldable pub piece : (ℕ → List ℕ) → Place → List ℕ → List ℕ
-piece fill (Unmatched start end) xs = part xs (start .0) (end .0)
-piece fill (Matched start end) xs = fill (end .0)
-piece fill Broken xs = []
+piece fill p xs = cond (p .matched) (fill (p .end .0)) (part xs (p .start .0) (p .end .0))
 
--- "In the list's order, an unmatched place gives its bytes with their alignments, a matched one the filler"
+-- what all places give, one behind the other
 unfoldable pub laid : (ℕ → List ℕ) → List Place → List ℕ → List ℕ
 laid fill [] xs = []
 laid fill (p ∷ ps) xs = piece fill p xs ++ laid fill ps xs
 
--- what a column has for the byte before an end, 0 if that end is 0
-unfoldable pub beforeEnd : List ℕ → ℕ → ℕ
-beforeEnd xs end = cond (eqb end 0) 0 (getD xs (end - 1) 0)
-
--- "each filler byte carries the alignment of the note's byte before its place's end, (0,0) if that end is 0"
+-- each byte of the content carries the alignment of the byte before its place's end
 abbrev pub carried : ℕ → List ℕ → ℕ → List ℕ
 carried count xs end = replicate count (beforeEnd xs end)
 
--- "Published is the result's cleaned text and alignments, no shift."
-pub record Published : Type 0 where
+-- a published note: text and alignments, no transcript and no shift
+pub record PublishedNote : Type 0 where
   pub text : List ℕ
   pub starts : List ℕ
   pub ends : List ℕ
 
-unfoldable pub replaced : List Place → List ℕ → Note → Published
+unfoldable pub replaced : List Place → List ℕ → Note → PublishedNote
 replaced ps content n =
     record {
       text = laid (λ end. content) ps (n .normalized);
@@ -50,21 +45,37 @@ replaced ps content n =
       ends = laid (carried (length content) (n .ends)) ps (n .ends);
     }
 
--- 9: "the result exceeds a lent buffer, or its cleaned text 65,535 bytes"
-unfoldable pub hasRoom : Published → ℕ → ℕ → ℕ → Bool
-hasRoom p roomT roomS roomE =
-    leb (length (p .text)) limit && leb (length (p .text)) roomT && leb (length (p .starts)) roomS && leb (length (p .ends)) roomE
+-- the refusals: the note's and the content's, then the list's and the room's
+abbrev pub replaceFaults : ℕ → Note → List ℕ → List ℕ → ℕ → Refusal → Bool
+replaceFaults most n list content room =
+    also (also (noteFaults most n) (stringFaults content))
+    (also (listFaults (n .normalized) list)
+    (roomFaults (length (replaced (placesOf list) content n .text)) (min most room)))
 
--- the refusals: those of a note, 1 also of the filler, 8, 9
-abbrev pub replaceFaults : Note → List ℕ → List ℕ → ℕ → ℕ → ℕ → Refusal → Bool
-replaceFaults n list content roomT roomS roomE =
-    meets BadMatches (not (covers (n .normalized) (placesOf list)))
-    (meets NoRoom (not (hasRoom (replaced (placesOf list) content n) roomT roomS roomE))
-    (besideFaults n (not (wellFormed content))))
+-- the answer: how many bytes are published, or the refusal
+abbrev pub publication : Verdict → ℕ → Publication
+publication Accepted size = Published size
+publication (Rejected k) size = Refused k
 
--- the call: note, list and filler, the lent buffers before, the answer, the lent buffers after
-pub record Replacing (n : Note) (list content out₀ starts₀ ends₀ : List ℕ) (r : Verdict) (out starts ends : List ℕ) : Type 0 where
-  pub answer : r ≡ verdict (replaceFaults n list content (length out₀) (length starts₀) (length ends₀))
-  pub text-is : out ≡ after r (replaced (placesOf list) content n .text) out₀
-  pub starts-are : starts ≡ after r (replaced (placesOf list) content n .starts) starts₀
-  pub ends-are : ends ≡ after r (replaced (placesOf list) content n .ends) ends₀
+-- THE CALL: limit, note, list and content, the lent buffers before, the answer, the lent buffers after
+pub record Replacing (most : ℕ) (n : Note) (list content out₀ starts₀ ends₀ : List ℕ) (r : Publication)
+    (out starts ends : List ℕ) : Type 0 where
+  pub says : Verdict
+  pub says-is :
+      says ≡ verdict (replaceFaults most n list content (least (length out₀) (length starts₀) (length ends₀)))
+  pub answer : r ≡ publication says (length (replaced (placesOf list) content n .text))
+  pub text-is : out ≡ after says (replaced (placesOf list) content n .text) out₀
+  pub starts-are : starts ≡ after says (replaced (placesOf list) content n .starts) starts₀
+  pub ends-are : ends ≡ after says (replaced (placesOf list) content n .ends) ends₀
+
+-- the note that a replacement leaves: the transcript and the shift stay
+abbrev pub resulting : Note → PublishedNote → Note
+resulting n p = lent (n .original) (p .text) (p .starts) (p .ends) (n .original-shift)
+
+-- CLAIM: an accepted replacement leaves a sound note, and one within the limit.
+abbrev pub ReplacedSound : Type 0
+ReplacedSound =
+    (most : ℕ) (n : Note) (list content : List ℕ) (room : ℕ)
+    → verdict (replaceFaults most n list content room) ≡ Accepted
+    → Sound (resulting n (replaced (placesOf list) content n))
+    × (fits most (resulting n (replaced (placesOf list) content n)) ≡ true)

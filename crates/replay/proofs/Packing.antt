@@ -9,10 +9,11 @@ use lib.ListN.{length, take, drop, length-append, length-drop}
 use lib.Seq.{take-all}
 use borrow.Author.Tests.{le-leb, lt-leb}
 use Rattle.buffers.specs.Splice.{splice}
+use Rattle.buffers.proofs.Splice.{length-splice}
 use Rattle.replay.specs.Framing.{numberOf, fieldOf}
 use Rattle.replay.specs.Packing.{Laid, times, laid, parts, unpacked}
 use Rattle.replay.proofs.Framing.{drop-min}
-use Rattle.replay.proofs.Splice.{length-splice, Laying, none-laid, piece-laid, all-laid}
+use Rattle.replay.proofs.Splice.{Laying, none-laid, piece-laid, all-laid}
 
 -- a unit that fits, one that does not, and none
 times-more : (n : ℕ) (unit : List ℕ) (room : ℕ) → length unit ≤ room → times (suc n) unit room ≡ unit ++ times n unit (room - length unit)

@@ -1,5 +1,4 @@
--- Laws of `splice`: nothing, one piece before the rest; and a run that is being laid piece by piece: none yet, one
--- more, all of it.
+-- A run that is laid into a buffer from any place on, piece by piece: none yet, one more, all of it.
 use Prim.Native.Nat.{ℕ, suc, _+_, _≤_, _<_, min}
 use mathlib.Core.Path.{_≡_, _∙_, ap, refl, sym}
 use mathlib.Core.List.{List, [], _∷_, _++_, append-assoc, append-nil}
@@ -10,23 +9,9 @@ use native.Mathlib.Omega.{arith}
 use lib.ListN.{length, take, drop, set, length-append, length-take, length-drop, length-set, take-append-drop}
 use lib.Seq.{take-at, drop-at, drop-drop, length-take-le, set-split, append-snoc, take-all}
 use Rattle.buffers.specs.Splice.{splice}
+use Rattle.buffers.proofs.Splice.{splice-nil, length-splice, splice-splice}
 use Rattle.io.specs.Counts.{Counts}
 use Rattle.replay.specs.Packing.{Laid}
-
-pub splice-nil : (d : List ℕ) (at : ℕ) → splice d at [] ≡ d
-unfolding splice
-splice-nil d at = let here : at + 0 ≡ at = omega arith in rw (here, append-nil (take at d)) (take-append-drop at d)
-
-pub length-splice : (d : List ℕ) (at : ℕ) (r : List ℕ) → at + length r ≤ length d → length (splice d at r) ≡ length d
-unfolding splice
-length-splice d at r h = simp (length-append, length-take, length-drop) (omega arith)
-
-pub splice-append : (d : List ℕ) (at : ℕ) (u x : List ℕ) → at + length u ≤ length d → splice (splice d at u) (at + length u) x ≡ splice d at (u ++ x)
-unfolding splice
-splice-append d at u x h =
-    let front : length (take at d ++ u) ≡ at + length u = length-append (take at d) u ∙ rw (length-take-le at d (omega arith)) in
-    let end : at + length (u ++ x) ≡ (at + length u) + length x = rw length-append (omega arith) in
-    rw (take-at (take at d ++ u) (drop (at + length u) d) (at + length u) front, ← drop-drop (length x) (at + length u) ((take at d ++ u) ++ drop (at + length u) d), drop-at (take at d ++ u) (drop (at + length u) d) (at + length u) front, drop-drop (length x) (at + length u) d, end, append-assoc (take at d) u x)
 
 -- of `whole`, all but `left` stands in d up to `end`
 pub record Laying (whole d₀ : List ℕ) (at : ℕ) (left d : List ℕ) (end : ℕ) : Type 0 where
@@ -44,7 +29,7 @@ piece-laid {whole} {d₀} {at} {left} {d} {end} l piece after d₁ end₁ is her
     let fits : end + length piece ≤ length d = omega (arith, l .room) in
     let all : length d₁ ≡ length d = ap length here ∙ length-splice d end piece fits in
     record {
-      so-far = rw (here, next, splice-append d end piece after fits, ← is) (l .so-far);
+      so-far = rw (here, next, splice-splice d piece after end (omega (arith, l .room)), ← is) (l .so-far);
       ends = omega (arith, l .ends);
       room = omega (arith, l .room);
       same = all ∙ l .same;

@@ -8,10 +8,10 @@ use crate::fields::is_number;
 use crate::fields::is_text;
 use crate::fields::value;
 use buffers::Offset;
-use zulmyren::zulmyren_find_matches;
-use zulmyren::zulmyren_published_alike;
-use zulmyren::zulmyren_redact;
-use zulmyren::zulmyren_replace;
+use zulmyren::matches::zulmyren_find_matches;
+use zulmyren::matches::zulmyren_published_alike;
+use zulmyren::matches::zulmyren_redact;
+use zulmyren::matches::zulmyren_replace;
 
 fn found(case: &[u8], out: &mut [u8]) -> bool {
     let answer = zulmyren_find_matches(field(case, 0), field(case, 1), out);
@@ -95,7 +95,7 @@ fn compared(
         field(case, 10),
         field(case, 11),
     );
-    is_number(case, 12, answer.refusal) & is_number(case, 13, answer.count)
+    is_number(case, 12, answer.refusal) & is_number(case, 13, answer.alike as u32)
 }
 
 // A note, another note, a list, a content; the refusal, 1 where both are published alike.

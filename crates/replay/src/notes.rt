@@ -12,8 +12,8 @@ use crate::ranges::convert_offsets;
 use crate::ranges::get_range;
 use crate::ranges::get_range_original;
 use buffers::Offset;
-use zulmyren::zulmyren_check_note;
-use zulmyren::zulmyren_from_text;
+use zulmyren::notes::zulmyren_check_note;
+use zulmyren::notes::zulmyren_from_text;
 
 // A note; the refusal.
 fn check_note(case: &[u8], starts: &[Offset], ends: &[Offset]) -> bool {

@@ -10,12 +10,12 @@ use convert::Range;
 use get_range::part_of;
 use note::NormalizedByte;
 use note::OriginalByte;
-use zulmyren::Offsets;
-use zulmyren::zulmyren_convert_all;
-use zulmyren::zulmyren_convert_offsets;
-use zulmyren::zulmyren_get_range;
-use zulmyren::zulmyren_get_range_original;
-use zulmyren::zulmyren_part_verdict;
+use zulmyren::answers::Offsets;
+use zulmyren::ranges::zulmyren_convert_all;
+use zulmyren::ranges::zulmyren_convert_offsets;
+use zulmyren::ranges::zulmyren_get_range;
+use zulmyren::ranges::zulmyren_get_range_original;
+use zulmyren::ranges::zulmyren_part_verdict;
 
 // The refusal, start, end.
 fn is_range(case: &[u8], answer: Offsets) -> bool {

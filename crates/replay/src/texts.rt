@@ -3,10 +3,10 @@ use crate::columns::are_pairs;
 use crate::fields::field;
 use crate::fields::is_number;
 use crate::fields::value;
-use zulmyren::zulmyren_char_offsets;
-use zulmyren::zulmyren_char_offsets_all;
-use zulmyren::zulmyren_letter_count;
-use zulmyren::zulmyren_well_formed;
+use zulmyren::texts::zulmyren_char_offsets;
+use zulmyren::texts::zulmyren_char_offsets_all;
+use zulmyren::texts::zulmyren_letter_count;
+use zulmyren::texts::zulmyren_well_formed;
 
 // A text; 1 where it is well-formed, 0 where it is not.
 pub fn well_formed(case: &[u8]) -> bool {

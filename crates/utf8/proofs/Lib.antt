@@ -1,4 +1,7 @@
 -- Laws that belong to no one function.
+pub mod Formed
+pub mod Table
 pub mod Boundaries
-pub mod Counting
-pub mod Scalars
+pub mod Letters
+pub mod Scalar
+pub mod Lengths

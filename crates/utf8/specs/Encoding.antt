@@ -1,4 +1,4 @@
--- What `encode_utf8` answers: a scalar value's bytes at the front of four, the others 0, and no byte of any other number.
+-- What `encode_utf8` answers: a scalar value's bytes at the front of four, the others 0; of any other number none.
 use Prim.Native.Nat.{ℕ}
 use mathlib.Core.Path.{_≡_}
 use lib.ListN.{length, replicate}

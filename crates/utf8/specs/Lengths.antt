@@ -1,16 +1,12 @@
 -- The table of what each of the 256 bytes announces as a lead byte, and the length of a character read off it.
 use Prim.Native.Nat.{ℕ, _+_, _≤_, _<_}
-use mathlib.Core.Path.{_≡_, refl}
-use mathlib.Core.Bool.{Bool, true}
+use mathlib.Core.Path.{_≡_}
+use mathlib.Core.Bool.{true}
 use mathlib.Core.List.{List, _++_}
-use lib.Dec.{eqb}
 use lib.ListN.{length, getD, replicate}
-use borrow.Author.Tests.{eqb-true}
-use Rattle.buffers.specs.Every.{everyBelow}
-use Rattle.buffers.proofs.Every.{every-at}
 use Rattle.utf8.specs.Formed.{announced, wellFormed, boundary}
 
--- document 01, Characters: a constant table of 256 entries
+-- RULES 3: a constant table of 256 entries
 unfoldable pub lengthTable : List ℕ
 lengthTable =
     replicate 0x80 1  -- 00..7F
@@ -20,13 +16,9 @@ lengthTable =
     ++ (replicate 0x05 4  -- F0..F4
     ++ replicate 0x0B 0))))  -- F5..FF
 
-right : ℕ → Bool
-right b = eqb (getD lengthTable b 0) (announced b)
-
--- its rule, computed at every entry
-pub getD-lengthTable : (b : ℕ) → b < 256 → getD lengthTable b 0 ≡ announced b
-unfolding everyBelow right lengthTable announced
-getD-lengthTable b h = eqb-true (getD lengthTable b 0) (announced b) (every-at 256 right refl b h)
+-- CLAIM: the table has for each byte the number that it announces
+abbrev pub LengthTableRight : Type 0
+LengthTableRight = (b : ℕ) → b < 256 → getD lengthTable b 0 ≡ announced b
 
 -- what a length is read of: a character of a well-formed text, and the table
 pub record CharBegins (s : List ℕ) (i : ℕ) (table : List ℕ) : Type 0 where

@@ -1,10 +1,12 @@
--- Letter count (document 01, Characters): each character counts as one letter.
+-- Letter count (RULES 3): each character counts as one letter.
 use Prim.Native.Nat.{ℕ, zero, suc, _+_, _-_}
-use mathlib.Core.Bool.{cond}
+use mathlib.Core.Path.{_≡_}
+use mathlib.Core.Bool.{true, cond}
 use mathlib.Core.List.{List, [], _∷_}
-use Rattle.utf8.specs.Formed.{announced, continues}
+use Rattle.utf8.specs.Formed.{announced, continues, wellFormed}
 
--- the letters from a place on that is k bytes before the next character: each lead byte is one, and what it announces is passed over
+-- the letters from a place on that is k bytes before the next character:
+-- each lead byte is one, and what it announces is passed over
 unfoldable pub lettersFrom : ℕ → List ℕ → ℕ
 lettersFrom k [] = 0
 lettersFrom zero (b ∷ s) = suc (lettersFrom (announced b - 1) s)
@@ -21,3 +23,7 @@ leadAt b = cond (continues b) 0 1
 unfoldable pub leads : List ℕ → ℕ
 leads [] = 0
 leads (b ∷ s) = leadAt b + leads s
+
+-- CLAIM: a well-formed text has as many letters as bytes that do not continue a character
+abbrev pub LettersLeads : Type 0
+LettersLeads = (s : List ℕ) → wellFormed s ≡ true → letters s ≡ leads s

@@ -1,8 +1,7 @@
--- Characters: what the Standard calls well-formed UTF-8, and what document 01 asks of characters.
+-- Characters: what the Standard calls well-formed UTF-8, and what RULES 3 says of characters.
 pub mod Table
 pub mod Formed
-pub mod Letters
-pub mod Scalar
-pub mod Agree
-pub mod Encoding
 pub mod Lengths
+pub mod Scalar
+pub mod Encoding
+pub mod Letters

@@ -1,8 +1,10 @@
 -- A scalar value and its bytes (the Unicode Standard, D76 and Table 3-6).
 use Prim.Native.Nat.{ℕ, _+_, _/_, _%_}
-use mathlib.Core.Bool.{Bool, cond, _&&_, not}
+use mathlib.Core.Path.{_≡_}
+use mathlib.Core.Bool.{Bool, true, cond, _&&_, not}
 use mathlib.Core.List.{List, [], _∷_}
 use lib.Dec.{leb, ltb}
+use Rattle.utf8.specs.Table.{rows, ofSome}
 
 -- up to U+10FFFF, surrogates excepted
 unfoldable pub scalar : ℕ → Bool
@@ -22,3 +24,11 @@ encoded c =
 -- the bytes of a scalar value, and none of any other number
 unfoldable pub bytesOf : ℕ → List ℕ
 bytesOf c = cond (scalar c) (encoded c) []
+
+-- CLAIM: the bytes of a scalar value are one sequence of Table 3-7
+abbrev pub ScalarSequence : Type 0
+ScalarSequence = (c : ℕ) → scalar c ≡ true → ofSome rows (bytesOf c) ≡ true
+
+-- CLAIM: two scalar values with the same bytes are the same
+abbrev pub ScalarDistinct : Type 0
+ScalarDistinct = (c d : ℕ) → scalar c ≡ true → scalar d ≡ true → bytesOf c ≡ bytesOf d → c ≡ d

@@ -40,7 +40,7 @@ unfoldable pub ofSome : List (List Bytes) → List ℕ → Bool
 ofSome [] s = false
 ofSome (r ∷ rs) s = ofRow r s || ofSome rs s
 
--- a text is well-formed when it is a run of sequences, each of one row (01's "torn" is a text that is not)
+-- RULES 3: a text is well-formed when it is a run of sequences, each of one row
 pub data WellFormed : List ℕ → Type 0 where
   none : WellFormed []
   next : (s t : List ℕ) → ofSome rows s ≡ true → WellFormed t → WellFormed (s ++ t)

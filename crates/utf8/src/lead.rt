@@ -4,7 +4,7 @@ ghost use mathlib.Core.Path.{_≡_};
 ghost use Rattle.utf8.specs.Formed.{announced};
 ghost use Rattle.utf8.specs.Lengths.{lengthTable, CharBegins, CharLen};
 
-// Document 01, Characters: the number of bytes that a lead byte announces, or 0.
+// RULES 3: the number of bytes that a lead byte announces, or 0.
 pub const LENGTHS: [u8; 256] = [
     1, // 00..7F
     1,
@@ -278,7 +278,8 @@ pub fn announced_length(table: &[u8; 256], b: u8) -> u8
     table[b as usize]
 }
 
-// The length of the character that begins at `i`. An inner function: its callers have found the text well-formed and `i` a boundary in it.
+// The length of the character that begins at `i`.
+// An inner function: its callers have found the text well-formed and `i` a boundary in it.
 pub fn char_len(s: &[u8], i: usize, table: &[u8; 256]) -> usize
     requires { ⌜ CharBegins (now s) i (now table) ⌝ }
     ensures { λ r. ⌜ CharLen (now (s .entry)) i r ⌝ }

@@ -7,14 +7,14 @@ ghost use Rattle.utf8.specs.Encoding.{EncodedAs};
 ghost use Rattle.utf8.specs.Formed.{boundary, continues};
 ghost use Rattle.utf8.specs.Scalar.{scalar};
 
-// Whether a byte continues a character.
+// Whether a byte continues a character (RULES 3).
 pub fn continues(b: u8) -> bool
     ensures { λ r. ⌜ r ≡ continues b ⌝ }
 {
     (0x80 <= b) & (b <= 0xBF)
 }
 
-// Whether a character begins at `i`, or the text ends there.
+// Whether a character begins at `i`, or the text ends there (RULES 3; Rust: `str::is_char_boundary`).
 pub fn is_char_boundary(s: &[u8], i: usize) -> bool
     ensures { λ r. ⌜ r ≡ boundary (now (s .entry)) i ⌝ }
 {
@@ -31,7 +31,8 @@ fn is_scalar(c: u32) -> bool
     (c <= 0x10FFFF) & !((0xD800 <= c) & (c <= 0xDFFF))
 }
 
-// A scalar value's bytes: the first `len` of `bytes`, the rest 0. A number that is no scalar value has none.
+// A scalar value's bytes (the Unicode Standard, Table 3-6): the first `len` of `bytes`, the rest 0.
+// A number that is no scalar value has none.
 pub struct Encoded {
     pub len: usize,
     pub bytes: [u8; 4],

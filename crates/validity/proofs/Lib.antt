@@ -1,4 +1,4 @@
 -- Laws that belong to no one function.
-pub mod FastForm
-pub mod Padding
+pub mod Wanted
+pub mod ValidAt
 pub mod Ascii

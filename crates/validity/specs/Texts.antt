@@ -1,24 +1,17 @@
--- What is told of a whole text by its bytes: whether it is ASCII, and its windows, of which the first three begin before it.
-use Prim.Native.Nat.{ℕ, _+_}
-use mathlib.Core.Bool.{Bool}
-use mathlib.Core.List.{List, _∷_}
+-- What is told of a whole text by its bytes: whether it is ASCII.
+use Prim.Native.Nat.{ℕ}
+use mathlib.Core.Path.{_≡_}
+use mathlib.Core.Bool.{Bool, true}
+use mathlib.Core.List.{List}
 use lib.Dec.{ltb}
-use lib.ListN.{length, getD, drop}
+use lib.ListN.{length, getD}
 use Rattle.buffers.specs.Every.{everyBelow}
-use Rattle.validity_blocks.specs.Windows.{calm}
+use Rattle.utf8.specs.Formed.{wellFormed}
 
--- every byte is below 80
+-- RULES 3: every byte is below 80
 unfoldable pub ascii : List ℕ → Bool
 ascii s = everyBelow (length s) (λ i. ltb (getD s i 0) 0x80)
 
--- the text after three bytes 0; past its end are bytes 0 too
-unfoldable pub paddedAt : List ℕ → ℕ → ℕ
-paddedAt s k = getD (0 ∷ 0 ∷ 0 ∷ s) k 0
-
--- the window that ends at i in the text
-unfoldable pub calmAt : List ℕ → ℕ → Bool
-calmAt s i = calm (drop i (0 ∷ 0 ∷ 0 ∷ s))
-
--- the n windows from there on
-unfoldable pub calmFrom : List ℕ → ℕ → ℕ → Bool
-calmFrom s i n = everyBelow n (λ j. calmAt s (i + j))
+-- CLAIM: a text of bytes below 80 is well-formed
+abbrev pub AsciiFormed : Type 0
+AsciiFormed = (s : List ℕ) → ascii s ≡ true → wellFormed s ≡ true

@@ -1,15 +1,16 @@
 // Whether a text is well-formed UTF-8, judged in blocks: each byte by itself and the three before it.
-use validity_blocks::blocks::block_formed;
-use validity_blocks::blocks::calm_four;
+use validity_blocks::blocks::valid_block;
+use validity_blocks::blocks::valid_four;
+use validity_blocks::bytes::invalid;
 use validity_blocks::extremes::largest;
-use validity_blocks::faults::faulty;
 ghost use mathlib.Core.Path.{_≡_};
 ghost use Prim.Native.Nat.{_+_, _-_, _≤_, _<_};
 ghost use lib.ListN.{length};
 ghost use Rattle.utf8.specs.Formed.{wellFormed};
-ghost use Rattle.validity.specs.Texts.{ascii, paddedAt, calmAt, calmFrom};
+ghost use Rattle.validity.specs.Texts.{ascii};
+ghost use Rattle.validity.specs.ValidAt.{paddedAt, validAt, validFrom};
 
-// Whether every byte is below 80 (Rust: `<[u8]>::is_ascii`).
+// Whether every byte is below 80 (RULES 3; Rust: `<[u8]>::is_ascii`).
 pub fn is_ascii(s: &[u8]) -> bool
     ensures { λ r. ⌜ r ≡ ascii (now (s .entry)) ⌝ }
 {
@@ -38,11 +39,11 @@ fn padded_at(s: &[u8], k: usize) -> u8
 }
 
 // Whether the byte at `i`, or the end of the text there, can stand after the three bytes before it.
-fn calm_at(s: &[u8], i: usize) -> bool
+fn valid_at(s: &[u8], i: usize) -> bool
     requires { ⌜ i < length (now s) + 3 ⌝ }
-    ensures { λ r. ⌜ r ≡ calmAt (now (s .entry)) i ⌝ }
+    ensures { λ r. ⌜ r ≡ validAt (now (s .entry)) i ⌝ }
 {
-    !faulty(
+    !invalid(
         padded_at(s, i),
         padded_at(s, i + 1),
         padded_at(s, i + 2),
@@ -51,13 +52,13 @@ fn calm_at(s: &[u8], i: usize) -> bool
 }
 
 // The same at each place from `from` up to `to`: for the first three bytes and the end.
-fn calm_between(s: &[u8], from: usize, to: usize) -> bool
+fn valid_between(s: &[u8], from: usize, to: usize) -> bool
     requires { ⌜ (from ≤ to) × (to ≤ length (now s) + 3) ⌝ }
-    ensures { λ r. ⌜ r ≡ calmFrom (now (s .entry)) from (to - from) ⌝ }
+    ensures { λ r. ⌜ r ≡ validFrom (now (s .entry)) from (to - from) ⌝ }
 {
     let mut i = from;
     while i < to {
-        if !calm_at(s, i) {
+        if !valid_at(s, i) {
             return false;
         }
         i += 1;
@@ -66,35 +67,35 @@ fn calm_between(s: &[u8], from: usize, to: usize) -> bool
 }
 
 // The same at each place from `i` on: the bytes that are left as one block, then the end.
-fn calm_rest(s: &[u8], i: usize) -> bool
+fn valid_rest(s: &[u8], i: usize) -> bool
     requires { ⌜ (3 ≤ i) × (i ≤ length (now s) + 3) ⌝ }
-    ensures { λ r. ⌜ r ≡ calmFrom (now (s .entry)) i (length (now (s .entry)) + 3 - i) ⌝ }
+    ensures { λ r. ⌜ r ≡ validFrom (now (s .entry)) i (length (now (s .entry)) + 3 - i) ⌝ }
 {
     if s.len() <= i {
-        return calm_between(s, i, s.len() + 3);
+        return valid_between(s, i, s.len() + 3);
     }
-    if !calm_four(&s[i - 3..]) {
+    if !valid_four(&s[i - 3..]) {
         return false;
     }
-    calm_between(s, s.len(), s.len() + 3)
+    valid_between(s, s.len(), s.len() + 3)
 }
 
-// Whether the text is well-formed UTF-8 (Table 3-7).
+// Whether the text is well-formed UTF-8 (RULES 3; Table 3-7 of the Unicode Standard).
 pub fn well_formed(s: &[u8]) -> bool
     ensures { λ r. ⌜ r ≡ wellFormed (now (s .entry)) ⌝ }
 {
     if is_ascii(s) {
         return true;
     }
-    if !calm_between(s, 0, 3) {
+    if !valid_between(s, 0, 3) {
         return false;
     }
     let mut i = 3;
     while i + 128 <= s.len() {
-        if !block_formed(&s[i - 3..i + 128]) {
+        if !valid_block(&s[i - 3..i + 128]) {
             return false;
         }
         i += 128;
     }
-    calm_rest(s, i)
+    valid_rest(s, i)
 }

@@ -1,4 +1,5 @@
 -- Laws that belong to no one function.
-pub mod Calmness
-pub mod Bounds
-pub mod Tiers
+pub mod Largest
+pub mod LeastLead
+pub mod Invalid
+pub mod Valid

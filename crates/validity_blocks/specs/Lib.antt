@@ -1,2 +1,3 @@
 -- The fast form of well-formed UTF-8: a byte and the three before it.
-pub mod Windows
+pub mod Extremes
+pub mod Valid

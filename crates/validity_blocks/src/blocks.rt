@@ -1,100 +1,105 @@
-// A block of the text is judged at once, by the test that its largest byte asks for: the fewer kinds of characters, the shorter.
-// Each function here is an inner one: a block begins with the three bytes before it.
+// A block of the text is judged at once, by the test that its largest byte asks for: the fewer kinds of characters,
+// the shorter. Each function is an inner one: a block begins with the three bytes before it.
+use crate::bytes::invalid;
+use crate::bytes::invalid_plain;
+use crate::bytes::invalid_three;
+use crate::bytes::invalid_two;
 use crate::extremes::largest;
 use crate::extremes::least_lead;
 use crate::extremes::max;
-use crate::faults::faulty;
-use crate::faults::faulty_plain;
-use crate::faults::faulty_three;
-use crate::faults::faulty_two;
 ghost use mathlib.Core.Path.{_≡_};
 ghost use Prim.Native.Nat.{_-_, _≤_, _<_};
 ghost use lib.ListN.{length};
-ghost use Rattle.validity_blocks.specs.Windows.{calmFirst, largest, leastLead};
+ghost use Rattle.validity_blocks.specs.Extremes.{largest, leastLead};
+ghost use Rattle.validity_blocks.specs.Valid.{validFirst};
 
-// Whether each byte of `w` but the first three can stand where it does. The parts are cut once: read at one index, they are loaded apart.
-pub fn calm_four(w: &[u8]) -> bool
-    requires { ⌜ 3 ≤ length (now w) ⌝ }
-    ensures { λ r. ⌜ r ≡ calmFirst (now (w .entry)) (length (now (w .entry)) - 3) ⌝ }
+// Whether each byte of `s` but the first three can stand where it does.
+// The parts are cut once: read at one index, they are loaded apart.
+pub fn valid_four(s: &[u8]) -> bool
+    requires { ⌜ 3 ≤ length (now s) ⌝ }
+    ensures { λ r. ⌜ r ≡ validFirst (now (s .entry)) (length (now (s .entry)) - 3) ⌝ }
 {
-    let w2 = &w[1..];
-    let w1 = &w[2..];
-    let w0 = &w[3..];
+    let s2 = &s[1..];
+    let s1 = &s[2..];
+    let s0 = &s[3..];
     let mut bad = false;
     let mut j = 0;
-    while j < w0.len() {
-        bad = bad | faulty(w[j], w2[j], w1[j], w0[j]);
+    while j < s0.len() {
+        bad = bad | invalid(s[j], s2[j], s1[j], s0[j]);
         j += 1;
     }
     !bad
 }
 
-fn calm_three(w: &[u8]) -> bool
-    requires { ⌜ (3 ≤ length (now w)) × (largest (now w) < 0xF0) ⌝ }
-    ensures { λ r. ⌜ r ≡ calmFirst (now (w .entry)) (length (now (w .entry)) - 3) ⌝ }
+// The same without characters of four bytes.
+fn valid_three(s: &[u8]) -> bool
+    requires { ⌜ (3 ≤ length (now s)) × (largest (now s) < 0xF0) ⌝ }
+    ensures { λ r. ⌜ r ≡ validFirst (now (s .entry)) (length (now (s .entry)) - 3) ⌝ }
 {
-    let w2 = &w[1..];
-    let w1 = &w[2..];
-    let w0 = &w[3..];
+    let s2 = &s[1..];
+    let s1 = &s[2..];
+    let s0 = &s[3..];
     let mut bad = false;
     let mut j = 0;
-    while j < w0.len() {
-        bad = bad | faulty_three(w2[j], w1[j], w0[j]);
+    while j < s0.len() {
+        bad = bad | invalid_three(s2[j], s1[j], s0[j]);
         j += 1;
     }
     !bad
 }
 
-fn calm_two(w: &[u8]) -> bool
-    requires { ⌜ (3 ≤ length (now w)) × (largest (now w) < 0xE0) ⌝ }
-    ensures { λ r. ⌜ r ≡ calmFirst (now (w .entry)) (length (now (w .entry)) - 3) ⌝ }
+// The same without characters of three bytes too.
+fn valid_two(s: &[u8]) -> bool
+    requires { ⌜ (3 ≤ length (now s)) × (largest (now s) < 0xE0) ⌝ }
+    ensures { λ r. ⌜ r ≡ validFirst (now (s .entry)) (length (now (s .entry)) - 3) ⌝ }
 {
-    let w1 = &w[2..];
-    let w0 = &w[3..];
+    let s1 = &s[2..];
+    let s0 = &s[3..];
     let mut bad = false;
     let mut j = 0;
-    while j < w0.len() {
-        bad = bad | faulty_two(w1[j], w0[j]);
+    while j < s0.len() {
+        bad = bad | invalid_two(s1[j], s0[j]);
         j += 1;
     }
     !bad
 }
 
-fn calm_plain(w: &[u8]) -> bool
-    requires { ⌜ (3 ≤ length (now w)) × (largest (now w) < 0xED) × (0x21 ≤ leastLead (now w)) ⌝ }
-    ensures { λ r. ⌜ r ≡ calmFirst (now (w .entry)) (length (now (w .entry)) - 3) ⌝ }
+// The same where every lead byte is between E1 and EC.
+fn valid_plain(s: &[u8]) -> bool
+    requires { ⌜ (3 ≤ length (now s)) × (largest (now s) < 0xED) × (0x21 ≤ leastLead (now s)) ⌝ }
+    ensures { λ r. ⌜ r ≡ validFirst (now (s .entry)) (length (now (s .entry)) - 3) ⌝ }
 {
-    let w2 = &w[1..];
-    let w1 = &w[2..];
-    let w0 = &w[3..];
+    let s2 = &s[1..];
+    let s1 = &s[2..];
+    let s0 = &s[3..];
     let mut bad = false;
     let mut j = 0;
-    while j < w0.len() {
-        bad = bad | faulty_plain(w2[j], w1[j], w0[j]);
+    while j < s0.len() {
+        bad = bad | invalid_plain(s2[j], s1[j], s0[j]);
         j += 1;
     }
     !bad
 }
 
 // The same by the test that the largest byte asks for, and, up to EC, the least lead byte.
-pub fn block_formed(w: &[u8]) -> bool
-    requires { ⌜ 3 ≤ length (now w) ⌝ }
-    ensures { λ r. ⌜ r ≡ calmFirst (now (w .entry)) (length (now (w .entry)) - 3) ⌝ }
+pub fn valid_block(s: &[u8]) -> bool
+    requires { ⌜ 3 ≤ length (now s) ⌝ }
+    ensures { λ r. ⌜ r ≡ validFirst (now (s .entry)) (length (now (s .entry)) - 3) ⌝ }
 {
-    let most = max(largest(&w[..3]), largest(&w[3..]));
+    let most = max(largest(&s[..3]), largest(&s[3..]));
     if most < 0x80 {
         return true;
     }
     if most < 0xE0 {
-        return calm_two(w);
+        return valid_two(s);
     }
     if most < 0xED {
-        if 0x21 <= least_lead(w) {
-            return calm_plain(w);
+        if 0x21 <= least_lead(s) {
+            return valid_plain(s);
         }
     }
     if most < 0xF0 {
-        return calm_three(w);
+        return valid_three(s);
     }
-    calm_four(w)
+    valid_four(s)
 }

@@ -1,7 +1,7 @@
 // The largest byte of a text, and its least lead byte: which test a block asks for.
 ghost use mathlib.Core.Path.{_≡_};
 ghost use Prim.Native.Nat.{max, min};
-ghost use Rattle.validity_blocks.specs.Windows.{largest, leastLead};
+ghost use Rattle.validity_blocks.specs.Extremes.{largest, leastLead};
 
 pub fn max(a: u8, b: u8) -> u8
     ensures { λ r. ⌜ r ≡ max a b ⌝ }
@@ -34,7 +34,7 @@ pub fn largest(s: &[u8]) -> u8
     most
 }
 
-// The least lead byte, counted from C0 on, or 0x40: counted so, and around past FF, the lead bytes are the least of all.
+// The least lead byte, counted from C0 on, or 0x40: counted so, and around past FF, lead bytes are the least of all.
 pub fn least_lead(s: &[u8]) -> u8
     ensures { λ r. ⌜ r ≡ leastLead (now (s .entry)) ⌝ }
 {

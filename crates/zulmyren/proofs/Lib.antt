@@ -1,2 +1,3 @@
--- Laws that belong to no one function.
-pub mod Numbers
+-- Laws of the exported calls.
+pub mod Calls
+pub mod Exported

@@ -1,2 +1,3 @@
--- What the exported calls answer, in numbers.
+-- What the exported calls say, in plain numbers.
 pub mod Calls
+pub mod Exported

@@ -2,7 +2,7 @@
 use Prim.Native.Nat.{_-_}
 use mathlib.Core.Path.{refl}
 use lib.ListN.{length}
-use Rattle.buffers.proofs.Written.{Written, none-yet, one-more, all-written}
+use Rattle.buffers.proofs.Splice.{Written, none-yet, one-more, all-written}
 use native.Mathlib.Omega.{arith}
 use Rattle.buffers.proofs.copy_bytes.Statement.{statement}
 use Rattle.buffers.proofs.copy_bytes.Tie as tie
@@ -13,32 +13,10 @@ Inv-loop src dst₀ at j₀ dst j = Written src dst₀ at dst j
 abbrev μ-loop : tie.MeasureT-loop
 μ-loop src dst₀ at j₀ dst j = length src - j
 
-loop-holds : tie.Need-loop-holds Inv-loop μ-loop
-loop-holds c = none-yet _ _ _
-
-shared-slice-read-dst : tie.Need-shared-slice-read-dst Inv-loop μ-loop
-shared-slice-read-dst c = omega arith
-
-add-dst : tie.Need-add-dst Inv-loop μ-loop
-add-dst c = omega arith
-
-slice-write-dst : tie.Need-slice-write-dst Inv-loop μ-loop
-slice-write-dst c = omega arith
-
-add-j : tie.Need-add-j Inv-loop μ-loop
-add-j c = omega arith
-
-loop-less : tie.Need-loop-less Inv-loop μ-loop
-loop-less c = omega arith
-
 loop-again : tie.Need-loop-again Inv-loop μ-loop
-loop-again c = one-more _ _ _ _ _ _ (c .before .before .loop .inv) (c .before .before .before .pre) (c .before .loop-test .taken) refl
-
-same-length : tie.Need-same-length Inv-loop μ-loop
-same-length c = c .before .loop .inv .same
-
-returns : tie.Need-returns Inv-loop μ-loop
-returns c = all-written _ _ _ _ _ (c .before .loop .inv) (c .loop-test .left)
+loop-again c =
+    let head = c .before .before in
+    one-more (head .loop .inv) (head .before .pre) (c .before .loop-test .taken) refl
 
 pub copy-bytes-spec : {M : Type 1} → statement M
 copy-bytes-spec =
@@ -46,12 +24,12 @@ copy-bytes-spec =
     (tie.spec
     Inv-loop
     μ-loop
-    loop-holds
-    shared-slice-read-dst
-    add-dst
-    slice-write-dst
-    add-j
-    loop-less
+    (λ c. none-yet)
+    (λ c. omega arith)
+    (λ c. omega arith)
+    (λ c. omega arith)
+    (λ c. omega arith)
+    (λ c. omega arith)
     loop-again
-    same-length
-    returns)
+    (λ c. c .before .loop .inv .same)
+    (λ c. all-written (c .before .loop .inv) (c .loop-test .left)))

@@ -5,42 +5,9 @@ use mathlib.Core.Logic.{inr}
 use native.Mathlib.Omega.{arith}
 use borrow.Author.Needs.{needs}
 use borrow.Author.Tests.{not-false}
-use Rattle.convert.proofs.Walking.{single-block}
+use Rattle.convert.proofs.Walked.{single-block}
 use Rattle.convert.proofs.block_last.Statement.{statement}
 use Rattle.convert.proofs.block_last.Tie as tie
-
-sub-if1 : tie.Need-sub-if1
-sub-if1 c = search needs
-
-returns : tie.Need-returns
-returns c = single-block _ _ _ _ _ _ (omega arith) (omega arith)
-
-add-last : tie.Need-add-last
-add-last c = search needs
-
-mul-if2 : tie.Need-mul-if2
-mul-if2 c = search needs
-
-shared-slice-read-if2 : tie.Need-shared-slice-read-if2
-shared-slice-read-if2 c = search needs
-
-cast-if2 : tie.Need-cast-if2
-cast-if2 c = omega (arith, c .shared-slice-known3 .given (c .before .before .before .before .args .i + 63))
-
-returns-2 : tie.Need-returns-2
-returns-2 c = single-block _ _ _ _ _ _ (omega arith) (omega arith)
-
-mul-settled : tie.Need-mul-settled
-mul-settled c = search needs
-
-shared-slice-read-settled : tie.Need-shared-slice-read-settled
-shared-slice-read-settled c = search needs
-
-settled-requires : tie.Need-settled-requires
-settled-requires c κs = search needs
-
-returns-3 : tie.Need-returns-3
-returns-3 c = single-block _ _ _ _ _ _ (omega arith) (omega arith)
 
 returns-4 : tie.Need-returns-4
 returns-4 c =
@@ -50,15 +17,15 @@ pub block-last-spec : {M : Type 1} → statement M
 block-last-spec =
     tie.close
     (tie.spec
-    sub-if1
-    returns
-    add-last
-    mul-if2
-    shared-slice-read-if2
-    cast-if2
-    returns-2
-    mul-settled
-    shared-slice-read-settled
-    settled-requires
-    returns-3
+    (λ c. search needs)
+    (λ c. single-block (omega arith) (omega arith))
+    (λ c. search needs)
+    (λ c. search needs)
+    (λ c. search needs)
+    (λ c. omega (arith, c .shared-slice-known3 .given (c .before .before .before .before .args .i + 63)))
+    (λ c. single-block (omega arith) (omega arith))
+    (λ c. search needs)
+    (λ c. search needs)
+    (λ c κs. search needs)
+    (λ c. single-block (omega arith) (omega arith))
     returns-4)

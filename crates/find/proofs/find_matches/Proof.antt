@@ -1,57 +1,46 @@
--- Each refusal by the tests before it; past them all the list is written.
-use mathlib.Core.Path.{_∙_, sym}
-use borrow.Author.Tests.{leb-true, not-true, not-false}
-use Rattle.find.proofs.Answers.{find-too-long, find-torn-text, find-torn-literal, find-no-room, find-written}
-use native.Mathlib.Omega.{arith}
+-- Text and literal are judged together, then the room; past both the list is written.
+use mathlib.Core.Path.{_≡_, _∙_, sym}
 use borrow.Author.Needs.{needs}
+use borrow.Author.Tests.{leb-true, not-false}
+use Rattle.note.specs.Refusals.{also, verdict}
+use Rattle.note.specs.Notes.{limit}
+use Rattle.note.specs.Faults.{textFaults, stringFaults}
+use Rattle.note.proofs.Verdicts.{earlier-of, accepted-first}
+use Rattle.note.proofs.Faults.{text-short}
+use Rattle.find.proofs.Found.{input-refused, room-refused, list-written}
 use Rattle.find.proofs.find_matches.Statement.{statement}
 use Rattle.find.proofs.find_matches.Tie as tie
 
-returns : tie.Need-returns
-returns c = find-too-long _ _ _ (omega arith)
-
-well-formed-requires : tie.Need-well-formed-requires
-well-formed-requires c κs = search needs
-
-returns-2 : tie.Need-returns-2
-returns-2 c = find-torn-text _ _ _ (omega arith) (sym (c .before .well-formed .ensures) ∙ not-true _ (c .if2 .taken))
-
-well-formed-requires-2 : tie.Need-well-formed-requires-2
-well-formed-requires-2 c κs = search needs
-
-returns-3 : tie.Need-returns-3
-returns-3 c = find-torn-literal _ _ _ (omega arith) (sym (c .before .before .before .well-formed .ensures) ∙ not-false _ (c .before .before .if2 .left)) (sym (c .before .well-formed2 .ensures) ∙ not-true _ (c .if3 .taken))
-
-first-match-requires : tie.Need-first-match-requires
-first-match-requires c κs = search needs
+-- the verdict of both inputs
+judged : (c : tie.After-earlier) → c .earlier .result ≡ verdict (also (textFaults limit (c .before .before .before .before .before .before .args .text .now)) (stringFaults (c .before .before .before .before .before .before .args .literal .now)))
+judged c = earlier-of _ _ (c .before .before .check-text .ensures) (c .before .check-string .ensures) (c .earlier .ensures)
 
 list-fits-requires : tie.Need-list-fits-requires
-list-fits-requires c κs = (omega arith, c .first-match .ensures)
-
-returns-4 : tie.Need-returns-4
-returns-4 c = find-no-room _ _ _ (omega arith) (sym (c .before .before .before .before .before .before .well-formed .ensures) ∙ not-false _ (c .before .before .before .before .before .if2 .left)) (sym (c .before .before .before .before .well-formed2 .ensures) ∙ not-false _ (c .before .before .before .if3 .left)) _ (c .before .list-fits .ensures) (not-true _ (c .if4 .taken))
+list-fits-requires c κs =
+    let inputs = c .before .before .before in
+    (text-short _ _ (accepted-first _ (stringFaults (inputs .before .before .before .before .before .before .args .literal .now)) (sym (judged inputs) ∙ c .before .enum-told .given .1)), c .first-match .ensures)
 
 write-list-requires : tie.Need-write-list-requires
-write-list-requires c κs = (omega arith, c .before .before .before .first-match .ensures, leb-true _ _ (sym (c .before .before .list-fits .ensures) ∙ not-false _ (c .before .if4 .left)))
-
-same-length : tie.Need-same-length
-same-length c = search needs
-
-returns-5 : tie.Need-returns-5
-returns-5 c = find-written _ _ _ (omega arith) (sym (c .before .before .before .before .before .before .before .before .before .before .well-formed .ensures) ∙ not-false _ (c .before .before .before .before .before .before .before .before .before .if2 .left)) (sym (c .before .before .before .before .before .before .before .before .well-formed2 .ensures) ∙ not-false _ (c .before .before .before .before .before .before .before .if3 .left)) _ (c .before .before .before .before .before .list-fits .ensures) (not-false _ (c .before .before .before .before .if4 .left)) _ _ (c .before .before .write-list .ensures)
+write-list-requires c κs =
+    let inputs = c .before .before .before .before .before .before in (
+      text-short _ _ (accepted-first _ (stringFaults (inputs .before .before .before .before .before .before .args .literal .now)) (sym (judged inputs) ∙ c .before .before .before .before .enum-told .given .1)),
+      c .before .before .before .first-match .ensures,
+      leb-true _ _ (sym (c .before .before .list-fits .ensures) ∙ not-false _ (c .before .if1 .left)),
+    )
 
 pub find-matches-spec : {M : Type 1} → statement M
 find-matches-spec =
     tie.close
     (tie.spec
-    returns
-    well-formed-requires
-    returns-2
-    well-formed-requires-2
-    returns-3
-    first-match-requires
+    (λ c κs. search needs)
+    (λ c κs. search needs)
+    (λ c κs. search needs)
+    (λ c. search needs)
+    (λ c. input-refused _ _ _ _ (judged (c .before .before .before)) (c .before .k .given .1))
+    (λ c. search needs)
+    (λ c κs. search needs)
     list-fits-requires
-    returns-4
+    (λ c. room-refused _ _ _ _ (judged (c .before .before .before .before .before)) (c .before .before .before .enum-told .given .1) (c .before .list-fits .ensures) (c .if1 .taken))
     write-list-requires
-    same-length
-    returns-5)
+    (λ c. search needs)
+    (λ c. list-written _ _ _ _ (judged (c .before .before .before .before .before .before .before .before .before)) (c .before .before .before .before .before .before .before .enum-told .given .1) (c .before .before .before .before .before .list-fits .ensures) (c .before .before .before .before .if1 .left) (c .before .before .write-list .ensures)))

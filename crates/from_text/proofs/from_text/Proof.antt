@@ -1,60 +1,47 @@
--- Each refusal by the tests before it; past them all the two columns are written.
-use mathlib.Core.Path.{_∙_, sym}
-use borrow.Author.Tests.{not-true, not-false}
-use Rattle.from_text.proofs.Answers.{started-too-long, started-ill-formed, started-no-starts, started-no-ends, started}
+-- The text's refusal stands; past the two checks the columns are written.
+use mathlib.Core.Path.{_≡_, _∙_, sym}
 use native.Mathlib.Omega.{arith}
 use borrow.Author.Needs.{needs}
+use Rattle.note.specs.declared.Verdict.the-variants.{Accepted}
+use Rattle.note.specs.Refusals.{verdict}
+use Rattle.note.specs.Notes.{limit}
+use Rattle.note.specs.Faults.{textFaults}
+use Rattle.note.proofs.Faults.{text-short, text-formed}
+use Rattle.from_text.proofs.Started.{text-refused, too-little-room, started}
 use Rattle.from_text.proofs.from_text.Statement.{statement}
 use Rattle.from_text.proofs.from_text.Tie as tie
 
-returns : tie.Need-returns
-returns c = started-too-long _ _ _ (omega arith)
-
-well-formed-requires : tie.Need-well-formed-requires
-well-formed-requires c κs = search needs
-
-returns-2 : tie.Need-returns-2
-returns-2 c =
-    started-ill-formed _ _ _ (omega arith) (sym (c .before .well-formed .ensures) ∙ not-true _ (c .if2 .taken))
-
-returns-3 : tie.Need-returns-3
-returns-3 c =
-    started-no-starts _ _ _ (omega arith) (sym (c .before .before .well-formed .ensures) ∙ not-false _ (c .before .if2 .left)) (omega arith)
-
-returns-4 : tie.Need-returns-4
-returns-4 c =
-    started-no-ends _ _ _ (omega arith) (sym (c .before .before .before .well-formed .ensures) ∙ not-false _ (c .before .before .if2 .left)) (omega arith) (omega arith)
+-- past both checks
+accepted : (c : tie.Else1) → verdict (textFaults limit (c .before .before .before .before .before .before .before .before .args .text .now)) ≡ Accepted
+accepted c = sym (c .before .before .before .before .check-text .ensures) ∙ c .before .before .enum-told .given .1
 
 write-starts-requires : tie.Need-write-starts-requires
 write-starts-requires c κs =
-    ((sym (c .before .before .before .before .well-formed .ensures) ∙ not-false _ (c .before .before .before .if2 .left), omega arith), omega arith)
+    ((text-formed _ _ (accepted (c .before)), text-short _ _ (accepted (c .before))), omega arith)
 
 write-ends-requires : tie.Need-write-ends-requires
 write-ends-requires c κs =
-    ((sym (c .before .before .before .before .before .before .before .before .well-formed .ensures) ∙ not-false _ (c .before .before .before .before .before .before .before .if2 .left), omega arith), omega arith)
+    let past = c .before .before .before .before .before in
+    ((text-formed _ _ (accepted past), text-short _ _ (accepted past)), omega arith)
 
-same-length : tie.Need-same-length
-same-length c = search needs
-
-same-length-2 : tie.Need-same-length-2
-same-length-2 c = search needs
-
-returns-5 : tie.Need-returns-5
-returns-5 c =
-    started _ _ _ _ _ (omega arith) (sym (c .before .before .before .before .before .before .before .before .before .before .before .well-formed .ensures) ∙ not-false _ (c .before .before .before .before .before .before .before .before .before .before .if2 .left)) (omega arith) (omega arith)
-    (c .before .before .before .before .before .before .write-starts .ensures) (c .before .before .write-ends .ensures)
+returns-3 : tie.Need-returns-3
+returns-3 c =
+    let starts = c .before .before .before .before .before .before in
+    let told = starts .before .before .before .before in
+    started _ _ _ _ (told .before .before .check-text .ensures) (told .enum-told .given .1) (omega arith) (starts .write-starts .ensures) (c .before .before .write-ends .ensures)
 
 pub from-text-spec : {M : Type 1} → statement M
 from-text-spec =
     tie.close
     (tie.spec
-    returns
-    well-formed-requires
-    returns-2
-    returns-3
-    returns-4
+    (λ c κs. search needs)
+    (λ c. search needs)
+    (λ c. text-refused _ _ _ _ (c .before .before .before .check-text .ensures) (c .before .k .given .1))
+    (λ c. search needs)
+    (λ c κs. search needs)
+    (λ c. too-little-room _ _ _ _ (c .before .before .before .before .check-text .ensures) (c .before .before .enum-told .given .1) (omega arith))
     write-starts-requires
     write-ends-requires
-    same-length
-    same-length-2
-    returns-5)
+    (λ c. search needs)
+    (λ c. search needs)
+    returns-3)

@@ -1,10 +1,11 @@
--- Each turn compares what one more place gives.
-use lib.ListN.{length}
+-- Each turn compares one more place.
 use Prim.Native.Nat.{_-_}
-use borrow.Author.Needs.{needs}
-use Rattle.indistinguishable.specs.Walk.{columnAlike}
-use Rattle.indistinguishable.proofs.Walking.{Walked, none-walked, lying, one-walked, one-unlike, all-walked}
+use lib.ListN.{length}
 use native.Mathlib.Omega.{arith}
+use borrow.Author.Needs.{needs}
+use Rattle.pattern.proofs.Entries.{entry-step}
+use Rattle.indistinguishable.specs.Walk.{columnAlike}
+use Rattle.indistinguishable.proofs.Walk.{Walked, none-walked, lying, one-walked, one-unlike, broken-walked, all-walked}
 use Rattle.indistinguishable.proofs.columns_alike.Statement.{statement}
 use Rattle.indistinguishable.proofs.columns_alike.Tie as tie
 
@@ -14,29 +15,11 @@ Inv-loop a b list wide i₀ i = Walked (columnAlike wide a b) a b list i
 abbrev μ-loop : tie.MeasureT-loop
 μ-loop a b list wide i₀ i = length list - i
 
-loop-holds : tie.Need-loop-holds Inv-loop μ-loop
-loop-holds c = none-walked _ _ _ _ (c .before .before .before .pre)
-
-place-at-requires : tie.Need-place-at-requires Inv-loop μ-loop
-place-at-requires c κs = search needs
-
-column-alike-requires : tie.Need-column-alike-requires Inv-loop μ-loop
-column-alike-requires c κs = lying _ _ _ _ _ (c .before .before .loop .inv) _ (c .before .loop-test .taken) (c .place-at .ensures)
-
-returns : tie.Need-returns Inv-loop μ-loop
-returns c = one-unlike _ _ _ _ _ (c .before .before .before .before .loop .inv) _ _ (c .before .before .before .loop-test .taken) (c .before .before .place-at .ensures) (c .before .column-alike .ensures) (c .if1 .taken)
-
-loop-again : tie.Need-loop-again Inv-loop μ-loop
-loop-again c = one-walked _ _ _ _ _ (c .before .before .before .before .loop .inv) _ _ (c .before .before .before .loop-test .taken) (c .before .before .place-at .ensures) (c .before .column-alike .ensures) (c .if1 .left)
-
-add-i : tie.Need-add-i Inv-loop μ-loop
-add-i c = omega (arith, loop-again c .most)
-
 loop-less : tie.Need-loop-less Inv-loop μ-loop
-loop-less c = omega arith
-
-returns-2 : tie.Need-returns-2 Inv-loop μ-loop
-returns-2 c = all-walked _ _ _ _ _ (c .before .loop .inv) (c .loop-test .left)
+loop-less c =
+    let there = c .before .before .before in
+    let step = entry-step _ (there .before .before .entry-at .ensures) (there .place .given .1) in
+    omega (arith, step .onward, step .most)
 
 pub columns-alike-spec : {M : Type 1} → statement M
 columns-alike-spec =
@@ -44,11 +27,13 @@ columns-alike-spec =
     (tie.spec
     Inv-loop
     μ-loop
-    loop-holds
-    place-at-requires
-    column-alike-requires
-    returns
-    add-i
+    (λ c. none-walked _ (c .before .before .before .pre))
+    (λ c κs. search needs)
+    (λ c. search needs)
+    (λ c κs. let there = c .before in lying (there .before .before .before .before .loop .inv) (there .before .before .entry-at .ensures) (there .place .given .1))
+    (λ c. let there = c .before .before .before in one-unlike (there .before .before .before .before .loop .inv) (there .before .before .entry-at .ensures) (there .place .given .1) (c .before .column-alike .ensures) (c .if1 .taken))
     loop-less
-    loop-again
-    returns-2)
+    (λ c. let there = c .before .before .before in one-walked (there .before .before .before .before .loop .inv) (there .before .before .entry-at .ensures) (there .place .given .1) (c .before .column-alike .ensures) (c .if1 .left))
+    (λ c. search needs)
+    (λ c. broken-walked (c .before .before .before .before .loop .inv) (c .before .before .before .loop-test .taken) (c .before .before .entry-at .ensures) (c .enum-told .given .1))
+    (λ c. all-walked (c .before .loop .inv) (c .loop-test .left)))

@@ -1,67 +1,44 @@
--- Each refusal by the checks before it; past them all everything is written.
-use Rattle.redact.proofs.Answers.{too-long, torn, judged, no-room, all-pass, not-redacted}
-use native.Mathlib.Omega.{arith}
+-- The inputs are judged together, then the rooms; past both everything is written.
+use mathlib.Core.Path.{_∙_, refl, sym}
 use borrow.Author.Needs.{needs}
+use Rattle.redact.proofs.Redacting.{inputs-formed, searchable, inputs-refused, rooms-refused, all-accepted, accepted-all, refused-all}
 use Rattle.redact.proofs.redact.Statement.{statement}
 use Rattle.redact.proofs.redact.Tie as tie
 
-returns : tie.Need-returns
-returns c = too-long _ _ _ _ _ _ _ _ _ (omega arith)
-
-all-formed-requires : tie.Need-all-formed-requires
-all-formed-requires c κs = search needs
+all-fit-requires : tie.Need-all-fit-requires
+all-fit-requires c κs = searchable (inputs-formed _ _ _ (sym (c .before .before .before .before .before .check-inputs .ensures) ∙ c .before .before .before .enum-told .given .1)) (c .before .before .first-match .ensures)
 
 returns-2 : tie.Need-returns-2
-returns-2 c = not-redacted _ _ _ _ _ _ _ _ _ _ (torn _ _ _ _ _ _ _ _ _ (omega arith) _ (c .before .all-formed .ensures) (c .if2 .taken))
-
-first-match-requires : tie.Need-first-match-requires
-first-match-requires c κs = search needs
-
-all-fit-requires : tie.Need-all-fit-requires
-all-fit-requires c κs = judged _ _ _ (omega arith) _ (c .before .before .all-formed .ensures) (c .before .if2 .left) _ (c .first-match .ensures)
-
-returns-3 : tie.Need-returns-3
-returns-3 c = not-redacted _ _ _ _ _ _ _ _ _ _ (no-room _ _ _ _ _ _ _ _ _ (omega arith) _ (c .before .before .before .before .all-formed .ensures) (c .before .before .before .if2 .left) _ (c .before .all-fit .ensures) (c .if3 .taken))
+returns-2 c =
+    refused-all _ _ _ _ _ _ _ _ _ _ (c .before .before .before .least-of-two .ensures) (c .before .before .least-room .ensures)
+    (rooms-refused _ _ _ _ _ _ _ (c .before .before .before .before .before .before .before .check-inputs .ensures) (c .before .before .before .before .before .enum-told .given .1) (c .before .all-fit .ensures) (c .if1 .taken))
 
 blank-requires : tie.Need-blank-requires
-blank-requires c κs = (all-pass _ _ _ _ _ _ _ _ _ (omega arith) _ (c .before .before .before .before .before .before .before .before .before .before .all-formed .ensures) (c .before .before .before .before .before .before .before .before .before .if2 .left) _ (c .before .before .before .before .before .before .before .all-fit .ensures) (c .before .before .before .before .before .before .if3 .left), c .before .before .before .before .before .before .before .before .first-match .ensures)
-
-same-length : tie.Need-same-length
-same-length c = search needs
-
-same-length-2 : tie.Need-same-length-2
-same-length-2 c = search needs
-
-same-length-3 : tie.Need-same-length-3
-same-length-3 c = search needs
-
-same-length-4 : tie.Need-same-length-4
-same-length-4 c = search needs
-
-same-length-5 : tie.Need-same-length-5
-same-length-5 c = search needs
-
-same-length-6 : tie.Need-same-length-6
-same-length-6 c = search needs
-
-returns-4 : tie.Need-returns-4
-returns-4 c = search needs
+blank-requires c κs =
+    let judged = c .before .before .before .before .before .before in (
+      accepted-all _ _ _ _ _ (judged .before .before .before .least-of-two .ensures) (judged .before .before .least-room .ensures)
+          (all-accepted _ _ _ _ _ _ _ (judged .before .before .before .before .before .before .before .check-inputs .ensures) (judged .before .before .before .before .before .enum-told .given .1) (judged .before .all-fit .ensures) (judged .if1 .left)),
+      judged .before .before .before .before .first-match .ensures,
+    )
 
 pub redact-spec : {M : Type 1} → statement M
 redact-spec =
     tie.close
     (tie.spec
-    returns
-    all-formed-requires
-    returns-2
-    first-match-requires
+    (λ c κs. search needs)
+    (λ c. search needs)
+    (λ c. refused-all _ _ _ _ _ _ _ _ _ _ refl refl (inputs-refused _ _ _ _ _ _ _ (c .before .before .before .check-inputs .ensures) (c .before .k .given .1)))
+    (λ c. search needs)
+    (λ c κs. search needs)
+    (λ c κs. search needs)
+    (λ c κs. search needs)
     all-fit-requires
-    returns-3
+    returns-2
     blank-requires
-    same-length
-    same-length-2
-    same-length-3
-    same-length-4
-    same-length-5
-    same-length-6
-    returns-4)
+    (λ c. search needs)
+    (λ c. search needs)
+    (λ c. search needs)
+    (λ c. search needs)
+    (λ c. search needs)
+    (λ c. search needs)
+    (λ c. search needs))

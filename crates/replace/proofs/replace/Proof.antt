@@ -1,46 +1,26 @@
 -- A refusal comes before the first store; past it there is room for all that is laid down.
-use Rattle.replace.proofs.Answers.{refused, ready, accepted}
 use borrow.Author.Needs.{needs}
+use Rattle.note.specs.Notes.{limit}
+use Rattle.replace.proofs.Faults.{refused, ready, accepted}
 use Rattle.replace.proofs.replace.Statement.{statement}
 use Rattle.replace.proofs.replace.Tie as tie
 
-judged-requires : tie.Need-judged-requires
-judged-requires c κs = search needs
-
-enum-told : tie.Need-enum-told
-enum-told c = search needs
-
-lay-out-requires : tie.Need-lay-out-requires
-lay-out-requires c κs = ready _ _ _ _ _ _ _ (c .before .before .before .before .before .judged .ensures) (c .before .before .before .enum-told .given .1)
-
-enum-known-k : tie.Need-enum-known-k
-enum-known-k c = search needs
-
-same-length : tie.Need-same-length
-same-length c = search needs
-
-same-length-2 : tie.Need-same-length-2
-same-length-2 c = search needs
-
-same-length-3 : tie.Need-same-length-3
-same-length-3 c = search needs
-
 returns : tie.Need-returns
-returns c = accepted _ _ _ _ _ _ _ (c .before .before .before .before .before .before .before .before .before .before .before .before .judged .ensures) (c .before .before .before .before .before .before .before .before .before .before .enum-told .given .1) _ _ _ (c .before .before .before .before .before .before .lay-out .ensures)
-
-returns-2 : tie.Need-returns-2
-returns-2 c = refused _ _ _ _ _ _ _ (c .before .before .before .judged .ensures) _ (c .before .k .given .1)
+returns c =
+    let told = c .before .before .before .before .before .before .before .before .before .before in
+    accepted limit _ _ _ _ _ _ (told .before .before .before .least-room .ensures) (told .before .before .check-replace .ensures) (told .enum-told .given .1) (c .before .before .before .before .before .before .lay-out .ensures)
 
 pub replace-spec : {M : Type 1} → statement M
 replace-spec =
     tie.close
     (tie.spec
-    judged-requires
-    enum-told
-    lay-out-requires
-    enum-known-k
-    same-length
-    same-length-2
-    same-length-3
+    (λ c κs. search needs)
+    (λ c κs. search needs)
+    (λ c. search needs)
+    (λ c κs. let told = c .before .before .before in ready limit _ _ _ _ _ _ (told .before .before .before .least-room .ensures) (told .before .before .check-replace .ensures) (told .enum-told .given .1))
+    (λ c. search needs)
+    (λ c. search needs)
+    (λ c. search needs)
+    (λ c. search needs)
     returns
-    returns-2)
+    (λ c. refused limit _ _ _ _ _ _ (c .before .before .before .before .least-room .ensures) (c .before .before .before .check-replace .ensures) (c .before .k .given .1)))

@@ -12,41 +12,17 @@ Inv-loop a b ok₀ i₀ ok i = Compared a b ok i
 abbrev μ-loop : tie.MeasureT-loop
 μ-loop a b ok₀ i₀ ok i = length a - i
 
-returns : tie.Need-returns Inv-loop μ-loop
-returns c = same-lengths _ _ (c .if1 .taken)
-
-loop-holds : tie.Need-loop-holds Inv-loop μ-loop
-loop-holds c = none-compared _ _
-
-shared-slice-read-ok : tie.Need-shared-slice-read-ok Inv-loop μ-loop
-shared-slice-read-ok c = omega arith
-
-shared-slice-read-ok-2 : tie.Need-shared-slice-read-ok-2 Inv-loop μ-loop
-shared-slice-read-ok-2 c = omega arith
-
-add-i : tie.Need-add-i Inv-loop μ-loop
-add-i c = omega arith
-
-loop-less : tie.Need-loop-less Inv-loop μ-loop
-loop-less c = omega arith
-
-loop-again : tie.Need-loop-again Inv-loop μ-loop
-loop-again c = one-compared _ _ _ _ (c .before .before .before .loop .inv) (omega arith) (omega arith)
-
-returns-2 : tie.Need-returns-2 Inv-loop μ-loop
-returns-2 c = all-compared _ _ _ _ (c .before .loop .inv) (omega arith) (omega arith)
-
 pub same-bytes-spec : {M : Type 1} → statement M
 same-bytes-spec =
     tie.close
     (tie.spec
     Inv-loop
     μ-loop
-    returns
-    loop-holds
-    shared-slice-read-ok
-    shared-slice-read-ok-2
-    add-i
-    loop-less
-    loop-again
-    returns-2)
+    (λ c. same-lengths _ _ (c .if1 .taken))
+    (λ c. none-compared)
+    (λ c. omega arith)
+    (λ c. omega arith)
+    (λ c. omega arith)
+    (λ c. omega arith)
+    (λ c. one-compared (c .before .before .before .loop .inv) (omega arith) (omega arith))
+    (λ c. all-compared (c .before .loop .inv) (omega arith) (omega arith)))

@@ -15,55 +15,21 @@ Inv-loop text from ends₀ end₀ i₀ ends end i = (from ≤ i) × EndsFrom tex
 abbrev μ-loop : tie.MeasureT-loop
 μ-loop text from ends₀ end₀ i₀ ends end i = i
 
-cast-end : tie.Need-cast-end Inv-loop μ-loop
-cast-end c = omega arith
-
-loop-holds : tie.Need-loop-holds Inv-loop μ-loop
-loop-holds c = (omega arith, no-ends _ _ (c .before .before .pre .0 .0))
-
-sub-i : tie.Need-sub-i Inv-loop μ-loop
-sub-i c = omega arith
-
-mul-ends : tie.Need-mul-ends Inv-loop μ-loop
-mul-ends c = omega arith
-
-slice-write-ends : tie.Need-slice-write-ends Inv-loop μ-loop
-slice-write-ends c = omega arith
-
-shared-slice-read-continues : tie.Need-shared-slice-read-continues Inv-loop μ-loop
-shared-slice-read-continues c = omega arith
-
-continues-requires : tie.Need-continues-requires Inv-loop μ-loop
-continues-requires c κs = search needs
-
-cast-end-2 : tie.Need-cast-end-2 Inv-loop μ-loop
-cast-end-2 c = omega arith
-
-loop-less : tie.Need-loop-less Inv-loop μ-loop
-loop-less c = omega arith
-
 loop-again : tie.Need-loop-again Inv-loop μ-loop
-loop-again c = (
-  omega arith,
-  end-begins _ _ _ _ _ (c .before .before .before .before .loop .inv .1) (omega arith) (omega arith) (c .before .before .before .before .before .before .before .pre .0 .0)
-      (sym (c .before .continues .ensures) ∙ not-true _ (c .if1 .taken)),
-)
-
-loop-less-2 : tie.Need-loop-less-2 Inv-loop μ-loop
-loop-less-2 c = omega arith
+loop-again c =
+    let head = c .before .before .before .before in (
+      omega arith,
+      end-begins (head .loop .inv .1) (omega arith) (omega arith) (head .before .before .before .pre .0 .0)
+          (sym (c .before .continues .ensures) ∙ not-true _ (c .if1 .taken)),
+    )
 
 loop-again-2 : tie.Need-loop-again-2 Inv-loop μ-loop
-loop-again-2 c = (
-  omega arith,
-  end-goes-on _ _ _ _ _ (c .before .before .before .before .loop .inv .1) (omega arith) (omega arith)
-      (sym (c .before .continues .ensures) ∙ not-false _ (c .if1 .left)),
-)
-
-same-length : tie.Need-same-length Inv-loop μ-loop
-same-length c = c .before .loop .inv .1 .filled .same
-
-returns : tie.Need-returns Inv-loop μ-loop
-returns c = filled-at _ _ _ _ _ _ _ (c .before .loop .inv .1 .filled) (omega arith) (omega arith)
+loop-again-2 c =
+    let head = c .before .before .before .before in (
+      omega arith,
+      end-goes-on (head .loop .inv .1) (omega arith) (omega arith)
+          (sym (c .before .continues .ensures) ∙ not-false _ (c .if1 .left)),
+    )
 
 pub carry-ends-spec : {M : Type 1} → statement M
 carry-ends-spec =
@@ -71,17 +37,17 @@ carry-ends-spec =
     (tie.spec
     Inv-loop
     μ-loop
-    cast-end
-    loop-holds
-    sub-i
-    mul-ends
-    slice-write-ends
-    shared-slice-read-continues
-    continues-requires
-    cast-end-2
-    loop-less
+    (λ c. omega arith)
+    (λ c. (omega arith, no-ends _ _ (c .before .before .pre .0 .0)))
+    (λ c. omega arith)
+    (λ c. omega arith)
+    (λ c. omega arith)
+    (λ c. omega arith)
+    (λ c κs. search needs)
+    (λ c. omega arith)
+    (λ c. omega arith)
     loop-again
-    loop-less-2
+    (λ c. omega arith)
     loop-again-2
-    same-length
-    returns)
+    (λ c. c .before .loop .inv .1 .filled .same)
+    (λ c. filled-at _ _ _ _ _ _ _ (c .before .loop .inv .1 .filled) (omega arith) (omega arith)))

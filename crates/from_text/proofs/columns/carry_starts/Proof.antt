@@ -6,7 +6,7 @@ use native.Mathlib.Omega.{arith}
 use borrow.Author.Tests.{not-true, not-false}
 use borrow.Author.Needs.{needs}
 use Rattle.buffers.proofs.Columns.{filled-at}
-use Rattle.note.specs.StartingSound.{charStart-begins}
+use Rattle.note.proofs.Starting.{charStart-begins}
 use Rattle.from_text.proofs.CharRanges.{StartsTo, no-starts, start-carried, one-start}
 use Rattle.from_text.proofs.columns.carry_starts.Statement.{statement}
 use Rattle.from_text.proofs.columns.carry_starts.Tie as tie
@@ -17,45 +17,16 @@ Inv-loop text to starts₀ start₀ i₀ starts start i = (i ≤ to) × StartsTo
 abbrev μ-loop : tie.MeasureT-loop
 μ-loop text to starts₀ start₀ i₀ starts start i = to - i
 
-loop-holds : tie.Need-loop-holds Inv-loop μ-loop
-loop-holds c = (omega arith, no-starts _ _)
-
-shared-slice-read-continues : tie.Need-shared-slice-read-continues Inv-loop μ-loop
-shared-slice-read-continues c = omega arith
-
-continues-requires : tie.Need-continues-requires Inv-loop μ-loop
-continues-requires c κs = search needs
-
-cast-start : tie.Need-cast-start Inv-loop μ-loop
-cast-start c = omega arith
-
-mul-starts : tie.Need-mul-starts Inv-loop μ-loop
-mul-starts c = omega arith
-
-slice-write-starts : tie.Need-slice-write-starts Inv-loop μ-loop
-slice-write-starts c = omega arith
-
-add-i : tie.Need-add-i Inv-loop μ-loop
-add-i c = omega arith
-
-loop-less : tie.Need-loop-less Inv-loop μ-loop
-loop-less c = omega arith
-
 loop-again : tie.Need-loop-again Inv-loop μ-loop
-loop-again c = (
-  omega arith,
-  one-start _ _ _ _ _ _ (c .before .before .before .before .loop .inv .1) (omega arith) (omega arith)
-      (⊎-elim
-      (λ w. w .1 ∙ sym (charStart-begins _ _ (sym (c .before .continues .ensures) ∙ not-true _ (w .0 .taken))))
-      (λ w. w .1 ∙ c .before .before .before .before .loop .inv .1 .carried ∙ sym (start-carried _ _ (sym (c .before .continues .ensures) ∙ not-false _ (w .0 .left))))
-      (c .if1 .came)),
-)
-
-same-length : tie.Need-same-length Inv-loop μ-loop
-same-length c = c .before .loop .inv .1 .filled .same
-
-returns : tie.Need-returns Inv-loop μ-loop
-returns c = filled-at _ _ _ _ _ _ _ (c .before .loop .inv .1 .filled) (omega arith) (omega arith)
+loop-again c =
+    let head = c .before .before .before .before in (
+      omega arith,
+      one-start (head .loop .inv .1) (omega arith) (omega arith)
+          (⊎-elim
+          (λ w. w .1 ∙ sym (charStart-begins _ _ (sym (c .before .continues .ensures) ∙ not-true _ (w .0 .taken))))
+          (λ w. w .1 ∙ head .loop .inv .1 .carried ∙ sym (start-carried _ _ (sym (c .before .continues .ensures) ∙ not-false _ (w .0 .left))))
+          (c .if1 .came)),
+    )
 
 pub carry-starts-spec : {M : Type 1} → statement M
 carry-starts-spec =
@@ -63,14 +34,14 @@ carry-starts-spec =
     (tie.spec
     Inv-loop
     μ-loop
-    loop-holds
-    shared-slice-read-continues
-    continues-requires
-    cast-start
-    mul-starts
-    slice-write-starts
-    add-i
-    loop-less
+    (λ c. (omega arith, no-starts _ _))
+    (λ c. omega arith)
+    (λ c κs. search needs)
+    (λ c. omega arith)
+    (λ c. omega arith)
+    (λ c. omega arith)
+    (λ c. omega arith)
+    (λ c. omega arith)
     loop-again
-    same-length
-    returns)
+    (λ c. c .before .loop .inv .1 .filled .same)
+    (λ c. filled-at _ _ _ _ _ _ _ (c .before .loop .inv .1 .filled) (omega arith) (omega arith)))

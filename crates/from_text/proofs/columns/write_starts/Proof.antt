@@ -5,7 +5,7 @@ use lib.ListN.{length}
 use Rattle.buffers.specs.Columns.{Filled}
 use Rattle.buffers.proofs.Columns.{none-filled, filled-at, filled-before}
 use Rattle.note.specs.Starting.{charStart}
-use Rattle.from_text.proofs.Blocks.{all-starts}
+use Rattle.from_text.proofs.ContinuationRun.{all-starts}
 use Rattle.from_text.proofs.columns.write_starts.Statement.{statement}
 use Rattle.from_text.proofs.columns.write_starts.Tie as tie
 
@@ -15,27 +15,12 @@ Inv-loop text starts₀ i₀ starts i = Filled (charStart text) starts₀ i (len
 abbrev μ-loop : tie.MeasureT-loop
 μ-loop text starts₀ i₀ starts i = i
 
-loop-holds : tie.Need-loop-holds Inv-loop μ-loop
-loop-holds c = none-filled _ _ _
-
-sub-i : tie.Need-sub-i Inv-loop μ-loop
-sub-i c = omega arith
-
 starts-block-requires : tie.Need-starts-block-requires Inv-loop μ-loop
 starts-block-requires c κs = ((c .before .before .before .before .before .pre .0 .0, omega arith), (omega arith, (omega arith, omega arith)))
-
-loop-less : tie.Need-loop-less Inv-loop μ-loop
-loop-less c = omega arith
 
 loop-again : tie.Need-loop-again Inv-loop μ-loop
 loop-again c =
     filled-before _ _ _ _ _ _ _ (c .before .before .before .before .before .loop .inv) (filled-at _ _ _ _ _ _ _ (c .before .before .starts-block .ensures) refl (omega arith))
-
-carry-starts-requires : tie.Need-carry-starts-requires Inv-loop μ-loop
-carry-starts-requires c κs = ((omega arith, omega arith), omega arith)
-
-same-length : tie.Need-same-length Inv-loop μ-loop
-same-length c = c .before .before .carry-starts .ensures .same ∙ c .before .before .before .before .before .loop .inv .same
 
 returns : tie.Need-returns Inv-loop μ-loop
 returns c = all-starts _ _ _ _ _ (c .before .before .before .before .before .before .before .before .pre .1) (c .before .before .before .before .before .loop .inv) (c .before .before .carry-starts .ensures)
@@ -46,11 +31,11 @@ write-starts-spec =
     (tie.spec
     Inv-loop
     μ-loop
-    loop-holds
-    sub-i
+    (λ c. none-filled _ _ _)
+    (λ c. omega arith)
     starts-block-requires
-    loop-less
+    (λ c. omega arith)
     loop-again
-    carry-starts-requires
-    same-length
+    (λ c κs. ((omega arith, omega arith), omega arith))
+    (λ c. c .before .before .carry-starts .ensures .same ∙ c .before .before .before .before .before .loop .inv .same)
     returns)

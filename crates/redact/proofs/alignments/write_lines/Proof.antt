@@ -1,9 +1,9 @@
 -- Each turn lays the line of a run.
 use Prim.Native.Nat.{_-_}
-use lib.ListN.{length}
-use Rattle.redact.proofs.Walking.{run-within}
-use Rattle.redact.proofs.Printing.{Lining, no-line, one-line, every-line}
 use native.Mathlib.Omega.{arith}
+use lib.ListN.{length}
+use Rattle.redact.proofs.Runs.{run-within}
+use Rattle.redact.proofs.Lines.{Lining, no-line, line-room, one-line, every-line}
 use Rattle.redact.proofs.alignments.write_lines.Statement.{statement}
 use Rattle.redact.proofs.alignments.write_lines.Tie as tie
 
@@ -13,41 +13,34 @@ Inv-loop starts ends out₀ at₀ size₀ out at size = Lining starts ends out�
 abbrev μ-loop : tie.MeasureT-loop
 μ-loop starts ends out₀ at₀ size₀ out at size = length starts - at
 
-loop-holds : tie.Need-loop-holds Inv-loop μ-loop
-loop-holds c = no-line _ _ _
-
-run-at-requires : tie.Need-run-at-requires Inv-loop μ-loop
-run-at-requires c κs = (c .before .before .before .before .before .pre .0, c .loop-test .taken)
-
-mul-write-line : tie.Need-mul-write-line Inv-loop μ-loop
-mul-write-line c = omega arith
-
-shared-slice-read-write-line : tie.Need-shared-slice-read-write-line Inv-loop μ-loop
-shared-slice-read-write-line c = omega arith
-
-mul-write-line-2 : tie.Need-mul-write-line-2 Inv-loop μ-loop
-mul-write-line-2 c = omega arith
-
-shared-slice-read-write-line-2 : tie.Need-shared-slice-read-write-line-2 Inv-loop μ-loop
-shared-slice-read-write-line-2 c = omega arith
-
 write-line-requires : tie.Need-write-line-requires Inv-loop μ-loop
-write-line-requires c κs = (omega arith, omega (arith, run-within (c .before .before .before .before .before .before .before .before .before .args .starts .now) (c .before .before .before .before .before .before .before .before .before .args .ends .now) (c .before .before .before .before .before .loop .at) (c .before .before .before .run-at .result) (c .before .before .before .before .before .before .before .before .before .pre .0) (c .before .before .before .before .loop-test .taken) (c .before .before .before .run-at .ensures)), omega (arith, c .before .before .before .before .before .loop .inv .short, c .before .before .before .before .before .loop .inv .same, c .before .before .before .before .before .before .before .before .before .pre .2))
+write-line-requires c κs =
+    let head = c .before .before .before .before .before in
+    let entry = head .before .before .before .before in
+    line-room (head .loop .inv) (entry .pre .0) (entry .pre .1) (entry .pre .2) (c .before .before .before .before .loop-test .taken) (c .before .before .before .run-at .ensures)
+    (omega (arith, c .before .before .shared-slice-known3 .given (head .loop .at), c .before .shared-slice-known4 .given (head .loop .at)))
+    (omega (arith, c .before .before .shared-slice-known3 .given (head .loop .at), c .before .shared-slice-known4 .given (head .loop .at)))
 
 add-at : tie.Need-add-at Inv-loop μ-loop
-add-at c = omega (arith, run-within (c .before .before .before .before .before .before .before .before .before .before .before .before .args .starts .now) (c .before .before .before .before .before .before .before .before .before .before .before .before .args .ends .now) (c .before .before .before .before .before .before .before .before .loop .at) (c .before .before .before .before .before .before .run-at .result) (c .before .before .before .before .before .before .before .before .before .before .before .before .pre .0) (c .before .before .before .before .before .before .before .loop-test .taken) (c .before .before .before .before .before .before .run-at .ensures))
+add-at c =
+    let head = c .before .before .before .before .before .before .before .before in
+    let entry = head .before .before .before .before in
+    omega (arith, run-within (entry .args .starts .now) (entry .args .ends .now) (head .loop .at) (c .before .before .before .before .before .before .run-at .result) (entry .pre .0) (c .before .before .before .before .before .before .before .loop-test .taken) (c .before .before .before .before .before .before .run-at .ensures))
 
 loop-less : tie.Need-loop-less Inv-loop μ-loop
-loop-less c = omega (arith, run-within (c .before .before .before .before .before .before .before .before .before .before .before .before .args .starts .now) (c .before .before .before .before .before .before .before .before .before .before .before .before .args .ends .now) (c .before .before .before .before .before .before .before .before .loop .at) (c .before .before .before .before .before .before .run-at .result) (c .before .before .before .before .before .before .before .before .before .before .before .before .pre .0) (c .before .before .before .before .before .before .before .loop-test .taken) (c .before .before .before .before .before .before .run-at .ensures))
+loop-less c =
+    let head = c .before .before .before .before .before .before .before .before in
+    let entry = head .before .before .before .before in
+    omega (arith, run-within (entry .args .starts .now) (entry .args .ends .now) (head .loop .at) (c .before .before .before .before .before .before .run-at .result) (entry .pre .0) (c .before .before .before .before .before .before .before .loop-test .taken) (c .before .before .before .before .before .before .run-at .ensures))
 
 loop-again : tie.Need-loop-again Inv-loop μ-loop
-loop-again c = one-line _ _ _ _ _ _ (c .before .before .before .before .before .before .before .before .before .before .before .before .pre .0) (c .before .before .before .before .before .before .before .before .before .before .before .before .pre .1) (c .before .before .before .before .before .before .before .before .before .before .before .before .pre .2) (c .before .before .before .before .before .before .before .before .loop .inv) _ _ _ (c .before .before .before .before .before .before .before .loop-test .taken) (c .before .before .before .before .before .before .run-at .ensures) (omega (arith, c .before .before .before .before .before .shared-slice-known3 .given (c .before .before .before .before .before .before .before .before .loop .at), c .before .before .before .before .shared-slice-known4 .given (c .before .before .before .before .before .before .before .before .loop .at))) (omega (arith, c .before .before .before .before .before .shared-slice-known3 .given (c .before .before .before .before .before .before .before .before .loop .at), c .before .before .before .before .shared-slice-known4 .given (c .before .before .before .before .before .before .before .before .loop .at))) (c .before .before .write-line .ensures)
-
-same-length : tie.Need-same-length Inv-loop μ-loop
-same-length c = c .before .loop .inv .same
-
-returns : tie.Need-returns Inv-loop μ-loop
-returns c = every-line _ _ _ _ _ _ (c .before .before .before .before .before .pre .0) (c .before .before .before .before .before .pre .1) (c .before .before .before .before .before .pre .2) (c .before .loop .inv) (c .loop-test .left)
+loop-again c =
+    let head = c .before .before .before .before .before .before .before .before in
+    let entry = head .before .before .before .before in
+    one-line (head .loop .inv) (entry .pre .0) (entry .pre .1) (entry .pre .2) (c .before .before .before .before .before .before .before .loop-test .taken) (c .before .before .before .before .before .before .run-at .ensures)
+    (omega (arith, c .before .before .before .before .before .shared-slice-known3 .given (head .loop .at), c .before .before .before .before .shared-slice-known4 .given (head .loop .at)))
+    (omega (arith, c .before .before .before .before .before .shared-slice-known3 .given (head .loop .at), c .before .before .before .before .shared-slice-known4 .given (head .loop .at)))
+    (c .before .before .write-line .ensures)
 
 pub write-lines-spec : {M : Type 1} → statement M
 write-lines-spec =
@@ -55,15 +48,15 @@ write-lines-spec =
     (tie.spec
     Inv-loop
     μ-loop
-    loop-holds
-    run-at-requires
-    mul-write-line
-    shared-slice-read-write-line
-    mul-write-line-2
-    shared-slice-read-write-line-2
+    (λ c. no-line)
+    (λ c κs. (c .before .before .before .before .before .pre .0, c .loop-test .taken))
+    (λ c. omega arith)
+    (λ c. omega arith)
+    (λ c. omega arith)
+    (λ c. omega arith)
     write-line-requires
     add-at
     loop-less
     loop-again
-    same-length
-    returns)
+    (λ c. c .before .loop .inv .same)
+    (λ c. every-line (c .before .loop .inv) (c .loop-test .left)))

@@ -1,12 +1,11 @@
 -- As many zeros as are asked for.
-use Prim.Native.Nat.{ℕ}
+use Prim.Native.Nat.{ℕ, _*_}
 use mathlib.Core.Path.{sym}
 use lib.ListN.{length-replicate}
+use Rattle.note.specs.Notes.{limit}
+use Rattle.redact.specs.Lines.{longestLine}
 use Rattle.redact_main.proofs.lines.lines_buffer.Statement.{statement}
 use Rattle.redact_main.proofs.lines.lines_buffer.Tie as tie
 
-returns : tie.Need-returns
-returns c = sym (length-replicate {0} {A = ℕ} 1572864 0)
-
 pub lines-buffer-spec : {M : Type 1} → statement M
-lines-buffer-spec = tie.close (tie.spec returns)
+lines-buffer-spec = tie.close (tie.spec (λ c. sym (length-replicate {0} {A = ℕ} (longestLine * limit) 0)))

@@ -23,7 +23,7 @@ loop-again c =
 returns : tie.Need-returns Inv-loop μ-loop
 returns c =
     let head = c .before .before in
-    all-summed (c .before .loop .inv) (c .loop-test .left) (head .least .ensures) (head .before .before .before .before .field .ensures)
+    all-summed (c .before .loop .inv) (c .loop-test .left) (head .least .ensures) (head .before .field .ensures)
 
 pub numbers-spec : {M : Type 1} → statement M
 numbers-spec =

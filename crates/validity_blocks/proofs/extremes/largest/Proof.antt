@@ -1,39 +1,16 @@
 -- The larger of the largest so far and the largest of the rest is the text's.
-use Prim.Native.Nat.{_≤_, _-_, max}
-use mathlib.Core.Path.{_≡_}
-use lib.ListN.{length, drop}
-use Rattle.validity_blocks.specs.Windows.{largest}
-use Rattle.validity_blocks.proofs.Bounds.{largest-more, largest-done}
+use Prim.Native.Nat.{_-_}
+use lib.ListN.{length}
 use native.Mathlib.Omega.{arith}
+use Rattle.validity_blocks.proofs.Largest.{LargestSoFar, largest-none, largest-more, largest-done}
 use Rattle.validity_blocks.proofs.extremes.largest.Statement.{statement}
 use Rattle.validity_blocks.proofs.extremes.largest.Tie as tie
 
 abbrev Inv-loop : tie.InvT-loop
-Inv-loop s most₀ i₀ most i = (i ≤ length s) × (max most (largest (drop i s)) ≡ largest s)
+Inv-loop s most₀ i₀ most i = LargestSoFar s most i
 
 abbrev μ-loop : tie.MeasureT-loop
 μ-loop s most₀ i₀ most i = length s - i
-
-loop-holds : tie.Need-loop-holds Inv-loop μ-loop
-loop-holds c = omega arith
-
-shared-slice-read-max : tie.Need-shared-slice-read-max Inv-loop μ-loop
-shared-slice-read-max c = omega arith
-
-max-requires : tie.Need-max-requires Inv-loop μ-loop
-max-requires c κs = omega arith
-
-add-i : tie.Need-add-i Inv-loop μ-loop
-add-i c = omega arith
-
-loop-less : tie.Need-loop-less Inv-loop μ-loop
-loop-less c = omega arith
-
-loop-again : tie.Need-loop-again Inv-loop μ-loop
-loop-again c = (omega arith, largest-more _ _ _ _ (c .before .before .before .loop .inv .1) (c .before .before .loop-test .taken) (c .max .ensures))
-
-returns : tie.Need-returns Inv-loop μ-loop
-returns c = largest-done _ _ _ (c .before .loop .inv .1) (c .loop-test .left)
 
 pub largest-spec : {M : Type 1} → statement M
 largest-spec =
@@ -41,10 +18,10 @@ largest-spec =
     (tie.spec
     Inv-loop
     μ-loop
-    loop-holds
-    shared-slice-read-max
-    max-requires
-    add-i
-    loop-less
-    loop-again
-    returns)
+    (λ c. largest-none)
+    (λ c. omega arith)
+    (λ c κs. omega arith)
+    (λ c. omega arith)
+    (λ c. omega arith)
+    (λ c. largest-more (c .before .before .before .loop .inv) (c .before .before .loop-test .taken) (c .max .ensures))
+    (λ c. largest-done (c .before .loop .inv) (c .loop-test .left)))

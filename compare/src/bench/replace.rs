@@ -1,0 +1,169 @@
+//! Replacing, the three calls one after the other, and blanking in one call.
+
+use super::layouts::{self, any_list, Marked, FILLER, LITERAL};
+use super::{at_most, side, timed, Bench, Other, Side, Table, NO_AIM};
+use crate::library::{self, Count, Publishing, Redacting};
+use crate::note::Note;
+use crate::places::Handed;
+use crate::texts::LIMIT;
+use std::hint::black_box;
+use std::time::Duration;
+use tokenizers::pattern::Pattern;
+use tokenizers::NormalizedString;
+
+const REPLACE: Table = Table::new(
+    "replace of a list on a ready note, which it checks",
+    &[("replace, which does not check", NO_AIM), ("copying the result's bytes and columns", NO_AIM)],
+);
+
+const FROM_TEXT_AND_REPLACE: Table = Table::new(
+    "from_text and replace of a list",
+    &[("from and replace of a list", NO_AIM), ("copying the result's bytes and columns", NO_AIM)],
+);
+
+const THREE_CALLS: Table =
+    Table::new("from_text, find_matches and replace, each with its own checks", FROM_AND_REPLACE);
+
+const REDACT: Table = Table::new(
+    "redact: finding, checks and alignments included",
+    &[("from and replace of a literal", at_most(0.20)), ("copying the result's bytes and columns", NO_AIM)],
+);
+
+const FROM_AND_REPLACE: &[Other] =
+    &[("from and replace of a literal", NO_AIM), ("copying the result's bytes and columns", NO_AIM)];
+
+/// Other literals and fillers than the bench's.
+const REDACTIONS: [(&str, &str, &str); 3] = [
+    ("redact by an empty filler", LITERAL, ""),
+    ("redact by a filler of 9 bytes, which is longer than the literal", LITERAL, "*********"),
+    ("redact of an empty literal, which is nowhere", "", FILLER),
+];
+
+pub fn bench(bench: &mut Bench) {
+    bench.table(&REPLACE, replace);
+    bench.table(&FROM_TEXT_AND_REPLACE, from_text_and_replace);
+    bench.table(&THREE_CALLS, three_calls);
+    bench.table(&REDACT, |texts| redact(texts, LITERAL, FILLER));
+    for (name, literal, filler) in REDACTIONS {
+        bench.table(&Table { name, others: FROM_AND_REPLACE, beyond: None }, |texts| redact(texts, literal, filler));
+    }
+}
+
+/// Lent buffers: a starting note's columns, a list, and a published note.
+struct Buffers {
+    starts: Vec<u16>,
+    ends: Vec<u16>,
+    list: Vec<u8>,
+    out: Vec<u8>,
+    out_starts: Vec<u16>,
+    out_ends: Vec<u16>,
+}
+
+impl Buffers {
+    fn new() -> Self {
+        let [starts, ends, out_starts, out_ends] = [(); 4].map(|()| vec![0; LIMIT]);
+        Buffers { starts, ends, list: any_list(), out: vec![0; LIMIT], out_starts, out_ends }
+    }
+
+    fn replace(&mut self, note: &Note, list: &[u8]) -> Count {
+        let lent = Publishing { text: &mut self.out, starts: &mut self.out_starts, ends: &mut self.out_ends };
+        library::replace(black_box(note), black_box(list), black_box(FILLER.as_bytes()), lent)
+    }
+
+    fn redact(&mut self, strings: [&[u8]; 3]) -> Count {
+        let [text, literal, filler] = strings.map(black_box);
+        let out = Publishing { text: &mut self.out, starts: &mut self.out_starts, ends: &mut self.out_ends };
+        let lent = Redacting { starts: &mut self.starts, ends: &mut self.ends, list: &mut self.list, out };
+        library::redact(text, literal, filler, lent)
+    }
+
+    /// As many bytes and numbers as a result has.
+    fn copy(&mut self, result: &Note) {
+        let len = result.normalized.len();
+        self.out[..len].copy_from_slice(&result.normalized);
+        self.out_starts[..len].copy_from_slice(&result.starts);
+        self.out_ends[..len].copy_from_slice(&result.ends);
+    }
+}
+
+/// Copying each text's published note.
+fn copying<'a>(texts: &[Marked], literal: &str, filler: &str) -> Side<'a> {
+    let results: Vec<_> = texts.iter().map(|text| text.replaced(literal, filler)).collect();
+    let results = layouts::lent(&results);
+    let mut buffers = Buffers::new();
+    side(move |i| timed(|| black_box(&mut buffers).copy(black_box(&results[i]))))
+}
+
+/// The time of `from` and `replace`.
+fn from_and_replace(text: &str, pattern: impl Pattern, filler: &str) -> Duration {
+    let owned = text.to_owned();
+    timed(|| {
+        let mut note = NormalizedString::from(black_box(owned));
+        note.replace(pattern, black_box(filler)).expect("a list or a literal is found");
+        note
+    })
+}
+
+fn replace(texts: &[Marked]) -> Vec<Side<'_>> {
+    let ready: Vec<NormalizedString> = texts.iter().map(Marked::fresh).collect();
+    let notes = layouts::lent(&ready);
+    let lists: Vec<Vec<u8>> = texts.iter().map(Marked::list).collect();
+    let mut buffers = Buffers::new();
+    assert!((0..texts.len()).all(|i| buffers.replace(&notes[i], &lists[i]).refusal == 0));
+    vec![
+        side(move |i| timed(|| buffers.replace(&notes[i], &lists[i]))),
+        side(move |i| {
+            let (mut theirs, places) = (ready[i].clone(), Handed::new(&texts[i].places));
+            timed(|| {
+                theirs.replace(places, black_box(FILLER)).expect("the places are given");
+                theirs
+            })
+        }),
+        copying(texts, LITERAL, FILLER),
+    ]
+}
+
+fn from_text_and_replace(texts: &[Marked]) -> Vec<Side<'_>> {
+    let mut notes = layouts::lent(&texts.iter().map(Marked::fresh).collect::<Vec<_>>());
+    let lists: Vec<Vec<u8>> = texts.iter().map(Marked::list).collect();
+    let mut buffers = Buffers::new();
+    vec![
+        side(move |i| {
+            let note = &mut notes[i];
+            timed(|| {
+                let fresh = library::from_text(black_box(texts[i].bytes()), &mut note.starts, &mut note.ends);
+                (fresh, buffers.replace(note, &lists[i]))
+            })
+        }),
+        side(|i| from_and_replace(&texts[i].text, Handed::new(&texts[i].places), FILLER)),
+        copying(texts, LITERAL, FILLER),
+    ]
+}
+
+fn three_calls(texts: &[Marked]) -> Vec<Side<'_>> {
+    let mut notes = layouts::lent(&texts.iter().map(Marked::fresh).collect::<Vec<_>>());
+    let (mut buffers, mut list) = (Buffers::new(), any_list());
+    vec![
+        side(move |i| {
+            let (text, note) = (black_box(texts[i].bytes()), &mut notes[i]);
+            timed(|| {
+                let fresh = library::from_text(text, &mut note.starts, &mut note.ends);
+                let found = library::find_matches(text, black_box(LITERAL.as_bytes()), &mut list);
+                (fresh, found, buffers.replace(note, &list[..found.count as usize]))
+            })
+        }),
+        side(|i| from_and_replace(&texts[i].text, LITERAL, FILLER)),
+        copying(texts, LITERAL, FILLER),
+    ]
+}
+
+fn redact<'a>(texts: &'a [Marked], literal: &'static str, filler: &'static str) -> Vec<Side<'a>> {
+    let mut buffers = Buffers::new();
+    let strings = move |i: usize| [texts[i].bytes(), literal.as_bytes(), filler.as_bytes()];
+    assert!((0..texts.len()).all(|i| buffers.redact(strings(i)).refusal == 0));
+    vec![
+        side(move |i| timed(|| buffers.redact(strings(i)))),
+        side(move |i| from_and_replace(&texts[i].text, literal, filler)),
+        copying(texts, literal, filler),
+    ]
+}

@@ -1,0 +1,62 @@
+-- Laws of `IndexKnown` and `PairStepped`: from one byte's character to another's, and one pair after the other.
+use Prim.Native.Nat.{ℕ, _+_, _-_, _≤_, _<_}
+use mathlib.Core.Path.{_≡_, sym}
+use mathlib.Core.List.{List}
+use borrow.Author.Tests.{lt-ltb, le-ltb}
+use native.Mathlib.Omega.{arith}
+use lib.ListN.{length, take, drop}
+use Rattle.buffers.specs.Splice.{part}
+use Rattle.utf8.specs.Letters.{leads}
+use Rattle.char_offsets.specs.Positions.{indexOf, endIndex, pairOf}
+use Rattle.char_offsets.specs.Steps.{IndexKnown, PairStepped}
+use Rattle.char_offsets.proofs.IndexOf.{index-add}
+
+module _ {most : ℕ} {s : List ℕ} {at index : ℕ} (to : ℕ) {r : ℕ} (k : IndexKnown most s at index) where
+  pub moved-on : at ≤ to → to < length s → r ≡ leads (part s (at + 1) (to + 1)) → index + r ≡ indexOf s to
+  moved-on low below e =
+      let gap : to + 1 - (at + 1) ≡ to - at = omega arith in
+      let sum : at + (to - at) ≡ to = omega arith in
+      let r-is : r ≡ leads (take (to - at) (drop (at + 1) s)) = rw gap at e in
+      rw (k .so-far, r-is) (sym (rw sum at (index-add s at (to - at) (omega arith))))
+
+  pub moved-back : to < at → r ≡ leads (part s (to + 1) (at + 1)) → index ≡ indexOf s to + r
+  moved-back below e =
+      let gap : at + 1 - (to + 1) ≡ at - to = omega arith in
+      let sum : to + (at - to) ≡ at = omega arith in
+      let r-is : r ≡ leads (take (at - to) (drop (to + 1) s)) = rw gap at e in
+      rw (k .so-far, r-is) (rw sum at (index-add s to (at - to) (omega (arith, k .inside))))
+
+module _ {most : ℕ} (s : List ℕ) (a e : ℕ) where
+  pub stepped-missing : {at index : ℕ} → IndexKnown most s at index → length s ≤ a → PairStepped most s a e (record { number = 10; start = 0; end = 0; at = at; index = index })
+  unfolding pairOf
+  stepped-missing k past =
+      record {
+        number-is = rw (le-ltb a (length s) past);
+        start-is = rw (le-ltb a (length s) past);
+        end-is = rw (le-ltb a (length s) past);
+        known = k;
+      }
+
+  -- a start inside the text, and what its end is
+  pub stepped-chars : {first last at index : ℕ} → a < length s → first ≡ indexOf s a → last ≡ endIndex s a e → IndexKnown most s at index → PairStepped most s a e (record { number = 0; start = first; end = last; at = at; index = index })
+  unfolding pairOf
+  stepped-chars below f l k =
+      record {
+        number-is = rw (lt-ltb a (length s) below);
+        start-is = rw (lt-ltb a (length s) below) f;
+        end-is = rw (lt-ltb a (length s) below) l;
+        known = k;
+      }
+
+module _ (s : List ℕ) (a e : ℕ) where
+  pub end-inside : {last : ℕ} → e < length s → last ≡ indexOf s e → last ≡ endIndex s a e
+  unfolding endIndex
+  end-inside below l = rw (lt-ltb e (length s) below) l
+
+  pub end-last : {last : ℕ} → e ≡ length s → a < length s → last ≡ indexOf s (e - 1) → last + 1 ≡ endIndex s a e
+  unfolding endIndex
+  end-last same some l = rw (le-ltb e (length s) (omega arith), lt-ltb (e - 1) (length s) (omega arith), l)
+
+  pub end-past : {first : ℕ} → length s < e → first ≡ indexOf s a → first + 2 ≡ endIndex s a e
+  unfolding endIndex
+  end-past past f = rw (le-ltb e (length s) (omega arith), le-ltb (e - 1) (length s) (omega arith), f)

@@ -1,0 +1,4 @@
+-- Laws of the working forms.
+pub mod Monotone
+pub mod Unedited
+pub mod Lengths

@@ -1,0 +1,23 @@
+-- When a note is the one of a fresh text: its two texts are the same, and each alignment fits the one before it and the
+-- byte.
+use Prim.Native.Nat.{ℕ, zero, suc, _-_}
+use mathlib.Core.Bool.{Bool, cond, _&&_}
+use mathlib.Core.List.{List}
+use lib.Dec.{eqb}
+use lib.ListN.{length, getD}
+use Rattle.buffers.specs.Every.{everyBelow}
+use Rattle.utf8.specs.Formed.{continues}
+
+-- at the byte b at i, the start s1 after s0 and the end e0 before e1: carried where b continues a character, else a
+-- character begins at i
+unfoldable pub carries : ℕ → ℕ → ℕ → ℕ → ℕ → ℕ → Bool
+carries b s0 s1 e0 e1 i = eqb s1 (cond (continues b) s0 i) && eqb e0 (cond (continues b) e1 i)
+
+unfoldable pub uneditedAt : List ℕ → List ℕ → List ℕ → ℕ → Bool
+uneditedAt text starts ends zero = eqb (getD starts 0 0) 0 && eqb (getD ends (length text - 1) 0) (length text)
+uneditedAt text starts ends (suc i) =
+    carries (getD text (suc i) 0) (getD starts i 0) (getD starts (suc i) 0) (getD ends i 0) (getD ends (suc i) 0)
+    (suc i)
+
+unfoldable pub unedited : List ℕ → List ℕ → List ℕ → ℕ → Bool
+unedited text starts ends n = everyBelow n (uneditedAt text starts ends)

@@ -1,0 +1,63 @@
+// The note that no edit has touched: its cleaned text is its transcript, each byte aligned to its character's range.
+use buffers::Offset;
+use utf8::continues;
+use validity::well_formed;
+ghost use mathlib.Core.Path.{_≡_};
+ghost use mathlib.Core.Bool.{true, _&&_};
+ghost use Prim.Native.Nat.{_≤_};
+ghost use lib.ListN.{length};
+ghost use Rattle.utf8.specs.Formed.{wellFormed};
+ghost use Rattle.note.specs.Notes.{limit};
+ghost use Rattle.checks.specs.Unedited.{carries, unedited};
+
+// Whether both texts are well-formed. Where they are the same, one is judged. An inner function: `same` was told of the
+// two texts before.
+pub fn texts_formed(original: &[u8], normalized: &[u8], same: bool) -> bool
+    requires { ⌜ (same ≡ true → now original ≡ now normalized) ⌝ }
+    ensures { λ r. ⌜ r ≡ (wellFormed (now (original .entry)) && wellFormed (now (normalized .entry))) ⌝ }
+{
+    if !well_formed(original) {
+        return false;
+    }
+    if same {
+        return true;
+    }
+    well_formed(normalized)
+}
+
+// Whether the start s1 and the end e0 are those of characters, by their neighbours and the byte `b` at `i`.
+// It has no branch, so that a loop over it is vectorised.
+fn carries(b: u8, s0: Offset, s1: Offset, e0: Offset, e1: Offset, i: Offset) -> bool
+    ensures { λ r. ⌜ r ≡ carries b s0 s1 e0 e1 i ⌝ }
+{
+    let more = continues(b);
+    ((more & (s1 == s0)) | (!more & (s1 == i))) & ((more & (e0 == e1)) | (!more & (e0 == i)))
+}
+
+// Whether each byte is aligned to its character's range. An inner function: limit and numbers of alignments were judged
+// before.
+pub fn unedited(text: &[u8], starts: &[Offset], ends: &[Offset]) -> bool
+    requires { ⌜ length (now text) ≤ limit ⌝ }
+    requires { ⌜ (length (now starts) ≡ length (now text)) × (length (now ends) ≡ length (now text)) ⌝ }
+    ensures { λ r. ⌜ r ≡ unedited (now (text .entry)) (now (starts .entry)) (now (ends .entry))
+        (length (now (text .entry))) ⌝ }
+{
+    if text.len() == 0 {
+        return true;
+    }
+    let mut ok = (starts[0] == 0) & (ends[text.len() - 1] == text.len() as Offset);
+    let mut i = 1;
+    while i < text.len() {
+        ok = ok
+            & carries(
+                text[i],
+                starts[i - 1],
+                starts[i],
+                ends[i - 1],
+                ends[i],
+                i as Offset,
+            );
+        i += 1;
+    }
+    ok
+}

@@ -1,0 +1,50 @@
+-- RULES 15.3: converting a list of ranges over one note, each as the single call answers it; the note is checked once.
+use Prim.Native.Nat.{ℕ}
+use mathlib.Core.Path.{_≡_}
+use mathlib.Core.Bool.{Bool}
+use mathlib.Core.List.{List}
+use lib.ListN.{length, getD}
+use Rattle.buffers.specs.Columns.{column}
+use Rattle.note.specs.declared.Refusal.{Refusal}
+use Rattle.note.specs.declared.Verdict.{Verdict}
+use Rattle.note.specs.Refusals.{numberOf, also, verdict, least, after}
+use Rattle.note.specs.Notes.{Note}
+use Rattle.note.specs.Faults.{noteFaults, roomFaults, unevenFaults}
+use Rattle.convert.specs.declared.OffsetReferential.{OffsetReferential}
+use Rattle.convert.specs.declared.Range.{Range}
+use Rattle.convert.specs.declared.Converted.{Converted}
+use Rattle.convert.specs.declared.Converted.the-variants.{Found, Refused}
+use Rattle.convert.specs.Converting.{startOf, endOf, rangeOf, convertOffsets}
+
+-- an answer in three numbers: 0, start and end, or the refusal's number, 0 and 0
+abbrev pub numberIn : Converted → ℕ
+numberIn (Found range) = 0
+numberIn (Refused k) = numberOf k
+
+abbrev pub startIn : Converted → ℕ
+startIn (Found range) = startOf range
+startIn (Refused k) = 0
+
+abbrev pub endIn : Converted → ℕ
+endIn (Found range) = endOf range
+endIn (Refused k) = 0
+
+-- what is answered of the range at i, by what answers a range
+unfoldable pub answerAt : (Range → Converted) → OffsetReferential → List ℕ → List ℕ → ℕ → Converted
+answerAt answer side from to i = answer (rangeOf side (getD from i 0) (getD to i 0))
+
+-- the note's refusals, beside them a list that has not as many ends as starts; then the room for one answer a range
+abbrev pub convertListFaults : ℕ → Note → List ℕ → List ℕ → ℕ → Refusal → Bool
+convertListFaults most n from to room =
+    also (also (noteFaults most n) (unevenFaults from to)) (roomFaults (length from) room)
+
+-- the note, the ranges, the lent columns before, the answer, the lent columns after
+pub record ConvertedList (most : ℕ) (n : Note) (side : OffsetReferential) (from to numbers₀ starts₀ ends₀ : List ℕ)
+    (r : Verdict) (numbers starts ends : List ℕ) : Type 0 where
+  pub answer : r ≡ verdict (convertListFaults most n from to (least (length numbers₀) (length starts₀) (length ends₀)))
+  pub numbers-are : numbers
+      ≡ after r (column (length from) (λ i. numberIn (answerAt (convertOffsets most n) side from to i))) numbers₀
+  pub starts-are : starts
+      ≡ after r (column (length from) (λ i. startIn (answerAt (convertOffsets most n) side from to i))) starts₀
+  pub ends-are : ends
+      ≡ after r (column (length from) (λ i. endIn (answerAt (convertOffsets most n) side from to i))) ends₀

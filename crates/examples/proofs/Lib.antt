@@ -1,0 +1,2 @@
+-- The worked notes, computed.
+pub mod Worked

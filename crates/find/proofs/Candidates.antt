@@ -1,0 +1,116 @@
+-- Laws of `Candidate` and `Absent`: positions at which a literal does not stand, told by two of its bytes, one by one and 64 at once.
+use Prim.Native.Nat.{ℕ, _+_, _-_, _≤_, _<_, min}
+use mathlib.Core.Path.{_≡_, _∙_, sym}
+use mathlib.Core.Bool.{Bool, true, false, cond, _&&_}
+use mathlib.Core.Logic.{inl, inr, ⊎-elim}
+use mathlib.Core.List.{List}
+use native.Mathlib.Omega.{arith}
+use lib.Dec.{eqb}
+use lib.ListN.{length, getD}
+use borrow.Author.Tests.{eq-eqb}
+use Rattle.buffers.specs.Splice.{part}
+use Rattle.buffers.proofs.Cases.{le-or-lt, true-or-false, clash}
+use Rattle.buffers.proofs.Splice.{part-index}
+use Rattle.find.specs.Matching.{occursAt, firstFrom}
+use Rattle.find.specs.Searching.{together, Candidate, Absent}
+use Rattle.find.proofs.Occurs.{occurs-inside, occurs-byte}
+use Rattle.find.proofs.FirstFrom.{first-unique}
+
+-- the loop over a block
+pub no-candidate : {a b : List ℕ} {x y r : ℕ} → r ≡ 255 → Candidate a b x y 0 r
+no-candidate none = record { before = λ k h l. absurd (omega arith); here = inl none }
+
+module _ {a b : List ℕ} {x y r j : ℕ} (c : Candidate a b x y j r) (h : j < 64) {v r₁ : ℕ} (least : r₁ ≡ min r v) where
+  candidate-hit : together a b x y j ≡ true → v ≡ j → Candidate a b x y (j + 1) r₁
+  candidate-hit t e =
+      record {
+        before = λ k l m. c .before k (omega arith) (omega arith);
+        here = inr
+            (⊎-elim
+            (λ none. let is : r₁ ≡ j = omega arith in (omega arith, rw is t))
+            (λ met. let is : r₁ ≡ r = omega (arith, met .0) in (omega (arith, met .0), rw is (met .1)))
+            (c .here));
+      }
+
+  candidate-miss : together a b x y j ≡ false → v ≡ 255 → Candidate a b x y (j + 1) r₁
+  candidate-miss f e =
+      record {
+        before = λ k l m. le-or-lt j k (λ top. let is : k ≡ j = omega arith in rw is f) (λ below. c .before k below (omega arith));
+        here = ⊎-elim
+            (λ none. inl (omega arith))
+            (λ met. let is : r₁ ≡ r = omega (arith, met .0) in inr (omega (arith, met .0), rw is (met .1)))
+            (c .here);
+      }
+
+  pub next-index : v ≡ cond (eqb (getD a j 0) x && eqb (getD b j 0) y) j 255 → Candidate a b x y (j + 1) r₁
+  unfolding together
+  next-index e =
+      true-or-false (eqb (getD a j 0) x && eqb (getD b j 0) y)
+      (λ t. candidate-hit t (rw t at e))
+      (λ f. candidate-miss f (rw f at e))
+
+pub all-indices : {a b : List ℕ} {x y r j : ℕ} → Candidate a b x y j r → j ≡ 64 → Candidate a b x y 64 r
+all-indices c full = rw full at c
+
+pub absent-none : {text literal : List ℕ} {from : ℕ} → from ≤ length text → Absent text literal from from
+absent-none h = record { onward = omega arith; most = h; not-there = λ k a b. absurd (omega arith) }
+
+absent-on : {text literal : List ℕ} {from i to : ℕ} → Absent text literal from i → Absent text literal i to → Absent text literal from to
+absent-on {i = i} p q =
+    record {
+      onward = omega (arith, p .onward, q .onward);
+      most = q .most;
+      not-there = λ k a b. le-or-lt i k (λ h. q .not-there k h b) (λ h. p .not-there k a h);
+    }
+
+-- one position
+pub absent-one : {text literal : List ℕ} {from i to : ℕ} {r : Bool} → Absent text literal from i → r ≡ occursAt text literal i → r ≡ false → Absent text literal (i + 1) to → Absent text literal from to
+absent-one {i = i} p is away q =
+    absent-on p
+    (record {
+      onward = omega (arith, q .onward);
+      most = q .most;
+      not-there = λ k a b. le-or-lt k i (λ h. let e : k ≡ i = omega arith in rw e (sym is ∙ away)) (λ h. q .not-there k (omega arith) b);
+    })
+
+-- positions of a block before its candidate
+module _ (text literal : List ℕ) (i : ℕ) {j w : ℕ} (some : 0 < length literal) (width : w ≡ length literal - 1) (beside : j ≡ i + w) where
+  occurs-together : (m : ℕ) → m < 64 → occursAt text literal (i + m) ≡ true → together (part text i (i + 64)) (part text j (j + 64)) (getD literal 0 0) (getD literal w 0) m ≡ true
+  unfolding together
+  occurs-together m h o =
+      let z : i + m + 0 ≡ i + m = omega arith in
+      let far : i + m + w ≡ j + m = omega arith in
+      let first : getD (part text i (i + 64)) m 0 ≡ getD literal 0 0 = part-index text i (i + 64) m (omega arith) ∙ (rw z at (occurs-byte text literal (i + m) 0 some o)) in
+      let last : getD (part text j (j + 64)) m 0 ≡ getD literal w 0 = part-index text j (j + 64) m (omega arith) ∙ (rw far at (occurs-byte text literal (i + m) w (omega arith) o)) in
+      rw (eq-eqb _ _ first, eq-eqb _ _ last)
+
+  pub absent-block : {from r : ℕ} (m : ℕ) → Absent text literal from i → Candidate (part text i (i + 64)) (part text j (j + 64)) (getD literal 0 0) (getD literal w 0) 64 r → m ≤ 64 → m ≤ r → i + m ≤ length text → Absent text literal from (i + m)
+  absent-block m p c h l inside =
+      absent-on p
+      (record {
+        onward = omega arith;
+        most = inside;
+        not-there = λ k a b.
+            let at : i + (k - i) ≡ k = omega arith in
+            true-or-false (occursAt text literal k)
+            (λ t. clash _ (occurs-together (k - i) (omega arith) (rw at t)) (c .before (k - i) (omega arith) (omega arith)))
+            (λ f. f);
+      })
+
+-- the first position, or none
+module _ {text literal : List ℕ} {from i : ℕ} (p : Absent text literal from i) where
+  pub first-found : {r : Bool} → r ≡ occursAt text literal i → r ≡ true → i ≡ firstFrom text literal from
+  first-found is met =
+      first-unique (record { from = p .onward; most = p .most; before = p .not-there; occurs = λ k. sym is ∙ met })
+
+  pub first-none : 0 < length literal → length text < i + length literal → length text ≡ firstFrom text literal from
+  first-none some past =
+      first-unique
+      (record {
+        from = omega (arith, p .onward, p .most);
+        most = omega arith;
+        before = λ k a b. le-or-lt i k
+            (λ h. true-or-false (occursAt text literal k) (λ t. absurd (omega (arith, occurs-inside text literal k some t))) (λ f. f))
+            (λ h. p .not-there k a h);
+        occurs = λ h. absurd (omega arith);
+      })

@@ -1,0 +1,149 @@
+-- A byte's range counted from the bytes beside it, and the columns that are written by such counts.
+use Prim.Native.Nat.{ℕ, zero, suc, _+_, _-_, _≤_, _<_}
+use mathlib.Core.Path.{_≡_, refl}
+use mathlib.Core.Bool.{Bool, true, false, cond, _&&_}
+use mathlib.Core.List.{List}
+use native.Mathlib.Omega.{arith}
+use mir.Val.{boolByte}
+use lib.ListN.{length, getD, List·getD-eq-default}
+use Rattle.buffers.specs.Splice.{overlay}
+use Rattle.buffers.specs.Columns.{Filled}
+use Rattle.buffers.proofs.Cases.{le-or-lt, true-or-false}
+use Rattle.buffers.proofs.Columns.{filled-at, filled-as, filled-after, filled-before, all-filled}
+use Rattle.utf8.specs.Formed.{wellFormed, continues}
+use Rattle.utf8.proofs.Boundaries.{boundary-begins}
+use Rattle.utf8.proofs.Formed.{announced-small}
+use Rattle.note.specs.Starting.{charStart, charEnd, starting}
+use Rattle.note.proofs.Starting.{Ranged, ranged}
+use Rattle.from_text.specs.ContinuationRun.{continuationRun, runAt}
+
+-- the count by flags, as the code adds them up
+pub flag-small : (x : Bool) → boolByte x ≤ 1
+flag-small true = omega arith
+flag-small false = omega arith
+
+flags : (x y z : Bool) → boolByte x + boolByte (x && y) + boolByte ((x && y) && z) ≡ cond x (cond y (cond z 3 2) 1) 0
+flags true true true = refl
+flags true true false = refl
+flags true false z = refl
+flags false y z = refl
+
+pub run-flags : (a b c : ℕ) (x y z : Bool) → x ≡ continues a → y ≡ continues b → z ≡ continues c → boolByte x + boolByte (x && y) + boolByte ((x && y) && z) ≡ continuationRun a b c
+unfolding continuationRun
+run-flags a b c x y z p q r = rw (← p, ← q, ← r) (flags x y z)
+
+pub run-small : (a b c : ℕ) → continuationRun a b c ≤ 3
+unfolding continuationRun
+run-small a b c =
+    true-or-false (continues a)
+    (λ p. rw p (true-or-false (continues b)
+    (λ q. rw q (true-or-false (continues c) (λ r. rw r (omega arith)) (λ r. rw r (omega arith))))
+    (λ q. rw q (omega arith))))
+    (λ p. rw p (omega arith))
+
+-- the first n bytes of three continue a character, and the next one does not
+module _ (a b c : ℕ) where
+  pub record Continued (n : ℕ) : Type 0 where
+    pub most : n ≤ 3
+    pub first : 0 < n → continues a ≡ true
+    pub second : 1 < n → continues b ≡ true
+    pub third : 2 < n → continues c ≡ true
+    pub not-first : n ≡ 0 → continues a ≡ false
+    pub not-second : n ≡ 1 → continues b ≡ false
+    pub not-third : n ≡ 2 → continues c ≡ false
+
+  run-is : (n : ℕ) → Continued n → continuationRun a b c ≡ n
+  unfolding continuationRun
+  run-is zero w = rw (w .not-first refl)
+  run-is (suc zero) w = rw (w .first (omega arith), w .not-second refl)
+  run-is (suc (suc zero)) w = rw (w .first (omega arith), w .second (omega arith), w .not-third refl)
+  run-is (suc (suc (suc zero))) w = rw (w .first (omega arith), w .second (omega arith), w .third (omega arith))
+  run-is (suc (suc (suc (suc n)))) w = absurd (omega (arith, w .most))
+
+-- at most four bytes are a character
+four : (s : List ℕ) (i : ℕ) → charEnd s i ≤ charStart s i + 4
+unfolding charEnd
+four s i = omega (arith, announced-small (getD s (charStart s i) 0))
+
+module _ (s : List ℕ) (i : ℕ) (p : wellFormed s ≡ true) (h : i < length s) where
+  -- a byte's start is as far back as bytes up to it continue a character
+  pub start-back : 2 ≤ i → charStart s i + continuationRun (getD s i 0) (getD s (i - 1) 0) (getD s (i - 2) 0) ≡ i
+  start-back low =
+      let r : Ranged s i = ranged s i p h in
+      let begins : (k : ℕ) → k ≡ charStart s i → continues (getD s k 0) ≡ false =
+      λ k e. rw e (boundary-begins s (charStart s i) (r .begins)) in
+      let count : continuationRun (getD s i 0) (getD s (i - 1) 0) (getD s (i - 2) 0) ≡ i - charStart s i =
+      run-is _ _ _ (i - charStart s i)
+      (record {
+        most = omega (arith, four s i);
+        first = λ n. r .rest i (omega arith) (r .past);
+        second = λ n. r .rest (i - 1) (omega arith) (omega arith);
+        third = λ n. r .rest (i - 2) (omega arith) (omega arith);
+        not-first = λ n. begins i (omega arith);
+        not-second = λ n. begins (i - 1) (omega arith);
+        not-third = λ n. begins (i - 2) (omega arith);
+      }) in
+      omega arith
+
+  -- and its end as far ahead as bytes after it do
+  pub end-ahead : charEnd s i ≡ i + 1 + continuationRun (getD s (i + 1) 0) (getD s (i + 2) 0) (getD s (i + 3) 0)
+  end-ahead =
+      let r : Ranged s i = ranged s i p h in
+      let ends : (k : ℕ) → k ≡ charEnd s i → continues (getD s k 0) ≡ false =
+      λ k e. rw e (boundary-begins s (charEnd s i) (r .ends)) in
+      let count : continuationRun (getD s (i + 1) 0) (getD s (i + 2) 0) (getD s (i + 3) 0) ≡ charEnd s i - (i + 1) =
+      run-is _ _ _ (charEnd s i - (i + 1))
+      (record {
+        most = omega (arith, four s i);
+        first = λ n. r .rest (i + 1) (omega arith) (omega arith);
+        second = λ n. r .rest (i + 2) (omega arith) (omega arith);
+        third = λ n. r .rest (i + 3) (omega arith) (omega arith);
+        not-first = λ n. ends (i + 1) (omega arith);
+        not-second = λ n. ends (i + 2) (omega arith);
+        not-third = λ n. ends (i + 3) (omega arith);
+      }) in
+      omega arith
+
+-- one number of a column, by the count at its index less i
+pub back-at : (counts : List ℕ) (i k : ℕ) → i + k - getD counts k 0 ≡ i + k - getD counts (i + k - i) 0
+back-at counts i k = let here : i + k - i ≡ k = omega arith in rw here
+
+pub ahead-at : (counts : List ℕ) (i k : ℕ) → i + k + 1 + getD counts k 0 ≡ i + k + 1 + getD counts (i + k - i) 0
+ahead-at counts i k = let here : i + k - i ≡ k = omega arith in rw here
+
+-- the counts of a block, from three places on
+module _ (s : List ℕ) (a b c : ℕ) (z counts : List ℕ) (w : Filled (runAt s a b c) z 0 (length z) counts) where
+  pub counts-small : (k : ℕ) → getD counts k 0 ≤ 3
+  counts-small k =
+      le-or-lt (length z) k
+      (λ past. let none : getD counts k 0 ≡ 0 = List·getD-eq-default counts 0 (omega (arith, w .same)) in omega arith)
+      (λ below. omega (arith, w .within k (omega arith) below, run-small (getD s (a + k) 0) (getD s (b + k) 0) (getD s (c + k) 0)))
+
+  counted : (k x y v : ℕ) → k < length z → a + k ≡ x → b + k ≡ y → c + k ≡ v → getD counts k 0 ≡ continuationRun (getD s x 0) (getD s y 0) (getD s v 0)
+  counted k x y v h p q r = rw (← p, ← q, ← r) (w .within k (omega arith) h)
+
+-- a block of starts, and one of ends
+pub block-starts : (s : List ℕ) (i n : ℕ) (z counts d₀ d : List ℕ) → wellFormed s ≡ true → 2 ≤ i → i + n ≤ length s → length z ≡ n → Filled (runAt s i (i - 1) (i - 2)) z 0 (length z) counts → Filled (λ k. k - getD counts (k - i) 0) d₀ i (i + length counts) d → Filled (charStart s) d₀ i (i + n) d
+block-starts s i n z counts d₀ d p low room long w made =
+    filled-as _ (charStart s) d₀ i (i + n) d (filled-at _ d₀ i (i + length counts) i (i + n) d made refl (omega (arith, w .same)))
+    (λ k from to.
+    let count = counted s i (i - 1) (i - 2) z counts w (k - i) k (k - 1) (k - 2) (omega arith) (omega arith) (omega arith) (omega arith) in
+    omega (arith, count, start-back s k p (omega arith) (omega arith)))
+
+pub block-ends : (s : List ℕ) (i n : ℕ) (z counts d₀ d : List ℕ) → wellFormed s ≡ true → i + n ≤ length s → length z ≡ n → Filled (runAt s (i + 1) (i + 2) (i + 3)) z 0 (length z) counts → Filled (λ k. k + 1 + getD counts (k - i) 0) d₀ i (i + length counts) d → Filled (charEnd s) d₀ i (i + n) d
+block-ends s i n z counts d₀ d p room long w made =
+    filled-as _ (charEnd s) d₀ i (i + n) d (filled-at _ d₀ i (i + length counts) i (i + n) d made refl (omega (arith, w .same)))
+    (λ k from to.
+    let count = counted s (i + 1) (i + 2) (i + 3) z counts w (k - i) (k + 1) (k + 2) (k + 3) (omega arith) (omega arith) (omega arith) (omega arith) in
+    omega (arith, count, end-ahead s k p (omega arith)))
+
+-- the blocks from the text's end down to i, and the starts before i; the blocks up to i, and the ends from there on
+pub all-starts : (s d₀ d d₁ : List ℕ) (i : ℕ) → length s ≤ length d₀ → Filled (charStart s) d₀ i (length s) d → Filled (charStart s) d 0 i d₁ → d₁ ≡ overlay (starting s .starts) d₀
+unfolding starting
+all-starts s d₀ d d₁ i room w rest =
+    all-filled (charStart s) d₀ (length s) d₁ (filled-before (charStart s) d₀ 0 i (length s) d d₁ w rest) room
+
+pub all-ends : (s d₀ d d₁ : List ℕ) (i : ℕ) → length s ≤ length d₀ → Filled (charEnd s) d₀ 0 i d → Filled (charEnd s) d i (length s) d₁ → d₁ ≡ overlay (starting s .ends) d₀
+unfolding starting
+all-ends s d₀ d d₁ i room w rest =
+    all-filled (charEnd s) d₀ (length s) d₁ (filled-after (charEnd s) d₀ 0 i (length s) d d₁ w rest) room

@@ -1,0 +1,111 @@
+-- Laws of `readable`, `got`, `getRange` and `getRangeOriginal`, case by case as the code comes to them.
+use Prim.Native.Nat.{ℕ, _≤_, _<_}
+use mathlib.Core.Path.{_≡_, _∙_, ap, refl}
+use mathlib.Core.Bool.{Bool, true, false, _&&_}
+use mathlib.Core.List.{List}
+use lib.Dec.{leb}
+use lib.ListN.{length}
+use borrow.Author.Tests.{le-leb, lt-leb, leb-true}
+use mathlib.Mathlib.Data.Bool.Basic.{and-elim-left, and-elim-right}
+use Rattle.utf8.specs.Formed.{boundary}
+use Rattle.utf8.proofs.Boundaries.{boundary-most}
+use Rattle.note.specs.declared.OriginalByte.{OriginalByte}
+use Rattle.note.specs.declared.NormalizedByte.{NormalizedByte}
+use Rattle.note.specs.declared.Refusal.{Refusal}
+use Rattle.note.specs.declared.Refusal.the-variants.{Missing}
+use Rattle.note.specs.declared.Verdict.{Verdict}
+use Rattle.note.specs.declared.Verdict.the-variants.{Accepted, Refused as Rejected}
+use Rattle.note.specs.Refusals.{verdict}
+use Rattle.note.specs.Notes.{Note}
+use Rattle.note.specs.Faults.{noteFaults}
+use Rattle.convert.specs.declared.Range.{Range}
+use Rattle.convert.specs.declared.Range.the-variants.{Original, Normalized}
+use Rattle.convert.specs.declared.Converted.{Converted}
+use Rattle.convert.specs.declared.Converted.the-variants.{Found, Refused}
+use Rattle.convert.specs.Converting.{startOf, endOf, converted}
+use Rattle.convert.proofs.Answered.{MissingOnly, found-or-missing, converted-missing, answered-refused, answered-accepted}
+use Rattle.get_range.specs.Reading.{readable, got, asNormalized, asOriginal, getRange, getRangeOriginal}
+
+pub readable-reversed : (s : List ℕ) (a e : ℕ) → e < a → false ≡ readable s a e
+unfolding readable
+readable-reversed s a e h = rw (lt-leb a e h)
+
+pub readable-both : (s : List ℕ) (a e : ℕ) {x y : Bool} → a ≤ e → x ≡ boundary s a → y ≡ boundary s e → (x && y) ≡ readable s a e
+unfolding readable
+readable-both s a e h p q = rw (p, q, le-leb a e h)
+
+pub readable-inside : (s : List ℕ) (a e : ℕ) → readable s a e ≡ true → (a ≤ e) × (e ≤ length s)
+unfolding readable
+readable-inside s a e r =
+    (leb-true a e (and-elim-left _ (boundary s a && boundary s e) r), boundary-most s e (and-elim-right (boundary s a) _ (and-elim-right (leb a e) _ r)))
+
+module _ (s : List ℕ) {answer : Converted} where
+  module _ {range : Range} {a e : ℕ} {t : Bool} (is : answer ≡ Found range) (p : a ≡ startOf range) (q : e ≡ endOf range) (r : t ≡ readable s a e) where
+    pub got-found : t ≡ true → Found range ≡ got s answer
+    unfolding got
+    got-found y = rw (is, ← p, ← q, ← r, y)
+
+    pub got-unread : t ≡ false → Refused Missing ≡ got s answer
+    unfolding got
+    got-unread y = rw (is, ← p, ← q, ← r, y)
+
+  pub got-refused : {k : Refusal} → answer ≡ Refused k → Refused k ≡ got s answer
+  unfolding got
+  got-refused is = rw is
+
+-- a range in the text that is read
+module _ (n : Note) {range : Range} where
+  pub asNormalized-other : {a b : OriginalByte} → range ≡ Original a b → converted (n .starts) (n .ends) range ≡ asNormalized n range
+  unfolding asNormalized
+  asNormalized-other is = rw is
+
+  pub asNormalized-own : {a b : NormalizedByte} → range ≡ Normalized a b → Found range ≡ asNormalized n range
+  unfolding asNormalized
+  asNormalized-own is = rw is
+
+  pub asOriginal-other : {a b : NormalizedByte} → range ≡ Normalized a b → converted (n .starts) (n .ends) range ≡ asOriginal n range
+  unfolding asOriginal
+  asOriginal-other is = rw is
+
+  pub asOriginal-own : {a b : OriginalByte} → range ≡ Original a b → Found range ≡ asOriginal n range
+  unfolding asOriginal
+  asOriginal-own is = rw is
+
+-- no refusal but `Missing`
+got-missing : (s : List ℕ) (answer : Converted) → MissingOnly answer → MissingOnly (got s answer)
+unfolding got
+got-missing s (Found range) only = found-or-missing (readable s (startOf range) (endOf range)) range
+got-missing s (Refused k) only = only
+
+asNormalized-missing : (n : Note) (range : Range) → MissingOnly (asNormalized n range)
+unfolding asNormalized
+asNormalized-missing n (Original a b) = converted-missing (n .starts) (n .ends) (Original a b)
+asNormalized-missing n (Normalized a b) = refl
+
+asOriginal-missing : (n : Note) (range : Range) → MissingOnly (asOriginal n range)
+unfolding asOriginal
+asOriginal-missing n (Original a b) = refl
+asOriginal-missing n (Normalized a b) = converted-missing (n .starts) (n .ends) (Normalized a b)
+
+-- the two calls, by what the check of the note says
+module _ (most : ℕ) (n : Note) (range : Range) {v : Verdict} (e : v ≡ verdict (noteFaults most n)) where
+  pub getRange-refused : {k : Refusal} → v ≡ Rejected k → Refused k ≡ getRange most n range
+  unfolding getRange
+  getRange-refused is = answered-refused most n _ e is
+
+  pub getRangeOriginal-refused : {k : Refusal} → v ≡ Rejected k → Refused k ≡ getRangeOriginal most n range
+  unfolding getRangeOriginal
+  getRangeOriginal-refused is = answered-refused most n _ e is
+
+  module _ (ok : v ≡ Accepted) {answer r : Converted} where
+    pub getRange-got : answer ≡ asNormalized n range → r ≡ got (n .normalized) answer → r ≡ getRange most n range
+    unfolding getRange
+    getRange-got is q =
+        q ∙ ap (got (n .normalized)) is
+        ∙ answered-accepted most n (got (n .normalized) (asNormalized n range)) e ok (got-missing _ _ (asNormalized-missing n range))
+
+    pub getRangeOriginal-got : answer ≡ asOriginal n range → r ≡ got (n .original) answer → r ≡ getRangeOriginal most n range
+    unfolding getRangeOriginal
+    getRangeOriginal-got is q =
+        q ∙ ap (got (n .original)) is
+        ∙ answered-accepted most n (got (n .original) (asOriginal n range)) e ok (got-missing _ _ (asOriginal-missing n range))

@@ -1,0 +1,48 @@
+-- Laws of the refusal conditions of a lent note and a lent text.
+use Prim.Native.Nat.{ℕ, _≤_, _<_}
+use mathlib.Core.Path.{_≡_}
+use mathlib.Core.Bool.{true, not}
+use mathlib.Core.List.{List}
+use lib.Dec.{leb}
+use lib.ListN.{length}
+use borrow.Author.Tests.{leb-true, not-false, le-leb, lt-leb}
+use Rattle.utf8.specs.Formed.{wellFormed}
+use Rattle.note.specs.declared.Refusal.the-variants.{IllFormed, TooLong, LengthMismatch, Misaligned, NoRoom}
+use Rattle.note.specs.declared.Verdict.the-variants.{Accepted, Refused}
+use Rattle.note.specs.Refusals.{verdict}
+use Rattle.note.specs.Notes.{fits, paired, textsFormed, aligned}
+use Rattle.note.specs.Faults.{noteFaults, textFaults, stringFaults, roomFaults, AcceptedSound}
+use Rattle.note.proofs.Verdicts.{accepted-meets}
+
+pub accepted-sound : AcceptedSound
+accepted-sound most n e =
+    let no = accepted-meets (noteFaults most n) e in (
+      record {
+        has-pairs = not-false (paired n) (no LengthMismatch);
+        has-texts = not-false (textsFormed n) (no IllFormed);
+        has-alignments = not-false (aligned n) (no Misaligned);
+      },
+      not-false (fits most n) (no TooLong),
+    )
+
+-- an accepted text, string and room
+pub text-short : (most : ℕ) (s : List ℕ) → verdict (textFaults most s) ≡ Accepted → length s ≤ most
+text-short most s e = leb-true (length s) most (not-false (leb (length s) most) (accepted-meets (textFaults most s) e TooLong))
+
+pub text-formed : (most : ℕ) (s : List ℕ) → verdict (textFaults most s) ≡ Accepted → wellFormed s ≡ true
+text-formed most s e = not-false (wellFormed s) (accepted-meets (textFaults most s) e IllFormed)
+
+pub string-formed : (s : List ℕ) → verdict (stringFaults s) ≡ Accepted → wellFormed s ≡ true
+string-formed s e = not-false (wellFormed s) (accepted-meets (stringFaults s) e IllFormed)
+
+pub room-enough : (size room : ℕ) → verdict (roomFaults size room) ≡ Accepted → size ≤ room
+room-enough size room e = leb-true size room (not-false (leb size room) (accepted-meets (roomFaults size room) e NoRoom))
+
+-- a room that is too small, and one that is not
+pub no-room : {size room : ℕ} → room < size → Refused NoRoom ≡ verdict (roomFaults size room)
+unfolding verdict
+no-room {size} {room} h = simp (lt-leb size room h)
+
+pub enough-room : {size room : ℕ} → size ≤ room → Accepted ≡ verdict (roomFaults size room)
+unfolding verdict
+enough-room {size} {room} h = simp (le-leb size room h)

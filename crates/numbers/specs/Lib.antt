@@ -1,0 +1,3 @@
+-- What the contracts of `numbers` are said with.
+pub mod LittleEndian
+pub mod Decimal

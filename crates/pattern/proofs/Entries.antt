@@ -1,0 +1,125 @@
+-- Laws of `entryAt`, `placesOf` and `whole`: a list is read entry by entry, and nobody needs to know how long one is.
+use Prim.Native.Nat.{ℕ, zero, suc, _+_, _-_, _≤_, _<_}
+use mathlib.Core.Path.{_≡_, _∙_, ap, refl, sym}
+use mathlib.Core.Bool.{Bool, true, false, cond, _&&_, _||_, or-true}
+use mathlib.Mathlib.Data.Bool.Basic.{and-elim-right}
+use mathlib.Core.List.{List, [], _∷_}
+use native.Mathlib.Omega.{arith}
+use lib.Dec.{leb, eqb}
+use lib.ListN.{length, getD, drop, length-drop, drop-of-length-le}
+use lib.Seq.{drop-cons, drop-drop, getD-drop}
+use borrow.Author.Tests.{le-leb, lt-leb, leb-true, eq-eqb, ne-eqb}
+use Rattle.buffers.proofs.Cases.{le-or-lt, true-or-false}
+use Rattle.buffers.proofs.Booleans.{and-false-r}
+use Rattle.note.specs.declared.NormalizedByte.{NormalizedByte}
+use Rattle.pattern.specs.declared.Place.{Place}
+use Rattle.pattern.specs.declared.Entry.{Entry}
+use Rattle.pattern.specs.declared.Entry.the-variants.{At, Broken}
+use Rattle.pattern.specs.Entries.{positionAt, placeAt, entryAt, listed, isPlace, nextOf, placesFrom, placesOf, wholeFrom, whole}
+
+-- whether an entry is a place: its command is known, and its operands are not cut
+abbrev test : List ℕ → ℕ → Bool
+test l i = (eqb (getD l i 0) 11 || eqb (getD l i 0) 12) && leb (i + 5) (length l)
+
+-- by what the code tests
+module _ (l : List ℕ) (i : ℕ) where
+  pub entry-cut : length l < i + 5 → Broken ≡ entryAt l i
+  unfolding entryAt
+  entry-cut h = rw (and-false-r (eqb (getD l i 0) 11 || eqb (getD l i 0) 12) _ (lt-leb (i + 5) (length l) h))
+
+  pub entry-unknown : (getD l i 0 ≡ 11 → ⊥) → (getD l i 0 ≡ 12 → ⊥) → Broken ≡ entryAt l i
+  unfolding entryAt
+  entry-unknown not-11 not-12 = rw (ne-eqb (getD l i 0) 11 not-11, ne-eqb (getD l i 0) 12 not-12)
+
+  known : 11 ≤ getD l i 0 → getD l i 0 ≤ 12 → (eqb (getD l i 0) 11 || eqb (getD l i 0) 12) ≡ true
+  known low high =
+      le-or-lt (getD l i 0) 11
+      (λ k. rw (eq-eqb (getD l i 0) 11 (omega arith)))
+      (λ k. rw (eq-eqb (getD l i 0) 12 (omega arith)) (or-true (eqb (getD l i 0) 11)))
+
+  pub entry-place : {start end : NormalizedByte} → i + 5 ≤ length l → 11 ≤ getD l i 0 → getD l i 0 ≤ 12 → start ≡ positionAt l (i + 1) → end ≡ positionAt l (i + 3) → At (record { start = start; end = end; matched = eqb (getD l i 0) 12 }) (i + 5) ≡ entryAt l i
+  unfolding entryAt placeAt
+  entry-place h low high s e = rw (known low high, le-leb (i + 5) (length l) h, s, e)
+
+  -- and what an entry tells
+  told : {p : Place} {next : ℕ} → entryAt l i ≡ At p next → (test l i ≡ true) × ((placeAt l i ≡ p) × (i + 5 ≡ next))
+  unfolding entryAt
+  told {p} {next} e =
+      true-or-false (test l i)
+      (λ t. let z : At (placeAt l i) (i + 5) ≡ At p next = rw t at e in (t, (cc, cc)))
+      (λ f. let z : Broken ≡ At p next = rw f at e in let y : _≡_ {A = ℕ} 0 1 = cc in absurd (omega arith))
+
+  told-broken : entryAt l i ≡ Broken → test l i ≡ false
+  unfolding entryAt
+  told-broken e =
+      true-or-false (test l i)
+      (λ t. let z : At (placeAt l i) (i + 5) ≡ Broken = rw t at e in let y : _≡_ {A = ℕ} 0 1 = cc in absurd (omega arith))
+      (λ f. f)
+
+-- the entry at i is the first one of what stands from i on
+position-drop : (l : List ℕ) (i k : ℕ) → positionAt (drop i l) k ≡ positionAt l (i + k)
+unfolding positionAt
+position-drop l i k =
+    let two : k + 2 - k ≡ i + k + 2 - (i + k) = omega arith in
+    rw (drop-drop k i l, two)
+
+entry-drop : (l : List ℕ) (i : ℕ) → i < length l → entryAt (drop i l) 0 ≡ cond (test l i) (At (placeAt l i) 5) Broken
+unfolding entryAt placeAt
+entry-drop l i h =
+    let z : i + 0 ≡ i = omega arith in
+    let long : length (drop i l) ≡ length l - i = length-drop i l in
+    rw (getD-drop i l 0 0, position-drop l i 1, position-drop l i 3, z)
+    (le-or-lt (i + 5) (length l)
+    (λ k. rw (le-leb (i + 5) (length l) k, le-leb 5 (length (drop i l)) (omega arith)))
+    (λ k. rw (lt-leb (i + 5) (length l) k, lt-leb 5 (length (drop i l)) (omega arith))))
+
+places-skip : (k : ℕ) (l : List ℕ) → placesFrom k l ≡ placesOf (drop k l)
+unfolding placesFrom placesOf
+places-skip zero l = refl
+places-skip (suc k) [] = refl
+places-skip (suc k) (b ∷ l) = places-skip k l
+
+whole-skip : (k : ℕ) (l : List ℕ) → wholeFrom k l ≡ whole (drop k l)
+unfolding wholeFrom whole
+whole-skip zero l = refl
+whole-skip (suc k) [] = refl
+whole-skip (suc k) (b ∷ l) = whole-skip k l
+
+places-cons : (l : List ℕ) (i : ℕ) → i < length l → placesOf (drop i l) ≡ listed (entryAt (drop i l) 0) (placesFrom (nextOf (entryAt (drop i l) 0) - 1) (drop (suc i) l))
+unfolding placesFrom placesOf
+places-cons l i h = ap placesOf (drop-cons l i 0 h) ∙ rw (← drop-cons l i 0 h)
+
+whole-cons : (l : List ℕ) (i : ℕ) → i < length l → whole (drop i l) ≡ (isPlace (entryAt (drop i l) 0) && wholeFrom (nextOf (entryAt (drop i l) 0) - 1) (drop (suc i) l))
+unfolding wholeFrom whole
+whole-cons l i h = ap whole (drop-cons l i 0 h) ∙ rw (← drop-cons l i 0 h)
+
+-- THE STEP: from the place at i to where the next one begins
+pub record Stepped (l : List ℕ) (i : ℕ) (p : Place) (next : ℕ) : Type 0 where
+  pub onward : i < next
+  pub most : next ≤ length l
+  pub places : placesOf (drop i l) ≡ p ∷ placesOf (drop next l)
+  pub wholes : whole (drop i l) ≡ whole (drop next l)
+
+pub entry-step : (l : List ℕ) {i : ℕ} {e : Entry} {p : Place} {next : ℕ} → e ≡ entryAt l i → e ≡ At p next → Stepped l i p next
+entry-step l {i} {e} {p} {next} is at =
+    let known = told l i (sym is ∙ at) in
+    let long : i + 5 ≤ length l = leb-true _ _ (and-elim-right (eqb (getD l i 0) 11 || eqb (getD l i 0) 12) _ (known .0)) in
+    let first : entryAt (drop i l) 0 ≡ At p 5 = entry-drop l i (omega arith) ∙ rw (known .0, known .1 .0) in
+    let far : suc i + 4 ≡ next = omega (arith, known .1 .1) in
+    record {
+      onward = omega (arith, known .1 .1);
+      most = omega (arith, known .1 .1);
+      places = places-cons l i (omega arith) ∙ rw (first, places-skip 4 (drop (suc i) l), drop-drop 4 (suc i) l, far);
+      wholes = whole-cons l i (omega arith) ∙ rw (first, whole-skip 4 (drop (suc i) l), drop-drop 4 (suc i) l, far);
+    }
+
+-- an entry that is no place
+pub entry-broken : (l : List ℕ) {i : ℕ} {e : Entry} → i < length l → e ≡ entryAt l i → e ≡ Broken → (placesOf (drop i l) ≡ []) × (whole (drop i l) ≡ false)
+entry-broken l {i} h is at =
+    let first : entryAt (drop i l) 0 ≡ Broken = entry-drop l i h ∙ rw (told-broken l i (sym is ∙ at)) in
+    (places-cons l i h ∙ rw first, whole-cons l i h ∙ rw first)
+
+-- the list's end
+pub entries-end : (l : List ℕ) {i : ℕ} → length l ≤ i → (placesOf (drop i l) ≡ []) × (whole (drop i l) ≡ true)
+unfolding placesFrom placesOf wholeFrom whole
+entries-end l h = (rw (drop-of-length-le l h), rw (drop-of-length-le l h))

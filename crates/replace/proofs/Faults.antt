@@ -1,0 +1,156 @@
+-- Laws of `replaceFaults`: what an accepted call tells, and what the calls answer by the checks that were made.
+use Prim.Native.Nat.{ℕ, _+_, _≤_, _<_, min}
+use mathlib.Core.Path.{_≡_, _∙_, ap, refl, sym}
+use mathlib.Core.Bool.{Bool, true, false, cond, not}
+use mathlib.Core.List.{List}
+use native.Mathlib.Omega.{arith}
+use lib.Dec.{leb, ltb}
+use lib.ListN.{length, length-replicate}
+use borrow.Author.Tests.{not-true, not-false, le-leb, lt-leb, lt-ltb, le-ltb}
+use Rattle.buffers.proofs.Cases.{true-or-false, le-or-lt}
+use Rattle.utf8.specs.Formed.{wellFormed}
+use Rattle.note.specs.declared.Refusal.{Refusal}
+use Rattle.note.specs.declared.Refusal.the-variants.{BadMatches, NoRoom}
+use Rattle.note.specs.declared.Verdict.{Verdict}
+use Rattle.note.specs.declared.Verdict.the-variants.{Accepted, Refused as Rejected}
+use Rattle.note.specs.Refusals.{least, also, verdict}
+use Rattle.note.specs.Rank.{earlier}
+use Rattle.note.specs.Notes.{Note, fits, Sound}
+use Rattle.note.specs.Faults.{noteFaults, stringFaults, roomFaults}
+use Rattle.note.proofs.Verdicts.{accepted-first, accepted-second, accepted-meets, earlier-of, refused-then, accepted-then}
+use Rattle.note.proofs.Sound.{length-starts, length-ends}
+use Rattle.note.proofs.Faults.{accepted-sound, string-formed, room-enough}
+use Rattle.pattern.specs.Entries.{placesOf}
+use Rattle.pattern.specs.Places.{coversFrom, covers, listFaults}
+use Rattle.pattern.proofs.Places.{covers-places}
+use Rattle.replace.specs.declared.Publication.{Publication}
+use Rattle.replace.specs.declared.Publication.the-variants.{Published, Refused}
+use Rattle.replace.specs.Replacing.{laid, carried, replaced, replaceFaults, publication, Replacing}
+use Rattle.replace.specs.Sizes.{sizes}
+use Rattle.replace.specs.Laying.{Ready, AllLaid}
+use Rattle.replace.proofs.Sizes.{length-laid}
+
+-- the two halves of the conditions
+abbrev lentFaults : ℕ → Note → List ℕ → Refusal → Bool
+lentFaults most n content = also (noteFaults most n) (stringFaults content)
+
+abbrev resultFaults : List ℕ → List ℕ → ℕ → ℕ → Refusal → Bool
+resultFaults text list size room = also (listFaults text list) (roomFaults size room)
+
+abbrev sizeIn : Note → List ℕ → List ℕ → ℕ
+sizeIn n list content = length (replaced (placesOf list) content n .text)
+
+-- what an accepted call tells of its note: one alignment per byte, and places that cover the text
+pub record Taken (n : Note) (list : List ℕ) : Type 0 where
+  pub one-start : length (n .starts) ≡ length (n .normalized)
+  pub one-end : length (n .ends) ≡ length (n .normalized)
+  pub covered : coversFrom (n .normalized) 0 (placesOf list) ≡ true
+
+module _ (most : ℕ) (n : Note) (list content : List ℕ) (room : ℕ) (e : verdict (replaceFaults most n list content room) ≡ Accepted) where
+  lent-accepted : verdict (lentFaults most n content) ≡ Accepted
+  lent-accepted = accepted-first (lentFaults most n content) (resultFaults (n .normalized) list (sizeIn n list content) (min most room)) e
+
+  result-accepted : verdict (resultFaults (n .normalized) list (sizeIn n list content) (min most room)) ≡ Accepted
+  result-accepted = accepted-second (lentFaults most n content) (resultFaults (n .normalized) list (sizeIn n list content) (min most room)) e
+
+  pub accepted-note : Sound n × (fits most n ≡ true)
+  accepted-note = accepted-sound most n (accepted-first (noteFaults most n) (stringFaults content) lent-accepted)
+
+  pub accepted-content : wellFormed content ≡ true
+  accepted-content = string-formed content (accepted-second (noteFaults most n) (stringFaults content) lent-accepted)
+
+  pub accepted-taken : Taken n list
+  accepted-taken =
+      let listed = accepted-first (listFaults (n .normalized) list) (roomFaults (sizeIn n list content) (min most room)) result-accepted in
+      record {
+        one-start = length-starts n (accepted-note .0);
+        one-end = length-ends n (accepted-note .0);
+        covered = covers-places (n .normalized) list (not-false (covers (n .normalized) list) (accepted-meets (listFaults (n .normalized) list) listed BadMatches));
+      }
+
+  pub accepted-room : sizeIn n list content ≤ min most room
+  accepted-room = room-enough (sizeIn n list content) (min most room) (accepted-second (listFaults (n .normalized) list) (roomFaults (sizeIn n list content) (min most room)) result-accepted)
+
+-- a call that has published
+says-published : (v : Verdict) (a size : ℕ) → Published a ≡ publication v size → (v ≡ Accepted) × (a ≡ size)
+says-published Accepted a size e = (refl, cc)
+says-published (Rejected k) a size e = let z : _≡_ {A = ℕ} 0 1 = cc in absurd (omega arith)
+
+module _ {most : ℕ} {n : Note} {list content out₀ starts₀ ends₀ out starts ends : List ℕ} {a : ℕ} (call : Replacing most n list content out₀ starts₀ ends₀ (Published a) out starts ends) where
+  pub published-says : call .says ≡ Accepted
+  published-says = says-published (call .says) a (sizeIn n list content) (call .answer) .0
+
+  pub published-size : a ≡ length (replaced (placesOf list) content n .text)
+  published-size = says-published (call .says) a (sizeIn n list content) (call .answer) .1
+
+  pub taken : Taken n list
+  taken = accepted-taken most n list content (least (length out₀) (length starts₀) (length ends₀)) (sym (call .says-is) ∙ published-says)
+
+  pub published-short : a ≤ most
+  published-short =
+      omega (arith, published-size, accepted-room most n list content (least (length out₀) (length starts₀) (length ends₀)) (sym (call .says-is) ∙ published-says))
+
+-- the list, then the room
+module _ (text list : List ℕ) (size : ℕ) {t : Bool} (is : t ≡ covers text list) where
+  pub not-covering : (room : ℕ) → not t ≡ true → Rejected BadMatches ≡ verdict (resultFaults text list size room)
+  unfolding verdict
+  not-covering room e = rw (sym is ∙ not-true t e)
+
+  pub by-room : (most room : ℕ) {m x : ℕ} {r : Verdict} → not t ≡ false → m ≡ min (most + 1) size → x ≡ min most room → r ≡ cond (ltb x m) (Rejected NoRoom) Accepted → r ≡ verdict (resultFaults text list size (min most room))
+  unfolding verdict
+  by-room most room {m} {x} e measured least answer =
+      answer
+      ∙ rw (sym is ∙ not-false t e)
+      (le-or-lt size (min most room)
+      (λ fits. rw (le-leb size (min most room) fits, le-ltb x m (omega arith)))
+      (λ over. rw (lt-leb size (min most room) over, lt-ltb x m (omega arith))))
+
+-- the size of the places is that of the result, where they cover the text
+sizes-verdict : (n : Note) (list content : List ℕ) (room : ℕ) → verdict (resultFaults (n .normalized) list (sizes (length content) (placesOf list)) room) ≡ verdict (resultFaults (n .normalized) list (sizeIn n list content) room)
+unfolding verdict replaced
+sizes-verdict n list content room =
+    true-or-false (covers (n .normalized) list)
+    (λ cov. rw (length-laid (n .normalized) (n .normalized) (λ end. content) (length content) 0 (placesOf list) refl (λ e. refl) (covers-places (n .normalized) list cov)))
+    (λ no-cover. rw no-cover)
+
+-- what is said of note and content, then of list and room
+module _ (most : ℕ) (n : Note) (list content : List ℕ) (room : ℕ) {u v w : Verdict} (noted : u ≡ verdict (noteFaults most n)) (string : v ≡ verdict (stringFaults content)) (first : w ≡ earlier u v) where
+  lent-verdict : w ≡ verdict (lentFaults most n content)
+  lent-verdict = earlier-of (noteFaults most n) (stringFaults content) noted string first
+
+  pub refused-lent : {k : Refusal} → w ≡ Rejected k → Rejected k ≡ verdict (replaceFaults most n list content room)
+  refused-lent e = refused-then 4 (lentFaults most n content) (resultFaults (n .normalized) list (sizeIn n list content) (min most room)) refl refl lent-verdict e
+
+  pub accepted-lent : {r : Verdict} → w ≡ Accepted → r ≡ verdict (resultFaults (n .normalized) list (sizes (length content) (placesOf list)) (min most room)) → r ≡ verdict (replaceFaults most n list content room)
+  accepted-lent e l =
+      accepted-then 4 (lentFaults most n content) (resultFaults (n .normalized) list (sizeIn n list content) (min most room)) refl refl lent-verdict e
+      (l ∙ sizes-verdict n list content (min most room))
+
+-- the call
+module _ (most : ℕ) (n : Note) (list content out₀ starts₀ ends₀ : List ℕ) {v : Verdict} {room : ℕ} (rooms : room ≡ least (length out₀) (length starts₀) (length ends₀)) (says : v ≡ verdict (replaceFaults most n list content room)) where
+  said : v ≡ verdict (replaceFaults most n list content (least (length out₀) (length starts₀) (length ends₀)))
+  said = says ∙ ap (λ (r : ℕ). verdict (replaceFaults most n list content r)) rooms
+
+  pub refused : {k : Refusal} → v ≡ Rejected k → Replacing most n list content out₀ starts₀ ends₀ (Refused k) out₀ starts₀ ends₀
+  refused {k} e = record { says = Rejected k; says-is = sym e ∙ said; answer = refl; text-is = refl; starts-are = refl; ends-are = refl }
+
+  pub ready : v ≡ Accepted → Ready (n .normalized) (n .starts) (n .ends) list content out₀ starts₀ ends₀
+  unfolding replaced
+  ready e =
+      let all : ℕ = least (length out₀) (length starts₀) (length ends₀) in
+      let t : Taken n list = accepted-taken most n list content all (sym said ∙ e) in
+      let size : length (laid (λ end. content) (placesOf list) (n .normalized)) ≡ sizes (length content) (placesOf list) =
+      length-laid (n .normalized) (n .normalized) (λ end. content) (length content) 0 (placesOf list) refl (λ e. refl) (t .covered) in
+      let fits = accepted-room most n list content all (sym said ∙ e) in
+      record {
+        one-start = t .one-start;
+        one-end = t .one-end;
+        covered = t .covered;
+        text-room = omega (arith, size, fits);
+        starts-room = omega (arith, size, fits);
+        ends-room = omega (arith, size, fits);
+      }
+
+  pub accepted : v ≡ Accepted → {r : ℕ} {out starts ends : List ℕ} → AllLaid (n .normalized) (n .starts) (n .ends) list content out₀ starts₀ ends₀ r out starts ends → Replacing most n list content out₀ starts₀ ends₀ (Published r) out starts ends
+  unfolding replaced
+  accepted e l = record { says = Accepted; says-is = sym e ∙ said; answer = ap Published (l .reached); text-is = l .text-is; starts-are = l .starts-are; ends-are = l .ends-are }

@@ -1,0 +1,13 @@
+-- The working form of a result's size, place by place.
+use Prim.Native.Nat.{ℕ, _+_, _-_}
+use mathlib.Core.Bool.{cond}
+use mathlib.Core.List.{List, [], _∷_}
+use Rattle.pattern.specs.declared.Place.{Place}
+
+-- how many bytes a place gives beside a content of `wide` bytes
+unfoldable pub sizeOf : ℕ → Place → ℕ
+sizeOf wide p = cond (p .matched) wide (p .end .0 - p .start .0)
+
+unfoldable pub sizes : ℕ → List Place → ℕ
+sizes wide [] = 0
+sizes wide (p ∷ ps) = sizeOf wide p + sizes wide ps

@@ -1,0 +1,166 @@
+-- Laws of `pending` and `invalid`: the tests without branches, shorter where there are no long characters.
+-- A byte too far back to lead a long character counts as 0.
+use Prim.Native.Nat.{ℕ, _≤_, _<_, max}
+use mathlib.Core.Path.{_≡_, _∙_, refl, sym}
+use mathlib.Core.Bool.{Bool, true, false, xor, _&&_, _||_, not, and-true, and-false, or-false}
+use mathlib.Mathlib.Data.Bool.Basic.{or-eq-false-eq-eq-false-and-eq-false}
+use borrow.Author.Tests.{le-leb, lt-leb, lt-ltb, le-ltb, ne-eqb, eqb-true}
+use native.Mathlib.Omega.{arith}
+use lib.Dec.{leb, ltb, eqb}
+use Rattle.buffers.proofs.Cases.{clash, true-or-false, le-or-lt}
+use Rattle.buffers.proofs.Booleans.{and-false-r}
+use Rattle.utf8.specs.Table.{bytes, within, trail}
+use Rattle.utf8.specs.Formed.{second}
+use Rattle.utf8.proofs.Formed.{second-trail, second-continues, continues-high}
+use Rattle.validity_blocks.specs.Extremes.{fromLead, Plain}
+use Rattle.validity_blocks.specs.Valid.{pending, never, invalid}
+
+module _ (b3 b2 b1 : ℕ) where
+  pub pending-1 : 0xC0 ≤ b1 → pending b3 b2 b1 ≡ true
+  unfolding pending
+  pending-1 h = simp (le-leb 0xC0 b1 h)
+
+  pub pending-2 : b1 < 0xC0 → 0xE0 ≤ b2 → pending b3 b2 b1 ≡ true
+  unfolding pending
+  pending-2 h k = simp (lt-leb 0xC0 b1 h, le-leb 0xE0 b2 k)
+
+  pub pending-3 : b1 < 0xC0 → b2 < 0xE0 → 0xF0 ≤ b3 → pending b3 b2 b1 ≡ true
+  unfolding pending
+  pending-3 h k l = simp (lt-leb 0xC0 b1 h, lt-leb 0xE0 b2 k, le-leb 0xF0 b3 l)
+
+  pub pending-none : b1 < 0xC0 → b2 < 0xE0 → b3 < 0xF0 → pending b3 b2 b1 ≡ false
+  unfolding pending
+  pending-none h k l = simp (lt-leb 0xC0 b1 h, lt-leb 0xE0 b2 k, lt-leb 0xF0 b3 l)
+
+  -- where none is pending, a byte below 80 can stand
+  pub valid-ascii : (b : ℕ) → b1 < 0xC0 → b2 < 0xE0 → b3 < 0xF0 → b < 0x80 → not (invalid b3 b2 b1 b) ≡ true
+  unfolding invalid xor never within
+  valid-ascii b h k l low =
+      rw (pending-none h k l, second-trail b1 (omega arith), lt-leb 0x80 b low, lt-leb 0xC0 b (omega arith), lt-leb 0xF5 b (omega arith))
+
+-- a column narrower than 80..BF is that column without what is below it, or above it
+above : (low b : ℕ) → 0x80 ≤ low → within (bytes low 0xBF) b ≡ (within trail b && not (ltb b low))
+unfolding within
+above low b least =
+    le-or-lt low b
+    (λ h. rw (le-leb low b h, le-leb 0x80 b (omega arith), le-ltb b low h) (sym (and-true (leb b 0xBF))))
+    (λ h. rw (lt-leb low b h, lt-ltb b low h) (sym (and-false (within trail b))))
+
+below : (high b : ℕ) → high ≤ 0xBF → within (bytes 0x80 high) b ≡ (within trail b && not (ltb high b))
+unfolding within
+below high b most =
+    le-or-lt b high
+    (λ h. rw (le-leb b high h, le-leb b 0xBF (omega arith), le-ltb high b h) (sym (and-true (leb 0x80 b && true))))
+    (λ h. rw (lt-leb b high h, lt-ltb high b h) (and-false (leb 0x80 b) ∙ sym (and-false (within trail b))))
+
+-- b1 asks for a second byte of less than 80..BF, and b0 is below or above that
+unfoldable pub odd : ℕ → ℕ → Bool
+odd b1 b0 = (eqb b1 0xE0 && ltb b0 0xA0) || (eqb b1 0xED && ltb 0x9F b0) || (eqb b1 0xF0 && ltb b0 0x90) || (eqb b1 0xF4 && ltb 0x8F b0)
+
+second-odd : (b1 b0 : ℕ) → within (second b1) b0 ≡ (within trail b0 && not (odd b1 b0))
+unfolding second odd
+second-odd b1 b0 =
+    true-or-false (eqb b1 0xE0)
+    (λ e. rw (eqb-true b1 0xE0 e) (simp or-false (above 0xA0 b0 (omega arith))))
+    (λ n1. true-or-false (eqb b1 0xED)
+    (λ e. rw (eqb-true b1 0xED e) (simp or-false (below 0x9F b0 (omega arith))))
+    (λ n2. true-or-false (eqb b1 0xF0)
+    (λ e. rw (eqb-true b1 0xF0 e) (simp or-false (above 0x90 b0 (omega arith))))
+    (λ n3. true-or-false (eqb b1 0xF4)
+    (λ e. rw (eqb-true b1 0xF4 e) (below 0x8F b0 (omega arith)))
+    (λ n4. rw (n1, n2, n3, n4) (sym (and-true (within trail b0)))))))
+
+odd-lead : (b1 b0 : ℕ) → odd b1 b0 ≡ true → 0xC0 ≤ b1
+unfolding odd
+odd-lead b1 b0 e =
+    le-or-lt 0xC0 b1 (λ h. h)
+    (λ low. clash (odd b1 b0) e (simp (ne-eqb b1 0xE0 (λ k. omega arith), ne-eqb b1 0xED (λ k. omega arith), ne-eqb b1 0xF0 (λ k. omega arith), ne-eqb b1 0xF4 (λ k. omega arith))))
+
+-- what is odd is invalid, since it comes only after a lead byte
+odd-apart : (p t n o : Bool) → (o ≡ true → p ≡ true) → (xor p t || n || o) ≡ (xor p (t && not o) || n)
+unfolding xor
+odd-apart p true n false lead = or-false (xor p true || n)
+odd-apart p false n false lead = or-false (xor p false || n)
+odd-apart true true true true lead = refl
+odd-apart true true false true lead = refl
+odd-apart true false n true lead = refl
+odd-apart false t n true lead = clash false (lead refl) refl
+
+pub invalid-four : (b3 b2 b1 b0 : ℕ) → (xor (pending b3 b2 b1) (within trail b0) || never b0 || odd b1 b0) ≡ invalid b3 b2 b1 b0
+unfolding invalid
+invalid-four b3 b2 b1 b0 = rw (second-odd b1 b0) (odd-apart _ _ _ _ (λ e. pending-1 b3 b2 b1 (odd-lead b1 b0 e)))
+
+high-low : (b : ℕ) → ltb 0x9F b ≡ not (ltb b 0xA0)
+high-low b =
+    le-or-lt 0xA0 b
+    (λ high. rw (le-ltb b 0xA0 high, lt-ltb 0x9F b (omega arith)))
+    (λ low. rw (lt-ltb b 0xA0 low, le-ltb 0x9F b (omega arith)))
+
+pub invalid-three : (b2 b1 b0 : ℕ) → b1 < 0xF0 → b0 < 0xF0 → (xor (leb 0xC0 b1 || leb 0xE0 b2) (within trail b0) || (leb 0xC0 b0 && ltb b0 0xC2) || ((eqb b1 0xE0 && ltb b0 0xA0) || (eqb b1 0xED && not (ltb b0 0xA0)))) ≡ invalid 0 b2 b1 b0
+unfolding pending never odd
+invalid-three b2 b1 b0 h1 h0 =
+    rw (← high-low b0)
+    (simp (or-false, lt-leb 0xF5 b0 (omega arith), ne-eqb b1 0xF0 (λ e. omega arith), ne-eqb b1 0xF4 (λ e. omega arith)) at (invalid-four 0 b2 b1 b0))
+
+pub invalid-two : (b1 b0 : ℕ) → b1 < 0xE0 → b0 < 0xE0 → (xor (leb 0xC0 b1) (within trail b0) || (leb 0xC0 b0 && ltb b0 0xC2)) ≡ invalid 0 0 b1 b0
+invalid-two b1 b0 h1 h0 =
+    simp (or-false, ne-eqb b1 0xE0 (λ e. omega arith), ne-eqb b1 0xED (λ e. omega arith)) at (invalid-three 0 b1 b0 (omega arith) (omega arith))
+
+-- between C0 and E0 there is no plain byte
+plain-high : {b : ℕ} → Plain b → 0xC0 ≤ b → 0xE1 ≤ b
+unfolding fromLead
+plain-high p h = omega (arith, p .far, p .low)
+
+plain-pending : (b2 b1 : ℕ) → Plain b2 → leb 0xC0 (max b1 b2) ≡ (leb 0xC0 b1 || leb 0xE0 b2)
+plain-pending b2 b1 p =
+    le-or-lt 0xC0 b1
+    (λ h. rw (le-leb 0xC0 b1 h) (le-leb 0xC0 (max b1 b2) (omega arith)))
+    (λ low. rw (lt-leb 0xC0 b1 low) (le-or-lt 0xC0 b2
+    (λ h. le-leb 0xC0 (max b1 b2) (omega arith) ∙ sym (le-leb 0xE0 b2 (omega (arith, plain-high p h))))
+    (λ low2. lt-leb 0xC0 (max b1 b2) (omega arith) ∙ sym (lt-leb 0xE0 b2 (omega arith)))))
+
+plain-lead : (b : ℕ) → Plain b → (leb 0xC0 b && ltb b 0xC2) ≡ false
+plain-lead b p =
+    le-or-lt 0xC0 b
+    (λ h. and-false-r (leb 0xC0 b) _ (le-ltb b 0xC2 (omega (arith, plain-high p h))))
+    (λ low. rw (lt-leb 0xC0 b low))
+
+pub invalid-plain : {b2 b1 b0 m : ℕ} → Plain b2 → Plain b1 → Plain b0 → m ≡ max b1 b2 → xor (leb 0xC0 m) (within trail b0) ≡ invalid 0 b2 b1 b0
+unfolding fromLead
+invalid-plain {b2} {b1} {b0} p2 p1 p0 larger =
+    rw (larger, plain-pending b2 b1 p2)
+    (simp (or-false, plain-lead b0 p0, ne-eqb b1 0xE0 (λ e. omega (arith, p1 .far)), ne-eqb b1 0xED (λ e. omega (arith, p1 .low))) at (invalid-three b2 b1 b0 (omega (arith, p1 .low)) (omega (arith, p0 .low))))
+
+-- a byte that leads no character as far as b0 counts as 0
+pub no-third : (b3 b2 b1 b0 : ℕ) → b3 < 0xF0 → invalid 0 b2 b1 b0 ≡ invalid b3 b2 b1 b0
+unfolding invalid pending
+no-third b3 b2 b1 b0 h = rw (lt-leb 0xF0 b3 h)
+
+pub no-second : (b2 b1 b0 : ℕ) → b2 < 0xE0 → invalid 0 0 b1 b0 ≡ invalid 0 b2 b1 b0
+unfolding invalid pending
+no-second b2 b1 b0 h = rw (lt-leb 0xE0 b2 h)
+
+-- what stands in no row
+never-low : (b : ℕ) → b < 0xC0 → never b ≡ false
+unfolding never
+never-low b h = simp (lt-leb 0xC0 b h, lt-leb 0xF5 b (omega arith))
+
+pub never-lead : (b : ℕ) → never b ≡ false → 0xC0 ≤ b → (0xC2 ≤ b) × (b < 0xF5)
+unfolding never
+never-lead b e h =
+    le-or-lt 0xC2 b
+    (λ big. le-or-lt 0xF5 b (λ top. clash (never b) (simp (le-ltb b 0xC2 big, le-leb 0xC0 b h, le-leb 0xF5 b top)) e) (λ low. (big, low)))
+    (λ small. clash (never b) (simp (lt-ltb b 0xC2 small, le-leb 0xC0 b h)) e)
+
+module _ (b3 b2 b1 b : ℕ) where
+  pub invalid-never : invalid b3 b2 b1 b ≡ false → never b ≡ false
+  unfolding invalid
+  invalid-never e = or-eq-false-eq-eq-false-and-eq-false (xor (pending b3 b2 b1) (within (second b1) b)) (never b) .0 e .1
+
+  -- where a character is pending, a byte can stand exactly when it is in the range that b1 leaves for it
+  pub valid-pending : pending b3 b2 b1 ≡ true → not (invalid b3 b2 b1 b) ≡ within (second b1) b
+  unfolding invalid xor
+  valid-pending p =
+      true-or-false (within (second b1) b)
+      (λ e. rw (p, e, never-low b (continues-high b (second-continues b1 b e))))
+      (λ e. rw (p, e))

@@ -1,0 +1,22 @@
+-- The largest byte of a text and its least lead byte: they say which test its bytes are judged by.
+use Prim.Native.Nat.{ℕ, _+_, _%_, _≤_, _<_, max, min}
+use mathlib.Core.List.{List, [], _∷_}
+
+-- the largest byte, or 0
+unfoldable pub largest : List ℕ → ℕ
+largest [] = 0
+largest (b ∷ s) = max b (largest s)
+
+-- a byte counted from C0 on, around past FF: C0 is 0, E1 is 21, FF is 3F; the bytes below C0 are 40 and more
+unfoldable pub fromLead : ℕ → ℕ
+fromLead b = (b + 0x40) % 256
+
+-- the least byte so counted, or 40
+unfoldable pub leastLead : List ℕ → ℕ
+leastLead [] = 0x40
+leastLead (b ∷ s) = min (fromLead b) (leastLead s)
+
+-- a byte that leads nothing, or E1..EC: in their row of Table 3-7 the second byte is any of 80..BF
+pub record Plain (b : ℕ) : Type 0 where
+  pub far : 0x21 ≤ fromLead b
+  pub low : b < 0xED

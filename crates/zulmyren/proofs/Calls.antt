@@ -1,0 +1,58 @@
+-- From a call's answer to the exported numbers.
+use Prim.Native.Nat.{ℕ, _≤_}
+use mathlib.Core.Path.{_≡_, _∙_, ap, sym}
+use mathlib.Core.Bool.{Bool}
+use mathlib.Core.List.{List}
+use native.Mathlib.Omega.{arith}
+use Rattle.note.specs.declared.Refusal.{Refusal}
+use Rattle.note.specs.declared.Verdict.{Verdict}
+use Rattle.note.specs.Refusals.{numberOf, answerOf, verdict}
+use Rattle.note.specs.Notes.{Note, limit}
+use Rattle.convert.specs.declared.Range.{Range}
+use Rattle.convert.specs.declared.Converted.{Converted}
+use Rattle.convert.specs.declared.OffsetReferential.{OffsetReferential}
+use Rattle.convert.specs.declared.Converted.the-variants.{Found, Refused as NotFound}
+use Rattle.convert.specs.Converting.{rangeOf, startOf, endOf}
+use Rattle.get_range.specs.Reading.{partFaults}
+use Rattle.convert_list.specs.ConvertList.{ConvertedList}
+use Rattle.replace.specs.declared.Publication.{Publication}
+use Rattle.replace.specs.declared.Publication.the-variants.{Published, Refused}
+use Rattle.replace.specs.Replacing.{Replacing}
+use Rattle.replace.proofs.Faults.{published-short}
+use Rattle.redact.specs.Redacting.{Redacted}
+use Rattle.redact.proofs.Redacting.{published-call}
+use Rattle.zulmyren.specs.declared.answers.Offsets.{Offsets}
+use Rattle.zulmyren.specs.Calls.{Told, offsetsOf, sideOf, PublishedShort}
+
+-- a range's call, through the side, the range and the answer's numbers
+pub range-call : (f : Range → Converted) (s : OffsetReferential) (a e : ℕ) {side : OffsetReferential} {range : Range} {answer : Converted} {r : Offsets} → side ≡ s → range ≡ rangeOf side a e → answer ≡ f range → r ≡ offsetsOf answer → r ≡ offsetsOf (f (rangeOf s a e))
+range-call f s a e p q w t = t ∙ ap offsetsOf (w ∙ ap f (q ∙ ap (λ (x : OffsetReferential). rangeOf x a e) p))
+
+pub part-call : (o m : List ℕ) (b : Bool) (a e : ℕ) {side : OffsetReferential} {range : Range} {v : Verdict} {r : ℕ} → side ≡ sideOf b → range ≡ rangeOf side a e → v ≡ verdict (partFaults limit o m range) → r ≡ answerOf v → r ≡ answerOf (verdict (partFaults limit o m (rangeOf (sideOf b) a e)))
+part-call o m b a e p q w t =
+    t ∙ ap answerOf (w ∙ ap (λ (x : Range). verdict (partFaults limit o m x)) (q ∙ ap (λ (x : OffsetReferential). rangeOf x a e) p))
+
+-- the numbers of a range, and of none
+pub range-found : {v : Converted} {range : Range} {a e : ℕ} → v ≡ Found range → a ≡ startOf range → e ≡ endOf range → record { refusal = 0; start = a; end = e } ≡ offsetsOf v
+unfolding offsetsOf
+range-found f p q = rw (f, p, q)
+
+pub range-refused : {v : Converted} {k : Refusal} {r : ℕ} → v ≡ NotFound k → r ≡ numberOf k → record { refusal = r; start = 0; end = 0 } ≡ offsetsOf v
+unfolding offsetsOf
+range-refused f q = rw (f, q)
+
+-- what a replacement publishes is within the limit
+pub replaced-short : (v : Publication) {n : Note} {list content out₀ starts₀ ends₀ out starts ends : List ℕ} → Replacing limit n list content out₀ starts₀ ends₀ v out starts ends → PublishedShort v
+replaced-short (Published a) call = published-short call
+replaced-short (Refused k) call = tt {0}
+
+pub redacted-short : (v : Publication) {text literal content starts₀ ends₀ list₀ out₀ outStarts₀ outEnds₀ starts ends list out outStarts outEnds : List ℕ} → Redacted limit text literal content starts₀ ends₀ list₀ out₀ outStarts₀ outEnds₀ v starts ends list out outStarts outEnds → PublishedShort v
+redacted-short (Published a) call = published-short (published-call _ _ _ _ _ _ _ _ _ _ _ _ _ _ _ _ call)
+redacted-short (Refused k) call = tt {0}
+
+pub published-within : {v : Publication} {n : ℕ} → v ≡ Published n → PublishedShort v → n ≤ limit
+published-within is short = rw is at short
+
+-- a list's call, through the side
+pub list-call : {n : Note} (b : Bool) {side : OffsetReferential} {from to numbers₀ starts₀ ends₀ : List ℕ} {v : Verdict} {numbers starts ends : List ℕ} {r : ℕ} → side ≡ sideOf b → ConvertedList limit n side from to numbers₀ starts₀ ends₀ v numbers starts ends → r ≡ answerOf v → Told answerOf (λ w. ConvertedList limit n (sideOf b) from to numbers₀ starts₀ ends₀ w numbers starts ends) r
+list-call b {v = v} p call e = record { answer = v; told = e; met = rw p at call }

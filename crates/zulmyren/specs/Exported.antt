@@ -1,0 +1,31 @@
+-- RULES 10: the blanking claim of two exported calls, as a C program sees them.
+use Prim.Native.Nat.{ℕ}
+use mathlib.Core.Path.{_≡_}
+use mathlib.Core.List.{List}
+use Rattle.note.specs.Notes.{Note, limit}
+use Rattle.pattern.specs.Entries.{placesOf}
+use Rattle.replace.specs.Replacing.{Replacing}
+use Rattle.replace.specs.Blanking.{Equal, Agree, published}
+use Rattle.zulmyren.specs.declared.answers.Count.{Count}
+use Rattle.zulmyren.specs.Calls.{Told, publishedOf}
+
+-- the contract of `zulmyren_replace`: note, list and content, the lent buffers before, the answer, the lent buffers
+-- after
+abbrev pub ReplaceCall :
+    Note → List ℕ → List ℕ → List ℕ → List ℕ → List ℕ → Count → List ℕ → List ℕ → List ℕ → Type 0
+ReplaceCall n list content out₀ starts₀ ends₀ r out starts ends =
+    Told publishedOf (λ v. Replacing limit n list content out₀ starts₀ ends₀ v out starts ends) r
+
+-- CLAIM: two calls of `zulmyren_replace` with one list and one content, both with refusal 0: the first `count` elements
+-- of the three
+-- buffers are the same exactly when the notes agree.
+abbrev pub ExportedBlanking : Type 0
+ExportedBlanking =
+    (n m : Note) (list content : List ℕ) (a b : Count)
+    (outₙ₀ startsₙ₀ endsₙ₀ outₙ startsₙ endsₙ outₘ₀ startsₘ₀ endsₘ₀ outₘ startsₘ endsₘ : List ℕ)
+    → ReplaceCall n list content outₙ₀ startsₙ₀ endsₙ₀ a outₙ startsₙ endsₙ → a .refusal ≡ 0
+    → ReplaceCall m list content outₘ₀ startsₘ₀ endsₘ₀ b outₘ startsₘ endsₘ → b .refusal ≡ 0
+    → (Equal (published (a .count) outₙ startsₙ endsₙ) (published (b .count) outₘ startsₘ endsₘ)
+    → Agree n m (placesOf list) content)
+    × (Agree n m (placesOf list) content
+    → Equal (published (a .count) outₙ startsₙ endsₙ) (published (b .count) outₘ startsₘ endsₘ))

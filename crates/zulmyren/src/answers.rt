@@ -1,0 +1,128 @@
+// What exported calls answer: plain numbers, and the refusal's number beside them, 0 where the call accepts.
+use char_offsets::CharOffsets;
+use char_offsets::letters::LetterCount;
+use convert::Converted;
+use convert::end_of;
+use convert::start_of;
+use find::Matches;
+use note::answers::number;
+use replace::Publication;
+ghost use mathlib.Core.Path.{_≡_};
+ghost use Rattle.zulmyren.specs.Calls.{PublishedShort, charsOf, comparedOf, lettersOf, listedOf};
+ghost use Rattle.zulmyren.specs.Calls.{offsetsOf, publishedOf};
+
+// A count, 0 where the call is refused.
+#[repr(C)]
+pub struct Count {
+    pub refusal: u32,
+    pub count: u32,
+}
+
+// A range or a pair, 0 and 0 where the call is refused.
+#[repr(C)]
+pub struct Offsets {
+    pub refusal: u32,
+    pub start: u32,
+    pub end: u32,
+}
+
+// How many bytes a list has, 0 where the call is refused.
+#[repr(C)]
+pub struct Listed {
+    pub refusal: u32,
+    pub len: usize,
+}
+
+// Whether two notes are published alike, false where the call is refused.
+#[repr(C)]
+pub struct Comparison {
+    pub refusal: u32,
+    pub alike: bool,
+}
+
+pub fn letters_told(answer: LetterCount) -> Count
+    ensures { λ r. ⌜ r ≡ lettersOf answer ⌝ }
+{
+    match answer {
+        LetterCount::Letters(count) => Count { refusal: 0, count },
+        LetterCount::Refused(k) => Count {
+            refusal: number(k),
+            count: 0,
+        },
+    }
+}
+
+// An inner function: what is published is within the limit.
+pub fn published_told(answer: Publication) -> Count
+    requires { ⌜ PublishedShort answer ⌝ }
+    ensures { λ r. ⌜ r ≡ publishedOf answer ⌝ }
+{
+    match answer {
+        Publication::Published(size) => Count {
+            refusal: 0,
+            count: size as u32,
+        },
+        Publication::Refused(k) => Count {
+            refusal: number(k),
+            count: 0,
+        },
+    }
+}
+
+pub fn chars_told(answer: CharOffsets) -> Offsets
+    ensures { λ r. ⌜ r ≡ charsOf answer ⌝ }
+{
+    match answer {
+        CharOffsets::Chars(first, last) => Offsets {
+            refusal: 0,
+            start: first.0,
+            end: last.0,
+        },
+        CharOffsets::Refused(k) => Offsets {
+            refusal: number(k),
+            start: 0,
+            end: 0,
+        },
+    }
+}
+
+pub fn range_told(answer: Converted) -> Offsets
+    ensures { λ r. ⌜ r ≡ offsetsOf answer ⌝ }
+{
+    match answer {
+        Converted::Found(range) => Offsets {
+            refusal: 0,
+            start: start_of(range),
+            end: end_of(range),
+        },
+        Converted::Refused(k) => Offsets {
+            refusal: number(k),
+            start: 0,
+            end: 0,
+        },
+    }
+}
+
+pub fn list_told(answer: Matches) -> Listed
+    ensures { λ r. ⌜ r ≡ listedOf answer ⌝ }
+{
+    match answer {
+        Matches::Written(len) => Listed { refusal: 0, len },
+        Matches::Refused(k) => Listed {
+            refusal: number(k),
+            len: 0,
+        },
+    }
+}
+
+pub fn comparison_told(answer: indistinguishable::Comparison) -> Comparison
+    ensures { λ r. ⌜ r ≡ comparedOf answer ⌝ }
+{
+    match answer {
+        indistinguishable::Comparison::Compared(alike) => Comparison { refusal: 0, alike },
+        indistinguishable::Comparison::Refused(k) => Comparison {
+            refusal: number(k),
+            alike: false,
+        },
+    }
+}

@@ -1,0 +1,127 @@
+// Finding, replacing, and what can be told of what was replaced.
+use crate::answers::Comparison;
+use crate::answers::Count;
+use crate::answers::Listed;
+use crate::answers::comparison_told;
+use crate::answers::list_told;
+use crate::answers::published_told;
+use buffers::Offset;
+ghost use mathlib.Core.Path.{_≡_};
+ghost use Rattle.note.specs.Notes.{lent, limit};
+ghost use Rattle.find.specs.Finding.{Finding};
+ghost use Rattle.replace.specs.Replacing.{Replacing};
+ghost use Rattle.indistinguishable.specs.Alike.{says};
+ghost use Rattle.redact.specs.Redacting.{Redacted};
+ghost use Rattle.zulmyren.specs.Calls.{Told, comparedOf, listedOf, publishedOf};
+
+#[no_mangle]
+pub extern "C" fn zulmyren_find_matches(text: &[u8], literal: &[u8], out: &mut [u8]) -> Listed
+    ensures { λ r. ⌜ Told listedOf (λ v. Finding limit (now (text .entry)) (now (literal .entry)) (now (out .entry))
+        v (now (out .exit))) r ⌝ }
+{
+    list_told(find::find_matches(text, literal, out))
+}
+
+#[no_mangle]
+pub extern "C" fn zulmyren_replace(
+    original: &[u8],
+    normalized: &[u8],
+    starts: &[Offset],
+    ends: &[Offset],
+    original_shift: u32,
+    list: &[u8],
+    content: &[u8],
+    out: &mut [u8],
+    out_starts: &mut [Offset],
+    out_ends: &mut [Offset],
+) -> Count
+    ensures { λ r. ⌜ Told publishedOf (λ v. Replacing limit
+        (lent (now (original .entry)) (now (normalized .entry))
+        (now (starts .entry)) (now (ends .entry)) «original_shift»)
+        (now (list .entry)) (now (content .entry))
+        (now (out .entry)) (now («out_starts» .entry)) (now («out_ends» .entry))
+        v (now (out .exit)) (now («out_starts» .exit)) (now («out_ends» .exit))) r ⌝ }
+{
+    published_told(replace::replace(
+        original,
+        normalized,
+        starts,
+        ends,
+        original_shift,
+        list,
+        content,
+        out,
+        out_starts,
+        out_ends,
+    ))
+}
+
+#[no_mangle]
+pub extern "C" fn zulmyren_published_alike(
+    original: &[u8],
+    normalized: &[u8],
+    starts: &[Offset],
+    ends: &[Offset],
+    original_shift: u32,
+    other_original: &[u8],
+    other: &[u8],
+    other_starts: &[Offset],
+    other_ends: &[Offset],
+    other_shift: u32,
+    list: &[u8],
+    content: &[u8],
+) -> Comparison
+    ensures { λ r. ⌜ r ≡ comparedOf (says limit
+        (lent (now (original .entry)) (now (normalized .entry))
+        (now (starts .entry)) (now (ends .entry)) «original_shift»)
+        (lent (now («other_original» .entry)) (now (other .entry))
+        (now («other_starts» .entry)) (now («other_ends» .entry)) «other_shift»)
+        (now (list .entry)) (now (content .entry))) ⌝ }
+{
+    comparison_told(indistinguishable::published_alike(
+        original,
+        normalized,
+        starts,
+        ends,
+        original_shift,
+        other_original,
+        other,
+        other_starts,
+        other_ends,
+        other_shift,
+        list,
+        content,
+    ))
+}
+
+#[no_mangle]
+pub extern "C" fn zulmyren_redact(
+    text: &[u8],
+    literal: &[u8],
+    content: &[u8],
+    starts: &mut [Offset],
+    ends: &mut [Offset],
+    list: &mut [u8],
+    out: &mut [u8],
+    out_starts: &mut [Offset],
+    out_ends: &mut [Offset],
+) -> Count
+    ensures { λ r. ⌜ Told publishedOf (λ v. Redacted limit
+        (now (text .entry)) (now (literal .entry)) (now (content .entry))
+        (now (starts .entry)) (now (ends .entry)) (now (list .entry))
+        (now (out .entry)) (now («out_starts» .entry)) (now («out_ends» .entry))
+        v (now (starts .exit)) (now (ends .exit)) (now (list .exit))
+        (now (out .exit)) (now («out_starts» .exit)) (now («out_ends» .exit))) r ⌝ }
+{
+    published_told(redact::redact(
+        text,
+        literal,
+        content,
+        starts,
+        ends,
+        list,
+        out,
+        out_starts,
+        out_ends,
+    ))
+}
