@@ -1,13 +1,12 @@
 // Buffers that are lent to a call, filled from a field, and compared with one afterwards. A column's field has the
 // differences of its elements, 4 bytes each.
 use crate::fields::field;
-use crate::fields::is_text;
 use crate::fields::number;
 use buffers::Offset;
 use buffers::copy_bytes;
 use buffers::equality::same_offsets;
 ghost use mathlib.Core.Path.{_≡_};
-ghost use Prim.Native.Nat.{_+_, _≤_, _<_, min};
+ghost use Prim.Native.Nat.{_+_, _≤_, min};
 ghost use lib.ListN.{length, take};
 ghost use Rattle.buffers.specs.Same.{same};
 ghost use Rattle.io.specs.Counts.{Counts};
@@ -110,22 +109,4 @@ pub fn are_numbers(case: &[u8], index: usize, column: &[u32]) -> bool
     let mut expected = [0; FEW];
     let n = numbers(case, index, &mut expected);
     same_numbers(column, &expected[..n])
-}
-
-// Whether the answers to a list of pairs are the ones at three fields: a number, start and end for each.
-pub fn are_pairs(case: &[u8], index: usize, numbers: &[u8], starts: &[u32], ends: &[u32]) -> bool
-    requires { ⌜ index < 100 ⌝ }
-{
-    is_text(case, index, numbers)
-        & are_numbers(case, index + 1, starts)
-        & are_numbers(case, index + 2, ends)
-}
-
-// Whether a text and its columns are the ones at three fields.
-pub fn are_published(case: &[u8], index: usize, text: &[u8], starts: &[Offset], ends: &[Offset]) -> bool
-    requires { ⌜ index < 100 ⌝ }
-{
-    is_text(case, index, text)
-        & are_offsets(case, index + 1, starts)
-        & are_offsets(case, index + 2, ends)
 }

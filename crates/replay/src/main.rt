@@ -8,6 +8,7 @@ mod notes;
 mod pairs;
 mod ranges;
 mod texts;
+mod told;
 mod unpack;
 
 use fields::field;

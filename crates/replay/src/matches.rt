@@ -1,12 +1,13 @@
 // The calls on matches: finding, replacing, whether two notes are published alike, and blanking a literal.
-use crate::columns::are_published;
 use crate::columns::bytes;
 use crate::columns::offsets;
 use crate::columns::zeros;
 use crate::fields::field;
 use crate::fields::is_number;
-use crate::fields::is_text;
 use crate::fields::value;
+use crate::told::are_published;
+use crate::told::is_list;
+use crate::told::is_published;
 use buffers::Offset;
 use zulmyren::matches::zulmyren_find_matches;
 use zulmyren::matches::zulmyren_published_alike;
@@ -15,9 +16,7 @@ use zulmyren::matches::zulmyren_replace;
 
 fn found(case: &[u8], out: &mut [u8]) -> bool {
     let answer = zulmyren_find_matches(field(case, 0), field(case, 1), out);
-    is_number(case, 3, answer.refusal)
-        & (value(case, 4) as usize == answer.len)
-        & is_text(case, 5, out)
+    is_list(case, 3, answer, out)
 }
 
 // A text, a literal, the lent list; the refusal, its size, the list.
@@ -47,9 +46,7 @@ fn replaced(
         out_starts,
         out_ends,
     );
-    is_number(case, 10, answer.refusal)
-        & is_number(case, 11, answer.count)
-        & are_published(case, 12, out, out_starts, out_ends)
+    is_published(case, 10, answer, out, out_starts, out_ends)
 }
 
 // The lent starts and ends are filled already.
@@ -127,9 +124,7 @@ fn blanked(
         out_starts,
         out_ends,
     );
-    is_number(case, 9, answer.refusal)
-        & is_number(case, 10, answer.count)
-        & are_published(case, 11, list, starts, ends)
+    is_published(case, 9, answer, list, starts, ends)
         & are_published(case, 14, out, out_starts, out_ends)
 }
 

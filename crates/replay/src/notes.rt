@@ -1,5 +1,4 @@
 // The starting note, and the calls on a note, whose first fields are transcript, cleaned text, starts, ends, shift.
-use crate::columns::are_offsets;
 use crate::columns::offsets;
 use crate::columns::zeros;
 use crate::fields::field;
@@ -11,6 +10,7 @@ use crate::pairs::on_pairs;
 use crate::ranges::convert_offsets;
 use crate::ranges::get_range;
 use crate::ranges::get_range_original;
+use crate::told::are_columns;
 use buffers::Offset;
 use zulmyren::notes::zulmyren_check_note;
 use zulmyren::notes::zulmyren_from_text;
@@ -23,7 +23,7 @@ fn check_note(case: &[u8], starts: &[Offset], ends: &[Offset]) -> bool {
 
 fn started(case: &[u8], starts: &mut [Offset], ends: &mut [Offset]) -> bool {
     let refusal = zulmyren_from_text(field(case, 0), starts, ends);
-    is_number(case, 3, refusal) & are_offsets(case, 4, starts) & are_offsets(case, 5, ends)
+    are_columns(case, 3, refusal, starts, ends)
 }
 
 // A text, the lent starts and ends; the refusal, the two columns.

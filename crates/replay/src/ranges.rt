@@ -1,28 +1,21 @@
 // The calls on a note and a range, or a list of ranges. A range: 1 where it is of the transcript, 0 of the cleaned
 // text; start, end.
-use crate::columns::are_pairs;
 use crate::fields::field;
 use crate::fields::is_number;
 use crate::fields::is_text;
 use crate::fields::value;
+use crate::told::are_pairs;
+use crate::told::is_range;
 use buffers::Offset;
 use convert::Range;
 use get_range::part_of;
 use note::NormalizedByte;
 use note::OriginalByte;
-use zulmyren::answers::Offsets;
 use zulmyren::ranges::zulmyren_convert_all;
 use zulmyren::ranges::zulmyren_convert_offsets;
 use zulmyren::ranges::zulmyren_get_range;
 use zulmyren::ranges::zulmyren_get_range_original;
 use zulmyren::ranges::zulmyren_part_verdict;
-
-// The refusal, start, end.
-fn is_range(case: &[u8], answer: Offsets) -> bool {
-    is_number(case, 8, answer.refusal)
-        & is_number(case, 9, answer.start)
-        & is_number(case, 10, answer.end)
-}
 
 // A note, a range; the refusal, start, end.
 pub fn convert_offsets(case: &[u8], starts: &[Offset], ends: &[Offset]) -> bool {
@@ -36,7 +29,7 @@ pub fn convert_offsets(case: &[u8], starts: &[Offset], ends: &[Offset]) -> bool 
         value(case, 6),
         value(case, 7),
     );
-    is_range(case, answer)
+    is_range(case, 8, answer)
 }
 
 // A note, a range; the refusal, start, end.
@@ -51,7 +44,7 @@ pub fn get_range(case: &[u8], starts: &[Offset], ends: &[Offset]) -> bool {
         value(case, 6),
         value(case, 7),
     );
-    is_range(case, answer)
+    is_range(case, 8, answer)
 }
 
 // A note, a range; the refusal, start, end.
@@ -66,7 +59,7 @@ pub fn get_range_original(case: &[u8], starts: &[Offset], ends: &[Offset]) -> bo
         value(case, 6),
         value(case, 7),
     );
-    is_range(case, answer)
+    is_range(case, 8, answer)
 }
 
 // The range at fields 2 to 4.
@@ -119,5 +112,5 @@ pub fn convert_all(
         starts,
         ends,
     );
-    is_number(case, 11, refusal) & are_pairs(case, 12, numbers, starts, ends)
+    are_pairs(case, 11, refusal, numbers, starts, ends)
 }

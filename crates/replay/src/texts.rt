@@ -1,8 +1,9 @@
 // The calls on a text alone.
-use crate::columns::are_pairs;
 use crate::fields::field;
 use crate::fields::is_number;
 use crate::fields::value;
+use crate::told::are_pairs;
+use crate::told::is_range;
 use zulmyren::texts::zulmyren_char_offsets;
 use zulmyren::texts::zulmyren_char_offsets_all;
 use zulmyren::texts::zulmyren_letter_count;
@@ -22,9 +23,7 @@ pub fn letter_count(case: &[u8]) -> bool {
 // A text, start, end; the refusal, the two indices.
 pub fn char_offsets(case: &[u8]) -> bool {
     let answer = zulmyren_char_offsets(field(case, 0), value(case, 1), value(case, 2));
-    is_number(case, 3, answer.refusal)
-        & is_number(case, 4, answer.start)
-        & is_number(case, 5, answer.end)
+    is_range(case, 3, answer)
 }
 
 // A text, the pairs' starts and ends, the lent numbers, starts and ends; the refusal, the three buffers.
@@ -37,5 +36,5 @@ pub fn char_offsets_all(
     ends: &mut [u32],
 ) -> bool {
     let refusal = zulmyren_char_offsets_all(field(case, 0), from, to, numbers, starts, ends);
-    is_number(case, 6, refusal) & are_pairs(case, 7, numbers, starts, ends)
+    are_pairs(case, 6, refusal, numbers, starts, ends)
 }
