@@ -32,6 +32,10 @@ pub a-number : {f : List ℕ} {m : ℕ} (s : List ℕ) (n : ℕ) → f ≡ s →
 unfolding isNumber
 a-number s n is h here = rw (eq-eqb (length s) 4 (sym (ap length is) ∙ h), here, is)
 
+-- two tests, each by itself
+pub both : {a b x y : Bool} → a ≡ x → b ≡ y → (a && b) ≡ (x && y)
+both p q i = p i && q i
+
 -- a place that is kept within the list
 pub drop-min : (s : List ℕ) (n : ℕ) → drop (min n (length s)) s ≡ drop n s
 drop-min s n =

@@ -12,7 +12,8 @@ pickNumber false a b = b
 
 -- the number at the start; 0 where its bytes are not all there
 unfoldable pub numberOf : List ℕ → ℕ
-numberOf s = pickNumber (leb 4 (length s)) (getD s 0 0 + getD s 1 0 * 256 + getD s 2 0 * 65536 + getD s 3 0 * 16777216) 0
+numberOf s =
+    pickNumber (leb 4 (length s)) (getD s 0 0 + getD s 1 0 * 256 + getD s 2 0 * 65536 + getD s 3 0 * 16777216) 0
 
 -- the first field, and the fields after it
 unfoldable pub first : List ℕ → List ℕ

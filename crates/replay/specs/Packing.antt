@@ -24,7 +24,8 @@ laid part room = times (numberOf part) (drop 4 part) room
 -- n parts from the k-th on
 unfoldable pub parts : ℕ → ℕ → List ℕ → ℕ → List ℕ
 parts zero k packed room = []
-parts (suc n) k packed room = laid (fieldOf k packed) room ++ parts n (k + 1) packed (room - length (laid (fieldOf k packed) room))
+parts (suc n) k packed room =
+    laid (fieldOf k packed) room ++ parts n (k + 1) packed (room - length (laid (fieldOf k packed) room))
 
 -- all parts: each has 8 bytes or more, and past the last they are empty
 unfoldable pub unpacked : List ℕ → ℕ → List ℕ

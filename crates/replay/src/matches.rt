@@ -140,7 +140,15 @@ fn blanked_texts(
     let mut out = io::large_buffer();
     let l = bytes(case, 3, &mut list);
     let o = bytes(case, 6, &mut out);
-    blanked(case, starts, ends, &mut list[..l], &mut out[..o], out_starts, out_ends)
+    blanked(
+        case,
+        starts,
+        ends,
+        &mut list[..l],
+        &mut out[..o],
+        out_starts,
+        out_ends,
+    )
 }
 
 // The lent columns, beside those of the starting note.

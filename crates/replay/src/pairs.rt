@@ -36,7 +36,17 @@ fn on_answers(
     let r = bytes(case, at, &mut refusals);
     let s = numbers(case, at + 1, &mut starts);
     let e = numbers(case, at + 2, &mut ends);
-    listed(call, case, note_starts, note_ends, from, to, &mut refusals[..r], &mut starts[..s], &mut ends[..e])
+    listed(
+        call,
+        case,
+        note_starts,
+        note_ends,
+        from,
+        to,
+        &mut refusals[..r],
+        &mut starts[..s],
+        &mut ends[..e],
+    )
 }
 
 fn listed(
@@ -53,6 +63,15 @@ fn listed(
     if call == 3 {
         char_offsets_all(case, from, to, numbers, starts, ends)
     } else {
-        convert_all(case, note_starts, note_ends, from, to, numbers, starts, ends)
+        convert_all(
+            case,
+            note_starts,
+            note_ends,
+            from,
+            to,
+            numbers,
+            starts,
+            ends,
+        )
     }
 }

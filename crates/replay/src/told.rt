@@ -8,11 +8,19 @@ use buffers::Offset;
 use zulmyren::answers::Count;
 use zulmyren::answers::Listed;
 use zulmyren::answers::Offsets;
-ghost use Prim.Native.Nat.{_<_};
+ghost use mathlib.Core.Path.{_≡_};
+ghost use mathlib.Core.Bool.{_&&_};
+ghost use Prim.Native.Nat.{_+_, _<_};
+ghost use Rattle.buffers.specs.Same.{same};
+ghost use Rattle.replay.specs.Framing.{fieldOf, isNumber};
+ghost use Rattle.replay.specs.Differences.{columnOf};
 
 // The refusal, start, end.
 pub fn is_range(case: &[u8], index: usize, answer: Offsets) -> bool
     requires { ⌜ index < 100 ⌝ }
+    ensures { λ r. ⌜ r ≡ (isNumber (fieldOf index (now (case .entry))) (answer .refusal)
+        && isNumber (fieldOf (index + 1) (now (case .entry))) (answer .start))
+        && isNumber (fieldOf (index + 2) (now (case .entry))) (answer .end) ⌝ }
 {
     is_number(case, index, answer.refusal)
         & is_number(case, index + 1, answer.start)
@@ -37,6 +45,9 @@ pub fn are_columns(
     ends: &[Offset],
 ) -> bool
     requires { ⌜ index < 100 ⌝ }
+    ensures { λ r. ⌜ r ≡ (isNumber (fieldOf index (now (case .entry))) refusal
+        && same (now (starts .entry)) (columnOf 65536 65536 (fieldOf (index + 1) (now (case .entry)))))
+        && same (now (ends .entry)) (columnOf 65536 65536 (fieldOf (index + 2) (now (case .entry)))) ⌝ }
 {
     is_number(case, index, refusal)
         & are_offsets(case, index + 1, starts)
@@ -53,6 +64,10 @@ pub fn are_pairs(
     ends: &[u32],
 ) -> bool
     requires { ⌜ index < 100 ⌝ }
+    ensures { λ r. ⌜ r ≡ ((isNumber (fieldOf index (now (case .entry))) refusal
+        && same (fieldOf (index + 1) (now (case .entry))) (now (numbers .entry)))
+        && same (now (starts .entry)) (columnOf 4294967296 256 (fieldOf (index + 2) (now (case .entry)))))
+        && same (now (ends .entry)) (columnOf 4294967296 256 (fieldOf (index + 3) (now (case .entry)))) ⌝ }
 {
     is_number(case, index, refusal)
         & is_text(case, index + 1, numbers)
@@ -69,6 +84,9 @@ pub fn are_published(
     ends: &[Offset],
 ) -> bool
     requires { ⌜ index < 100 ⌝ }
+    ensures { λ r. ⌜ r ≡ (same (fieldOf index (now (case .entry))) (now (text .entry))
+        && same (now (starts .entry)) (columnOf 65536 65536 (fieldOf (index + 1) (now (case .entry)))))
+        && same (now (ends .entry)) (columnOf 65536 65536 (fieldOf (index + 2) (now (case .entry)))) ⌝ }
 {
     is_text(case, index, text)
         & are_offsets(case, index + 1, starts)

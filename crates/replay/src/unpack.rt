@@ -12,7 +12,8 @@ ghost use Rattle.replay.specs.Packing.{Laid, laid, unpacked};
 // after it.
 fn lay(part: &[u8], dst: &mut [u8], at: usize) -> usize
     requires { ⌜ at ≤ length (now dst) ⌝ }
-    ensures { λ r. ⌜ Laid (laid (now (part .entry)) (length (now (dst .entry)) - at)) (now (dst .entry)) at (now (dst .exit)) r ⌝ }
+    ensures { λ r. ⌜ Laid (laid (now (part .entry)) (length (now (dst .entry)) - at)) (now (dst .entry)) at
+        (now (dst .exit)) r ⌝ }
 {
     let times = number(part, 0);
     let from = after(part, 0, 4);
@@ -33,7 +34,8 @@ fn lay(part: &[u8], dst: &mut [u8], at: usize) -> usize
 // All parts, put at the start of the buffer; how many bytes they have.
 pub fn unpack(packed: &[u8], dst: &mut [u8]) -> usize
     ensures { λ r. ⌜ Counts r (now (dst .exit)) ⌝ }
-    ensures { λ r. ⌜ Laid (unpacked (now (packed .entry)) (length (now (dst .entry)))) (now (dst .entry)) 0 (now (dst .exit)) r ⌝ }
+    ensures { λ r. ⌜ Laid (unpacked (now (packed .entry)) (length (now (dst .entry)))) (now (dst .entry)) 0
+        (now (dst .exit)) r ⌝ }
 {
     let parts = packed.len() / 8;
     let mut end = 0;
