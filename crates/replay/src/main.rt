@@ -57,13 +57,7 @@ fn replayed(call: u8, list: &[u8]) -> Tally {
     Tally { answers, differing }
 }
 
-// The list in the file of this name.
-fn replay(call: u8, name: &[u8]) {
-    let mut list = io::large_buffer();
-    let fd = os::open_read(name);
-    let n = io::read_full(fd, &mut list);
-    libc::close(fd);
-    let t = replayed(call, &list[..n]);
+fn print(name: &[u8], t: Tally) {
     io::write_all(STDOUT_FILENO, name);
     io::write_all(STDOUT_FILENO, b": ");
     io::print_decimal(STDOUT_FILENO, t.answers);
@@ -72,20 +66,45 @@ fn replay(call: u8, name: &[u8]) {
     io::write_all(STDOUT_FILENO, b" differ\n");
 }
 
-fn main() {
+// The list in the file of this name.
+fn replay(call: u8, name: &[u8]) {
+    let mut list = io::large_buffer();
+    let fd = os::open_read(name);
+    let n = io::read_full(fd, &mut list);
+    libc::close(fd);
+    print(name, replayed(call, &list[..n]));
+}
+
+fn replay_texts() {
     replay(0, b"well_formed");
     replay(1, b"letter_count");
     replay(2, b"char_offsets");
     replay(3, b"char_offsets_all");
+}
+
+fn replay_notes() {
     replay(4, b"from_text");
     replay(5, b"check_note");
+}
+
+fn replay_ranges() {
     replay(6, b"convert_offsets");
     replay(7, b"get_range");
     replay(8, b"get_range_original");
     replay(9, b"convert_all");
+}
+
+fn replay_matches() {
     replay(10, b"replace");
     replay(11, b"published_alike");
     replay(12, b"part");
     replay(13, b"find_matches");
     replay(14, b"redact");
+}
+
+fn main() {
+    replay_texts();
+    replay_notes();
+    replay_ranges();
+    replay_matches();
 }
