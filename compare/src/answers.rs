@@ -1,12 +1,13 @@
-//! The answers that crates/replay replays (`compare/run list`): what the Rust original and `core::str` answer, and, where
-//! they refuse nothing, the second check. The same in every run. `list.rs` has the layout; a new call is one function here
-//! or in `answers/calls.rs`, and one in crates/replay.
+//! The answers that crates/replay replays (`compare/run list`): what the Rust original and `core::str` answer, and,
+//! where they refuse nothing, the second check. The same in every run. `list.rs` has the layout; a new call is one
+//! function here or in `answers/calls.rs`, and one in crates/replay, which reads the fields in the order in which
+//! they are written here.
 
 mod calls;
 
 use crate::characters::{self, sequences};
 use crate::every;
-use crate::list::{self, Section};
+use crate::list::Answers;
 use crate::note::Note;
 use crate::notes::{self, rooms, FAULTS};
 use crate::random::Random;
@@ -18,22 +19,19 @@ use tokenizers::normalizer::Range;
 use tokenizers::NormalizedString;
 
 /// From the repository's root.
-const PATH: &str = "crates/replay/data/answers";
+const FOLDER: &str = "crates/replay/data";
 
 pub fn write() -> ExitCode {
-    let sections =
-        [well_formed(), letter_counts(), starting_notes(), checked_notes()].into_iter().chain(calls::sections());
-    let sections: Vec<Section> = sections.map(Section::distinct).collect();
-    let list = list::of_sections(&sections);
-    std::fs::write(PATH, &list).unwrap_or_else(|error| panic!("{PATH}: {error}"));
-    for section in &sections {
-        println!("{section}");
+    let lists = [well_formed(), letter_counts(), starting_notes(), checked_notes()].into_iter().chain(calls::answers());
+    for answers in lists {
+        let path = format!("{FOLDER}/{}", answers.name);
+        std::fs::write(&path, answers.file()).unwrap_or_else(|error| panic!("{path}: {error}"));
+        println!("{answers}");
     }
-    println!("{PATH}: {} bytes", list.len());
     ExitCode::SUCCESS
 }
 
-/// The worked notes of document 01 on texts: the limit, and the last character before the surrogates and the first of them.
+/// The worked notes on texts: the limit, and the last character before the surrogates and the first of them.
 fn worked() -> [Vec<u8>; 4] {
     [vec![b'a'; LIMIT], vec![b'a'; LIMIT + 1], vec![0xED, 0x9F, 0xBF], vec![0xED, 0xA0, 0x80]]
 }
@@ -95,50 +93,50 @@ fn in_blocks() -> Vec<Vec<u8>> {
 }
 
 /// A text; 1 where it is well-formed, 0 where it is not.
-fn well_formed() -> Section {
-    let mut section = Section::new(1, "validity::well_formed");
+fn well_formed() -> Answers {
+    let mut answers = Answers::new("well_formed");
     let bytes = (0..=255).map(|byte| vec![byte]);
     let texts = worked().into_iter().chain(around_the_limit()).chain(bytes).chain(edges_of_rows()).chain(in_blocks());
     for text in texts {
-        section.answer().text(&text).byte(from_utf8(&text).is_ok().into());
+        answers.answer().text(&text).number(from_utf8(&text).is_ok().into());
     }
-    section
+    answers
 }
 
-/// A text, start, end; the refusal, the count (0 where it is refused).
-fn letter_count(section: &mut Section, text: &[u8], start: usize, end: usize) {
+/// A text, start, end; the refusal, the count.
+fn letter_count(answers: &mut Answers, text: &[u8], start: usize, end: usize) {
     let (start, end) = (start as u32, end as u32);
     let count = characters::expected_count(text, start, end);
-    section.answer().text(text).number(start).number(end).byte(count.refusal).number(count.count);
+    answers.answer().text(text).number(start).number(end).number(count.refusal).number(count.count);
 }
 
-fn letter_counts() -> Section {
-    let mut section = Section::new(2, "positions::letters::letter_count");
+fn letter_counts() -> Answers {
+    let mut answers = Answers::new("letter_count");
     for text in worked().into_iter().chain(around_the_limit()) {
         for (start, end) in [(0, text.len()), (0, 0), (text.len(), text.len()), (0, text.len() + 1), (9, 3)] {
-            letter_count(&mut section, &text, start, end);
+            letter_count(&mut answers, &text, start, end);
         }
     }
     let text = "é漢😀".as_bytes();
     for (start, end) in every::pair(text.len() + 1) {
-        letter_count(&mut section, text, start, end);
+        letter_count(&mut answers, text, start, end);
     }
     for far in [LIMIT, LIMIT + 1, 1 << 31, u32::MAX as usize] {
-        letter_count(&mut section, text, 0, far);
-        letter_count(&mut section, text, far, 0);
-        letter_count(&mut section, text, far, far);
+        letter_count(&mut answers, text, 0, far);
+        letter_count(&mut answers, text, far, 0);
+        letter_count(&mut answers, text, far, far);
     }
     for unit in UNITS {
         let text = texts::repeated(unit, 600);
         for (start, end) in [(0, 600), (64, 192), (100, 300), (127, 129), (1, 599), (12, 588)] {
-            letter_count(&mut section, text.as_bytes(), start, end);
+            letter_count(&mut answers, text.as_bytes(), start, end);
         }
     }
-    letter_counts_anywhere(&mut section);
-    section
+    letter_counts_anywhere(&mut answers);
+    answers
 }
 
-fn letter_counts_anywhere(section: &mut Section) {
+fn letter_counts_anywhere(answers: &mut Answers) {
     let mut random = Random::new(11);
     for turn in 0..12 {
         let len = 1 + random.below(30);
@@ -148,66 +146,65 @@ fn letter_counts_anywhere(section: &mut Section) {
         if turn % 5 == 0 {
             bytes[random.below(len)] = random.byte();
         }
-        letter_count(section, &bytes, one.min(other), one.max(other));
+        letter_count(answers, &bytes, one.min(other), one.max(other));
     }
 }
 
-/// A text, the lengths of the lent starts and ends; the refusal, the written starts, the written ends (empty where it is
-/// refused).
-fn starting_note(section: &mut Section, text: &[u8], room: (usize, usize)) {
+/// A text, the lent starts and ends; the refusal, the two columns.
+fn starting_note(answers: &mut Answers, text: &[u8], room: (usize, usize)) {
     let (refusal, starts, ends) = match notes::expected_from_text(text) {
         Err(refusal) => (refusal, vec![], vec![]),
         Ok(_) if room.0.min(room.1) < text.len() => (9, vec![], vec![]),
         Ok(note) => (0, note.starts, note.ends),
     };
-    section.answer().text(text).number(room.0 as u32).number(room.1 as u32);
-    section.byte(refusal).column(&starts).column(&ends);
+    answers.answer().text(text).lent_column(room.0).lent_column(room.1);
+    answers.number(refusal).left_column(room.0, &starts).left_column(room.1, &ends);
 }
 
-fn starting_notes() -> Section {
-    let mut section = Section::new(3, "starting::from_text");
+fn starting_notes() -> Answers {
+    let mut answers = Answers::new("from_text");
     for text in worked().into_iter().chain(around_the_limit()) {
         let len = text.len();
         for room in [(len, len), (LIMIT + 1, LIMIT + 1), (len - 1, len), (len, len - 1)] {
-            starting_note(&mut section, &text, room);
+            starting_note(&mut answers, &text, room);
         }
     }
     for text in ["", "a", "é", "漢", "😀", "aéb", "nest 12", "a漢é😀", "příliš žluťoučký kůň"] {
         for room in rooms(text.len()) {
-            starting_note(&mut section, text.as_bytes(), room);
+            starting_note(&mut answers, text.as_bytes(), room);
         }
     }
     for unit in UNITS {
         for len in [127, 128, 129, 600] {
-            starting_note(&mut section, texts::repeated(unit, len).as_bytes(), (len + 3, len));
+            starting_note(&mut answers, texts::repeated(unit, len).as_bytes(), (len + 3, len));
         }
     }
     for sequence in sequences() {
         let text = [b"a".to_vec(), sequence].concat();
-        starting_note(&mut section, &text, (text.len() + 1, text.len() + 1));
+        starting_note(&mut answers, &text, (text.len() + 1, text.len() + 1));
     }
-    section
+    answers
 }
 
 /// A note: transcript, cleaned text, starts, ends, shift; the refusal.
-fn checked_note(section: &mut Section, note: &Note) {
-    section.answer().note(note).byte(note.refusal());
+fn checked_note(answers: &mut Answers, note: &Note) {
+    answers.answer().note(note).number(note.refusal());
 }
 
-fn checked_notes() -> Section {
-    let mut section = Section::new(4, "note::check_note");
+fn checked_notes() -> Answers {
+    let mut answers = Answers::new("check_note");
     for note in edited_notes() {
-        checked_note(&mut section, &note);
+        checked_note(&mut answers, &note);
     }
     let mut random = Random::new(12);
     for _ in 0..10 {
         let len = random.below(12);
-        checked_note(&mut section, &Note::from(&samples::edited(len, &mut random)));
+        checked_note(&mut answers, &Note::from(&samples::edited(len, &mut random)));
     }
-    notes_at_the_limit(&mut section);
-    damaged_notes(&mut section);
-    notes_with_two_faults(&mut section);
-    section
+    notes_at_the_limit(&mut answers);
+    damaged_notes(&mut answers);
+    notes_with_two_faults(&mut answers);
+    answers
 }
 
 /// Starting notes, and each edit of the original on each of them.
@@ -235,7 +232,7 @@ fn edited_notes() -> Vec<Note> {
 }
 
 /// Starting notes of 65,535 and 65,536 bytes, whole and with each damage that needs no byte.
-fn notes_at_the_limit(section: &mut Section) {
+fn notes_at_the_limit(answers: &mut Answers) {
     let (column, next): (Vec<u16>, Vec<u16>) = ((0..=u16::MAX).collect(), (1..=u16::MAX).chain([u16::MAX]).collect());
     for (original, normalized) in every::pair(1) {
         let (original, normalized) = (LIMIT + original, LIMIT + normalized);
@@ -246,20 +243,20 @@ fn notes_at_the_limit(section: &mut Section) {
             ends: next[..normalized].to_vec(),
             original_shift: 0,
         };
-        checked_note(section, &note);
+        checked_note(answers, &note);
         for (_, damage) in DAMAGES {
             let mut damaged = note.clone();
             damage(&mut damaged);
             // A lent column of the list has at most 65,536 numbers.
             if damaged.starts.len().max(damaged.ends.len()).max(damaged.original.len()) <= LIMIT + 1 {
-                checked_note(section, &damaged);
+                checked_note(answers, &damaged);
             }
         }
     }
 }
 
 /// A starting note and one that the original edited, with each damage.
-fn damaged_notes(section: &mut Section) {
+fn damaged_notes(answers: &mut Answers) {
     let fresh = NormalizedString::from("aéb");
     let mut replaced = NormalizedString::from("ž12");
     replaced.replace("12", "漢").expect("a literal is a regular expression");
@@ -268,26 +265,26 @@ fn damaged_notes(section: &mut Section) {
         for (_, damage) in DAMAGES {
             let mut damaged = note.clone();
             damage(&mut damaged);
-            checked_note(section, &damaged);
+            checked_note(answers, &damaged);
         }
         for (_, damage) in DAMAGES_AT {
             for offset in offsets.clone() {
                 let mut damaged = note.clone();
                 damage(&mut damaged, offset);
-                checked_note(section, &damaged);
+                checked_note(answers, &damaged);
             }
         }
     }
 }
 
-/// Every fault beside every other: document 01's order decides.
-fn notes_with_two_faults(section: &mut Section) {
+/// Every fault beside every other: the order of checks decides.
+fn notes_with_two_faults(answers: &mut Answers) {
     for one in 0..FAULTS.len() {
         for other in one..FAULTS.len() {
             let mut note = Note::from(&NormalizedString::from("aéb"));
             FAULTS[one](&mut note);
             FAULTS[other](&mut note);
-            checked_note(section, &note);
+            checked_note(answers, &note);
         }
     }
 }

@@ -1,171 +1,161 @@
-//! The list of answers that crates/replay replays on the proved functions: how it is laid out. Little-endian:
+//! The lists of answers that crates/replay replays on the exported calls, a file for each call: how they are laid out.
 //!
-//! - list: number of sections (1 byte), the sections, and no byte more
-//! - section: number of the call (1), length of its name (1), the name, number of answers (2), the answers
-//! - answer: the call's operands, then what the Rust answers, as `answers.rs` writes them
-//! - number: 4 bytes; a refusal's number is 1 byte, 0 where the call accepts
-//! - numbers: how many (1), the numbers
-//! - text: number of parts (1); a part: times (2), length of its unit (1), the unit. The unit stands there that many times
-//! - column: number of parts (1); a part: times (2), length of its unit (1), step (2), the unit, 2 bytes each. Each time
-//!   after the first, its numbers are those of the time before plus the step, modulo 65,536
+//! - field: its length (4 bytes, little-endian), its bytes
+//! - file: fields, each a case, packed
+//! - packed case: fields, each a part: times (4 bytes), a unit, which stands there that many times
+//! - case: fields; what the call is lent, in the order of its arguments, a buffer to be written with what it holds at
+//!   entry; then the answer's numbers, and each of those buffers, whole, with what it holds then
+//! - number: 4 bytes
+//! - text: as it is
+//! - column, numbers: the differences of its elements, each a number, the first from 0; modulo 65,536, or 2 to the 32
 
 use crate::note::Note;
 use std::collections::HashSet;
 use std::fmt;
 
-/// The largest unit that is looked for, and the fewest elements for which a part that repeats is worth its bytes.
-const UNIT: usize = 16;
-const FEWEST: usize = 48;
+/// The largest unit that is looked for, and the fewest bytes that a part which repeats has to save.
+const UNIT: usize = 64;
+const FEWEST: usize = 32;
+
+/// The most bytes of a file and of a case, unpacked, for which crates/replay has room.
+const FILE: usize = 65_535;
+const CASE: usize = 3_145_728;
 
 /// The answers of one call.
-pub struct Section {
-    call: u8,
-    name: &'static str,
-    answers: Vec<Vec<u8>>,
+pub struct Answers {
+    pub name: &'static str,
+    cases: Vec<Vec<u8>>,
 }
 
-impl Section {
-    pub fn new(call: u8, name: &'static str) -> Self {
-        Section { call, name, answers: vec![] }
+impl Answers {
+    pub fn new(name: &'static str) -> Self {
+        Answers { name, cases: vec![] }
     }
 
-    pub fn call(&self) -> u8 {
-        self.call
-    }
-
-    /// Begins an answer, whose operands and expected answer follow.
+    /// Begins a case, whose fields follow.
     pub fn answer(&mut self) -> &mut Self {
-        self.answers.push(vec![]);
-        self
-    }
-
-    fn put(&mut self, bytes: impl IntoIterator<Item = u8>) {
-        self.answers.last_mut().expect("an answer was begun").extend(bytes);
-    }
-
-    /// Each answer once.
-    pub fn distinct(mut self) -> Self {
-        let mut known = HashSet::new();
-        self.answers.retain(|answer| known.insert(answer.clone()));
-        self
-    }
-
-    pub fn number(&mut self, number: u32) -> &mut Self {
-        self.put(number.to_le_bytes());
-        self
-    }
-
-    pub fn numbers(&mut self, numbers: &[u32]) -> &mut Self {
-        self.byte(numbers.len() as u32);
-        for &number in numbers {
-            self.number(number);
-        }
-        self
-    }
-
-    /// A number of 2 bytes.
-    pub fn short(&mut self, number: usize) -> &mut Self {
-        self.put(u16::try_from(number).expect("a number of two bytes").to_le_bytes());
-        self
-    }
-
-    /// A refusal, or another number of one byte.
-    pub fn byte(&mut self, number: u32) -> &mut Self {
-        self.put([narrow(number as usize)]);
+        self.cases.push(vec![]);
         self
     }
 
     pub fn text(&mut self, text: &[u8]) -> &mut Self {
-        let numbers: Vec<u16> = text.iter().map(|&byte| byte.into()).collect();
-        let parts = parts(&numbers, false);
-        self.put([narrow(parts.len())]);
-        for part in parts {
-            self.put(part.times.to_le_bytes());
-            self.put([narrow(part.unit.len())]);
-            self.put(part.unit.iter().map(|&number| number as u8));
-        }
+        self.cases.last_mut().expect("a case was begun").extend(field(text));
         self
+    }
+
+    pub fn number(&mut self, number: u32) -> &mut Self {
+        self.text(&number.to_le_bytes())
+    }
+
+    pub fn numbers(&mut self, numbers: &[u32]) -> &mut Self {
+        self.text(&differences(numbers).flat_map(u32::to_le_bytes).collect::<Vec<u8>>())
     }
 
     pub fn column(&mut self, column: &[u16]) -> &mut Self {
-        let parts = parts(column, true);
-        self.put([narrow(parts.len())]);
-        for part in parts {
-            self.put(part.times.to_le_bytes());
-            self.put([narrow(part.unit.len())]);
-            self.put(part.step.to_le_bytes());
-            self.put(part.unit.iter().flat_map(|number| number.to_le_bytes()));
-        }
-        self
+        let wide: Vec<u32> = column.iter().copied().map(u32::from).collect();
+        let narrow = differences(&wide).map(|difference| difference % 65_536);
+        self.text(&narrow.flat_map(u32::to_le_bytes).collect::<Vec<u8>>())
     }
-}
 
-impl Section {
     /// Transcript, cleaned text, starts, ends, shift.
     pub fn note(&mut self, note: &Note) -> &mut Self {
         self.text(&note.original).text(&note.normalized).column(&note.starts).column(&note.ends);
         self.number(note.original_shift)
     }
+
+    /// Buffers of this length at entry, and with a result in the place of their first elements. What they hold at
+    /// entry differs from place to place, so that a copy of it elsewhere is seen too.
+    pub fn lent_text(&mut self, room: usize) -> &mut Self {
+        self.left_text(room, &[])
+    }
+
+    pub fn left_text(&mut self, room: usize, result: &[u8]) -> &mut Self {
+        self.text(&left(room, result, |i| (i % 13 * 17 + 40) as u8))
+    }
+
+    pub fn lent_column(&mut self, room: usize) -> &mut Self {
+        self.left_column(room, &[])
+    }
+
+    pub fn left_column(&mut self, room: usize, result: &[u16]) -> &mut Self {
+        self.column(&left(room, result, |i| (i * 40_503 + 26_267) as u16))
+    }
+
+    pub fn lent_numbers(&mut self, room: usize) -> &mut Self {
+        self.left_numbers(room, &[])
+    }
+
+    pub fn left_numbers(&mut self, room: usize, result: &[u32]) -> &mut Self {
+        self.numbers(&left(room, result, |i| (i * 2_654_435_761 + 1_721_460_133) as u32))
+    }
+
+    /// The file, each case once.
+    pub fn file(&self) -> Vec<u8> {
+        let mut known = HashSet::new();
+        let distinct = self.cases.iter().filter(|case| known.insert(*case));
+        let file: Vec<u8> = distinct.flat_map(|case| field(&packed(case))).collect();
+        assert!(file.len() <= FILE, "{} has {} bytes", self.name, file.len());
+        file
+    }
 }
 
-impl fmt::Display for Section {
+impl fmt::Display for Answers {
     fn fmt(&self, f: &mut fmt::Formatter<'_>) -> fmt::Result {
-        write!(f, "{}: {} answers, {} bytes", self.name, self.answers.len(), self.answers.concat().len())
+        let known: HashSet<&Vec<u8>> = self.cases.iter().collect();
+        write!(f, "{}: {} answers, {} bytes", self.name, known.len(), self.file().len())
     }
 }
 
-pub fn of_sections(sections: &[Section]) -> Vec<u8> {
-    let mut list = vec![narrow(sections.len())];
-    for section in sections {
-        list.extend([section.call, narrow(section.name.len())]);
-        list.extend(section.name.bytes());
-        list.extend(u16::try_from(section.answers.len()).expect("a number of two bytes").to_le_bytes());
-        list.extend(section.answers.concat());
-    }
-    list
+fn field(bytes: &[u8]) -> Vec<u8> {
+    let length = u32::try_from(bytes.len()).expect("a length of four bytes");
+    [&length.to_le_bytes(), bytes].concat()
 }
 
-fn narrow(number: usize) -> u8 {
-    u8::try_from(number).expect("a number of one byte")
+fn differences(numbers: &[u32]) -> impl Iterator<Item = u32> + '_ {
+    let before = [0].into_iter().chain(numbers.iter().copied());
+    numbers.iter().zip(before).map(|(number, before)| number.wrapping_sub(before))
 }
 
-struct Part<'a> {
-    unit: &'a [u16],
-    times: u16,
-    step: u16,
+fn left<T: Copy>(room: usize, result: &[T], entry: impl Fn(usize) -> T) -> Vec<T> {
+    result.iter().copied().chain((result.len()..room).map(entry)).collect()
 }
 
-/// Parts that give `numbers`; where `stepped`, a step may be other than 0.
-fn parts(numbers: &[u16], stepped: bool) -> Vec<Part<'_>> {
+fn packed(case: &[u8]) -> Vec<u8> {
+    assert!(case.len() <= CASE, "a case of {} bytes", case.len());
     let mut parts = vec![];
     let (mut begin, mut at) = (0, 0);
-    while at < numbers.len() {
-        match repeating(&numbers[at..], stepped) {
-            Some(part) => {
-                parts.extend(standing_once(&numbers[begin..at]));
-                at += part.unit.len() * usize::from(part.times);
+    while at < case.len() {
+        match repeating(&case[at..]) {
+            Some((unit, times)) => {
+                parts.extend(once(&case[begin..at]));
+                parts.extend(part(unit, times));
+                at += unit.len() * times;
                 begin = at;
-                parts.push(part);
             }
             None => at += 1,
         }
     }
-    parts.extend(standing_once(&numbers[begin..]));
+    parts.extend(once(&case[begin..]));
     parts
 }
 
-fn standing_once(numbers: &[u16]) -> impl Iterator<Item = Part<'_>> {
-    numbers.chunks(u8::MAX.into()).map(|unit| Part { unit, times: 1, step: 0 })
+fn part(unit: &[u8], times: usize) -> Vec<u8> {
+    field(&[&(times as u32).to_le_bytes(), unit].concat())
 }
 
-/// The part that covers the most of the beginning of `numbers`, if that is enough.
-fn repeating(numbers: &[u16], stepped: bool) -> Option<Part<'_>> {
-    let candidates = (1..=UNIT.min(numbers.len())).map(|len| {
-        let step = if stepped { numbers.get(len).map_or(0, |next| next.wrapping_sub(numbers[0])) } else { 0 };
-        let more = (len..numbers.len()).take_while(|&i| numbers[i] == numbers[i - len].wrapping_add(step)).count();
-        Part { unit: &numbers[..len], times: u16::try_from(1 + more / len).unwrap_or(u16::MAX), step }
+fn once(bytes: &[u8]) -> Vec<u8> {
+    if bytes.is_empty() {
+        return vec![];
+    }
+    part(bytes, 1)
+}
+
+/// The unit that saves the most at the beginning, if that is enough, and how many times it stands there.
+fn repeating(bytes: &[u8]) -> Option<(&[u8], usize)> {
+    let candidates = (1..=UNIT.min(bytes.len())).map(|len| {
+        let more = (len..bytes.len()).take_while(|&i| bytes[i] == bytes[i - len]).count();
+        (&bytes[..len], 1 + more / len)
     });
-    let covered = |part: &Part| part.unit.len() * usize::from(part.times);
-    // The shortest unit of those that cover the most.
-    candidates.rev().max_by_key(covered).filter(|part| covered(part) >= FEWEST)
+    let saved = |&(unit, times): &(&[u8], usize)| unit.len() * (times - 1);
+    candidates.rev().max_by_key(saved).filter(|part| saved(part) >= FEWEST)
 }

@@ -5,21 +5,22 @@ use crate::convert::{self, Call, CONVERT_OFFSETS, GET_RANGE, GET_RANGE_ORIGINAL}
 use crate::every;
 use crate::find;
 use crate::library::Offsets;
-use crate::list::Section;
+use crate::list::Answers;
 use crate::lists::List;
 use crate::note::Note;
-use crate::notes::FAULTS;
+use crate::notes::{self, FAULTS};
 use crate::places::{self, Place};
 use crate::positions;
 use crate::replace;
 use crate::texts::LIMIT;
+use std::str::from_utf8;
 use tokenizers::NormalizedString;
 
-pub fn sections() -> [Section; 10] {
+pub fn answers() -> [Answers; 11] {
     [
-        on_ranges(5, "convert::convert_offsets", &CONVERT_OFFSETS, 4),
-        on_ranges(6, "reading::get_range", &GET_RANGE, 2),
-        on_ranges(7, "reading::get_range_original", &GET_RANGE_ORIGINAL, 2),
+        on_ranges("convert_offsets", &CONVERT_OFFSETS, 4),
+        on_ranges("get_range", &GET_RANGE, 2),
+        on_ranges("get_range_original", &GET_RANGE_ORIGINAL, 2),
         parts(),
         converted_lists(),
         char_offsets(),
@@ -27,6 +28,7 @@ pub fn sections() -> [Section; 10] {
         found(),
         replaced(),
         alike(),
+        redacted(),
     ]
 }
 
@@ -54,81 +56,72 @@ fn faulty_notes() -> impl Iterator<Item = Note> {
     })
 }
 
-/// A note, the text that the range is of, start, end; the refusal, the text that the answer is of, start, end (all 0
-/// where it is refused). A text is 1 for the transcript, 0 for the cleaned one.
-fn on_range(section: &mut Section, call: &Call, note: &Note, of_original: bool, (start, end): (usize, usize)) {
+/// A note, the text that the range is of (1 for the transcript, 0 for the cleaned one), start, end; the refusal,
+/// start, end.
+fn on_range(answers: &mut Answers, call: &Call, note: &Note, of_original: bool, (start, end): (usize, usize)) {
     let (start, end) = (start as u32, end as u32);
     let sample = convert::Sample::from(note.clone());
     let answer = sample.expected(call, of_original, start, end).0;
-    let in_original = match section.call() {
-        5 => !of_original,
-        6 => false,
-        _ => true,
-    };
-    section.answer().note(note).byte(of_original.into()).number(start).number(end);
-    section.byte(answer.refusal).byte((in_original && answer.refusal == 0).into());
-    section.number(answer.start).number(answer.end);
+    answers.answer().note(note).number(of_original.into()).number(start).number(end);
+    answers.number(answer.refusal).number(answer.start).number(answer.end);
 }
 
 /// Every range of the starting note with ends up to `last`, some of the others, and one of each faulty note.
-fn on_ranges(number: u8, name: &'static str, call: &Call, last: usize) -> Section {
-    let mut section = Section::new(number, name);
+fn on_ranges(name: &'static str, call: &Call, last: usize) -> Answers {
+    let mut answers = Answers::new(name);
     let some = [(0, 9), (8, 9), (2, 1), (900, 900), (0, LIMIT), (u32::MAX as usize, 0), (1, u32::MAX as usize)];
     for of_original in [false, true] {
         let [fresh, others @ ..] = notes();
         for range in every::pair(last).chain(some) {
-            on_range(&mut section, call, &fresh, of_original, range);
+            on_range(&mut answers, call, &fresh, of_original, range);
         }
         for note in others {
             for range in [(0, 3), (1, 4)] {
-                on_range(&mut section, call, &note, of_original, range);
+                on_range(&mut answers, call, &note, of_original, range);
             }
         }
     }
     for note in faulty_notes() {
-        on_range(&mut section, call, &note, true, (0, 9));
+        on_range(&mut answers, call, &note, true, (0, 9));
     }
-    section
+    answers
 }
 
 /// Two texts, the one that the range is of, start, end; the refusal, the part.
-fn part(section: &mut Section, texts: [&[u8]; 2], of_original: bool, (start, end): (usize, usize)) {
+fn part(answers: &mut Answers, texts: [&[u8]; 2], of_original: bool, (start, end): (usize, usize)) {
     let refusal = convert::expected_part(texts[0], texts[1], of_original, start as u32, end as u32);
     let text = if of_original { texts[0] } else { texts[1] };
     let part = if refusal == 0 { &text[start..end] } else { &[] };
-    section.answer().text(texts[0]).text(texts[1]).byte(of_original.into());
-    section.number(start as u32).number(end as u32).byte(refusal).text(part);
+    answers.answer().text(texts[0]).text(texts[1]).number(of_original.into());
+    answers.number(start as u32).number(end as u32).number(refusal).text(part);
 }
 
-fn parts() -> Section {
-    let mut section = Section::new(8, "reading::part_of");
+fn parts() -> Answers {
+    let mut answers = Answers::new("part");
     for of_original in [false, true] {
         for range in every::pair(4).chain([(0, LIMIT), (u32::MAX as usize, u32::MAX as usize)]) {
-            part(&mut section, ["aé".as_bytes(), "漢".as_bytes()], of_original, range);
+            part(&mut answers, ["aé".as_bytes(), "漢".as_bytes()], of_original, range);
         }
         for texts in [[&b"a\xFF"[..], b"a"], [b"a", b"\xC3"], [&[b'a'; LIMIT + 1], b"\xFF"]] {
-            part(&mut section, texts, of_original, (0, 1));
+            part(&mut answers, texts, of_original, (0, 1));
         }
     }
-    part(&mut section, [&[b'a'; LIMIT], b""], true, (LIMIT - 1, LIMIT));
-    section
+    part(&mut answers, [&[b'a'; LIMIT], b""], true, (LIMIT - 1, LIMIT));
+    answers
 }
 
-/// Starts and ends of the pairs, the rooms of the three lent buffers (1 byte each); the refusal, the numbers, starts and
-/// ends that are written (none where it is refused).
-fn of_list(section: &mut Section, list: &List, lent: u32, answer: impl Fn(u32, u32) -> Offsets) {
+/// Starts and ends of the pairs, the lent numbers, starts and ends; the refusal, the three buffers.
+fn of_list(case: &mut Answers, list: &List, lent: u32, answer: impl Fn(u32, u32) -> Offsets) {
     let refusal = list.refusal(lent);
     let answers: Vec<Offsets> = match refusal {
         0 => list.pairs().map(|(from, to)| answer(from, to)).collect(),
         _ => vec![],
     };
-    section.numbers(&list.from).numbers(&list.to);
-    for room in list.rooms {
-        section.byte(room as u32);
-    }
-    section.byte(refusal).text(&answers.iter().map(|answer| answer.refusal as u8).collect::<Vec<u8>>());
-    section.numbers(&answers.iter().map(|answer| answer.start).collect::<Vec<u32>>());
-    section.numbers(&answers.iter().map(|answer| answer.end).collect::<Vec<u32>>());
+    let [numbers, starts, ends] = list.rooms;
+    case.numbers(&list.from).numbers(&list.to).lent_text(numbers).lent_numbers(starts).lent_numbers(ends);
+    case.number(refusal).left_text(numbers, &answers.iter().map(|answer| answer.refusal as u8).collect::<Vec<u8>>());
+    case.left_numbers(starts, &answers.iter().map(|answer| answer.start).collect::<Vec<u32>>());
+    case.left_numbers(ends, &answers.iter().map(|answer| answer.end).collect::<Vec<u32>>());
 }
 
 /// Lists in order and not, empty, in just enough room, in more, and in less of each of the three; one end too many.
@@ -147,30 +140,30 @@ fn lists() -> Vec<List> {
 }
 
 /// A note, the text that the pairs are ranges of, a list.
-fn converted_lists() -> Section {
-    let mut section = Section::new(9, "batch::convert_all");
+fn converted_lists() -> Answers {
+    let mut answers = Answers::new("convert_all");
     let [fresh, replaced, ..] = notes();
     let sound = [fresh, replaced].map(|note| (note, lists()));
     let faulty = faulty_notes().map(|note| (note, vec![List::of(&[(0, 1)])]));
     for (note, lists) in sound.into_iter().chain(faulty) {
         let sample = convert::Sample::from(note);
         for (list, of_original) in lists.iter().zip([true, false].into_iter().cycle()) {
-            section.answer().note(&sample.lent).byte(of_original.into());
+            answers.answer().note(&sample.lent).number(of_original.into());
             let answer = |from, to| sample.expected(&CONVERT_OFFSETS, of_original, from, to).0;
-            of_list(&mut section, list, sample.refusal(), answer);
+            of_list(&mut answers, list, sample.refusal(), answer);
         }
     }
-    section
+    answers
 }
 
 /// A text, start, end; the refusal, the two indices.
-fn char_offsets() -> Section {
-    let mut section = Section::new(10, "positions::convert");
+fn char_offsets() -> Answers {
+    let mut answers = Answers::new("char_offsets");
     let mut answer = |sample: &positions::Sample, (start, end): (usize, usize)| {
         let (start, end) = (start as u32, end as u32);
         let answer = sample.expected(start, end);
-        section.answer().text(&sample.text).number(start).number(end);
-        section.byte(answer.refusal).number(answer.start).number(answer.end);
+        answers.answer().text(&sample.text).number(start).number(end);
+        answers.number(answer.refusal).number(answer.start).number(answer.end);
     };
     for text in ["abc", "a漢b"] {
         let sample = positions::Sample::from(text.as_bytes().to_vec());
@@ -184,24 +177,24 @@ fn char_offsets() -> Section {
             answer(&sample, pair);
         }
     }
-    section
+    answers
 }
 
 /// A text, a list.
-fn char_offset_lists() -> Section {
-    let mut section = Section::new(11, "positions::convert_all");
+fn char_offset_lists() -> Answers {
+    let mut answers = Answers::new("char_offsets_all");
     for text in [&b"abc"[..], "a漢b".as_bytes(), b"a\xFF", &[b'a'; LIMIT + 1], b""] {
         let sample = positions::Sample::from(text.to_vec());
         for list in lists() {
-            section.answer().text(&sample.text);
-            of_list(&mut section, &list, sample.refusal(), |start, end| sample.expected(start, end));
+            answers.answer().text(&sample.text);
+            of_list(&mut answers, &list, sample.refusal(), |start, end| sample.expected(start, end));
         }
     }
-    section
+    answers
 }
 
-/// A text, a literal, the room for the list (2 bytes); the refusal, how many bytes are written (2), the list.
-fn find(section: &mut Section, text: &[u8], literal: &[u8], rooms: impl Fn(usize) -> Vec<usize>) {
+/// A text, a literal, the lent list; the refusal, how many bytes are written, the list.
+fn find(answers: &mut Answers, text: &[u8], literal: &[u8], rooms: impl Fn(usize) -> Vec<usize>) {
     let list = find::expected(text, literal);
     for room in rooms(list.as_ref().map_or(0, Vec::len)) {
         let (refusal, list): (u32, &[u8]) = match &list {
@@ -209,97 +202,98 @@ fn find(section: &mut Section, text: &[u8], literal: &[u8], rooms: impl Fn(usize
             Ok(list) if room < list.len() => (9, &[]),
             Ok(list) => (0, list),
         };
-        section.answer().text(text).text(literal).short(room).byte(refusal).short(list.len()).text(list);
+        answers.answer().text(text).text(literal).lent_text(room);
+        answers.number(refusal).number(list.len() as u32).left_text(room, list);
     }
 }
 
-fn found() -> Section {
-    let mut section = Section::new(12, "find::find_matches");
+fn found() -> Answers {
+    let mut answers = Answers::new("find_matches");
     for literal in ["", "a", "aa", "é", "b", "aéb", "aéba", "x"] {
         for text in ["", "aéb", "aaaaa"] {
-            find(&mut section, text.as_bytes(), literal.as_bytes(), |len| vec![len, 1000]);
+            find(&mut answers, text.as_bytes(), literal.as_bytes(), |len| vec![len, 1000]);
         }
     }
     for room in [0, 4, 14, 15, 16] {
-        find(&mut section, b"nest 12", b"t", |_| vec![room]);
+        find(&mut answers, b"nest 12", b"t", |_| vec![room]);
     }
     for (text, literal) in [(&b"a\xFF"[..], &b"a"[..]), (b"a", b"\xFF"), (&[b'a'; LIMIT + 1], b"\xFF")] {
-        find(&mut section, text, literal, |_| vec![0, 1000]);
+        find(&mut answers, text, literal, |_| vec![0, 1000]);
     }
     // A literal across the end of 64 places, and one that nearly matches everywhere.
     for before in [61, 62, 63, 64, 65, 127, 128] {
         let text = ["b".repeat(before), "nest".into(), "b".repeat(70)].concat();
-        find(&mut section, text.as_bytes(), b"nest", |len| vec![len, 1000]);
+        find(&mut answers, text.as_bytes(), b"nest", |len| vec![len, 1000]);
         let text = ["n".repeat(before), "nest".into(), "n".repeat(70)].concat();
-        find(&mut section, text.as_bytes(), b"nest", |len| vec![len, 1000]);
+        find(&mut answers, text.as_bytes(), b"nest", |len| vec![len, 1000]);
     }
-    find(&mut section, &[b'a'; LIMIT], b"b", |len| vec![len, 1000]);
-    find(&mut section, &[b'a'; LIMIT], &[b'a'; LIMIT], |len| vec![len, 1000]);
-    section
+    find(&mut answers, &[b'a'; LIMIT], b"b", |len| vec![len, 1000]);
+    find(&mut answers, &[b'a'; LIMIT], &[b'a'; LIMIT], |len| vec![len, 1000]);
+    answers
 }
 
-/// A note, a list, a filler, the rooms for text, starts and ends (2 bytes each); the refusal, the text, starts and ends
-/// that are written (empty where it is refused).
-fn replace(section: &mut Section, note: &Note, list: &[u8], filler: &[u8], rooms: fn(usize) -> [usize; 3]) {
-    let result = replace::expected(note, list, filler);
+/// A note, a list, a content, the lent text, starts and ends; the refusal, the size, the three buffers.
+fn replace(answers: &mut Answers, note: &Note, list: &[u8], content: &[u8], rooms: fn(usize) -> [usize; 3]) {
+    let result = replace::expected(note, list, content);
     let room = rooms(result.as_ref().map_or(0, |result| result.normalized.len()));
     let (refusal, result) = match &result {
         Err(refusal) => (*refusal, None),
         Ok(result) if room.iter().any(|&room| room < result.normalized.len()) => (9, None),
         Ok(result) => (0, Some(result)),
     };
-    section.answer().note(note).text(list).text(filler);
-    for room in room {
-        section.short(room);
-    }
-    section.byte(refusal).text(result.map_or(&[], |result| &result.normalized));
-    section.column(result.map_or(&[], |result| &result.starts)).column(result.map_or(&[], |result| &result.ends));
+    answers.answer().note(note).text(list).text(content);
+    answers.lent_text(room[0]).lent_column(room[1]).lent_column(room[2]);
+    answers.number(refusal).number(result.map_or(0, |result| result.normalized.len() as u32));
+    answers.left_text(room[0], result.map_or(&[], |result| &result.normalized));
+    answers.left_column(room[1], result.map_or(&[], |result| &result.starts));
+    answers.left_column(room[2], result.map_or(&[], |result| &result.ends));
 }
 
-fn replaced() -> Section {
-    let mut section = Section::new(13, "replace::replace");
+fn replaced() -> Answers {
+    let mut answers = Answers::new("replace");
     let (nest, ab) = (["nest 12", "nest 47"], "ab");
     let digits: &[Place] = &[((0, 5), false), ((5, 7), true)];
     let before: &[Place] = &[((0, 0), true), ((0, 2), false)];
     for (text, places, filler) in [(nest[0], digits, "**"), (nest[1], digits, "**"), (ab, before, "x")] {
         let note = Note::from(&NormalizedString::from(text));
-        replace(&mut section, &note, &places::bytes(places), filler.as_bytes(), |len| [len, len + 1, len + 2]);
+        replace(&mut answers, &note, &places::bytes(places), filler.as_bytes(), |len| [len, len + 1, len + 2]);
     }
     let note = Note::from(&NormalizedString::from("aé"));
     for places in places::every("aé", 0) {
         for filler in ["", "漢x"] {
-            replace(&mut section, &note, &places::bytes(&places), filler.as_bytes(), |len| [len + 1, len, len]);
+            replace(&mut answers, &note, &places::bytes(&places), filler.as_bytes(), |len| [len + 1, len, len]);
         }
     }
     let list = places::bytes(&[((0, 1), true), ((1, 1), true), ((1, 3), false)]);
     let rooms: [fn(usize) -> [usize; 3]; 4] =
         [|len| [len - 1, len, len], |len| [len, len - 1, len], |len| [len, len, len - 1], |_| [LIMIT; 3]];
     for rooms in rooms {
-        replace(&mut section, &note, &list, b"xy", rooms);
+        replace(&mut answers, &note, &list, b"xy", rooms);
     }
     for at in 0..list.len() {
         let mut damaged = list.clone();
         damaged[at] ^= 2;
-        replace(&mut section, &note, &damaged, b"xy", |_| [9; 3]);
+        replace(&mut answers, &note, &damaged, b"xy", |_| [9; 3]);
     }
     for (list, filler) in [(&list[..14], &b"xy"[..]), (&list, b"\xFF"), (&[], b"xy"), (&list, &[b'x'; LIMIT - 2])] {
-        replace(&mut section, &note, list, filler, |_| [LIMIT; 3]);
+        replace(&mut answers, &note, list, filler, |_| [LIMIT; 3]);
     }
     for note in notes().into_iter().skip(1).chain(faulty_notes()) {
         let list = places::bytes(&[((0, note.normalized.len()), true)]);
-        replace(&mut section, &note, &list, b"x", |_| [9; 3]);
+        replace(&mut answers, &note, &list, b"x", |_| [9; 3]);
     }
-    section
+    answers
 }
 
 /// Two notes, a list, a filler; the refusal, 1 where what is published of both is alike.
-fn alike() -> Section {
-    let mut section = Section::new(14, "alike::published_alike");
+fn alike() -> Answers {
+    let mut answers = Answers::new("published_alike");
     let notes = ["n12", "n47", "n4", "né", "m12"].map(|text| Note::from(&NormalizedString::from(text)));
     let lists = [vec![((0, 1), false), ((1, 3), true)], vec![((0, 1), true), ((1, 3), false), ((3, 3), true)]];
     let mut answer = |one: &Note, other: &Note, list: &[u8], filler: &[u8]| {
         let expected = blanking::expected_alike(one, other, list, filler);
-        section.answer().note(one).note(other).text(list).text(filler).byte(expected.refusal).byte(expected.count);
+        answers.answer().note(one).note(other).text(list).text(filler);
+        answers.number(expected.refusal).number(expected.count);
     };
     for list in lists.iter().map(|places| places::bytes(places)) {
         for other in &notes {
@@ -315,5 +309,73 @@ fn alike() -> Section {
         answer(&note, &fresh, &list, b"x");
         answer(&fresh, &note, &list, b"x");
     }
-    section
+    answers
+}
+
+/// What the six buffers of a redaction hold: list, starting columns, text, its columns.
+type Redaction = (Vec<u8>, Note, Note);
+
+fn redaction(text: &[u8], literal: &[u8], content: &[u8]) -> Result<Redaction, u32> {
+    let list = find::expected(text, literal)?;
+    from_utf8(content).map_err(|_| 1_u32)?;
+    let note = notes::expected_from_text(text)?;
+    let result = replace::expected(&note, &list, content)?;
+    Ok((list, note, result))
+}
+
+/// A text, a literal, a content, the lent list, starting columns, text and columns; the refusal, the size, the six
+/// buffers.
+fn redact(answers: &mut Answers, strings: [&[u8]; 3], rooms: impl Fn([usize; 6]) -> Vec<[usize; 6]>) {
+    let [text, literal, content] = strings;
+    let nothing = || Note { original: vec![], normalized: vec![], starts: vec![], ends: vec![], original_shift: 0 };
+    let result = redaction(text, literal, content);
+    let sizes = result.as_ref().map_or([9; 6], |(list, note, result)| {
+        [list.len(), note.starts.len(), note.ends.len(), result.normalized.len(), result.starts.len(), result.ends.len()]
+    });
+    for room in rooms(sizes) {
+        let (refusal, (list, note, result)) = match &result {
+            Err(refusal) => (*refusal, (vec![], nothing(), nothing())),
+            Ok(_) if room.iter().zip(sizes).any(|(&room, size)| room < size) => (9, (vec![], nothing(), nothing())),
+            Ok(result) => (0, result.clone()),
+        };
+        answers.answer().text(text).text(literal).text(content).lent_text(room[0]).lent_column(room[1]);
+        answers.lent_column(room[2]).lent_text(room[3]).lent_column(room[4]).lent_column(room[5]);
+        answers.number(refusal).number(result.normalized.len() as u32).left_text(room[0], &list);
+        answers.left_column(room[1], &note.starts).left_column(room[2], &note.ends);
+        answers.left_text(room[3], &result.normalized);
+        answers.left_column(room[4], &result.starts).left_column(room[5], &result.ends);
+    }
+}
+
+/// Just large enough, larger, and short by one in each in turn.
+fn six_rooms(sizes: [usize; 6]) -> Vec<[usize; 6]> {
+    let short = |i: usize| {
+        let mut room = sizes;
+        room[i] = sizes[i].saturating_sub(1);
+        room
+    };
+    [sizes, sizes.map(|size| size + 3)].into_iter().chain((0..6).map(short)).collect()
+}
+
+fn redacted() -> Answers {
+    let mut answers = Answers::new("redact");
+    for text in ["", "nest 12", "aéb", "aaé漢aa"] {
+        for literal in ["", "12", "é", "aa", "aéb"] {
+            for content in ["", "*", "漢x"] {
+                let strings = [text, literal, content].map(str::as_bytes);
+                redact(&mut answers, strings, |sizes| vec![sizes, sizes.map(|size| size + 2)]);
+            }
+        }
+    }
+    redact(&mut answers, [&b"nest 12"[..], b"t", b"**"], six_rooms);
+    redact(&mut answers, ["é漢é".as_bytes(), "é".as_bytes(), b"x"], six_rooms);
+    for strings in [[&b"a\xFF"[..], b"a", b"x"], [b"a", b"\xC3", b"x"], [b"a", b"a", b"\xE2\x82"]] {
+        redact(&mut answers, strings, |sizes| vec![sizes, [0; 6]]);
+    }
+    redact(&mut answers, [&[b'a'; LIMIT + 1], b"a", b"x"], |_| vec![[LIMIT + 1; 6], [0; 6]]);
+    redact(&mut answers, [&[b'a'; LIMIT], b"b", b"x"], |sizes| vec![sizes]);
+    redact(&mut answers, [&[b'a'; LIMIT], &[b'a'; LIMIT], b"x"], |sizes| vec![sizes]);
+    redact(&mut answers, [&b"abc"[..], b"b", &[b'x'; LIMIT - 2]], |sizes| vec![sizes]);
+    redact(&mut answers, [&b"abc"[..], b"b", &[b'x'; LIMIT - 1]], |_| vec![[LIMIT + 1; 6]]);
+    answers
 }

@@ -1,123 +1,110 @@
-// Replays a fixed list of the Rust original's answers on the proved functions and prints, for each call, how many there are and how many differ.
-//
-// The list is the file `answers`. `compare/run list` wrote it from what `core::str` and `NormalizedString` answer; where the Rust has no refusal, from
-// the second check that compare/ has, written from document 01. A text is lent as it stands there, and so is a note; a column to be written is lent with
-// known contents, and compared over its whole buffer, so that what stands beyond the result, or after a refusal, has to be as it was.
-//
-// The list, little-endian:
-//   list      number of sections (1), the sections, and no byte more
-//   section   number of the call (1), length of its name (1), the name, number of answers (2), the answers
-//   answer    the call's operands, then what the Rust answers; calls.rt has the calls and the order of each
-//   number    4 bytes; a refusal's number is 1 byte, 0 where the call accepts
-//   numbers   how many (1), the numbers
-//   text      number of parts (1); a part: times (2), length of its unit (1), the unit. The unit stands there that many times
-//   column    number of parts (1); a part: times (2), length of its unit (1), step (2), the unit, 2 bytes each.
-//             Each time after the first, its numbers are those of the time before plus the step, modulo 65,536
-mod calls;
-mod characters;
-mod fresh;
-mod lent;
-mod list;
-mod lists;
+// Replays fixed lists of the Rust original's answers on the exported calls, and prints for each call how many there
+// are and how many differ. `compare/run list` wrote the lists; compare/src/list.rs says how they are laid out. Each
+// call has a file, an arm and a line here.
+mod columns;
+mod fields;
+mod matches;
 mod notes;
+mod pairs;
 mod ranges;
-mod replacing;
-mod report;
+mod texts;
+mod told;
+mod unpack;
 
+use fields::field;
 use libc::STDOUT_FILENO;
-use list::PAST;
-use list::after;
-use list::byte;
-use list::short;
-use report::Tally;
-use report::counted;
-ghost use Prim.Native.Nat.{_≤_};
+use unpack::unpack;
 
-// A section that was replayed: the place after it, and what was found.
-struct Found {
-    at: usize,
-    tally: Tally,
+// The most bytes of a case, unpacked.
+const CASE: usize = 3145728;
+
+// How many answers were replayed, and how many of them differ.
+struct Tally {
+    answers: u64,
+    differing: u64,
 }
 
-// Replays `answers` answers of a call; it stops where the list ends too soon.
-fn replayed(call: u8, list: &[u8], from: usize, answers: u16) -> Found
-    ensures { λ r. ⌜ (r .tally .answers ≤ 65535) × (r .tally .differing ≤ r .tally .answers) ⌝ }
-{
-    let mut at = from;
-    let mut tally = report::none();
-    let mut k: u16 = 0;
-    while k < answers {
-        let outcome = calls::replay(call, list, at);
-        at = outcome.at;
-        if at == PAST {
+// Whether the call answers as the case says.
+fn agrees(call: u8, case: &[u8]) -> bool {
+    match call {
+        0 => texts::well_formed(case),
+        1 => texts::letter_count(case),
+        2 => texts::char_offsets(case),
+        4 => notes::from_text(case),
+        12 => ranges::part(case),
+        13 => matches::find_matches(case),
+        14 => matches::redact(case),
+        _ => notes::on_note(call, case),
+    }
+}
+
+// All cases of a list, up to the first empty field.
+fn replayed(call: u8, list: &[u8]) -> Tally {
+    let mut space = [0; CASE];
+    let mut answers: u64 = 0;
+    let mut differing: u64 = 0;
+    while answers < 65536 {
+        let packed = field(list, answers as usize);
+        if packed.len() == 0 {
             break;
         }
-        tally = counted(tally, outcome.agrees);
-        k += 1;
-    }
-    Found { at, tally }
-}
-
-fn section(list: &[u8], at: usize) -> Found
-    ensures { λ r. ⌜ (r .tally .answers ≤ 65535) × (r .tally .differing ≤ r .tally .answers) ⌝ }
-{
-    let call = byte(list, at);
-    let name = after(list, at, 2);
-    let size = byte(list, after(list, at, 1)) as usize;
-    let answers = after(list, name, size);
-    let s = replayed(call, list, after(list, answers, 2), short(list, answers));
-    report::name(list, name, size);
-    report::line(s.tally);
-    s
-}
-
-// The last line: in all, or what is wrong with the list.
-fn finish(list: &[u8], at: usize, all: Tally) {
-    if at == PAST {
-        io::write_all(
-            STDOUT_FILENO,
-            b"The list is cut short or has a call of no known number.\n",
-        );
-        return;
-    }
-    if at != list.len() {
-        io::write_all(STDOUT_FILENO, b"The list goes on after its last answer.\n");
-        return;
-    }
-    io::write_all(STDOUT_FILENO, b"in all");
-    report::figures(all);
-    io::write_all(STDOUT_FILENO, b"\n");
-}
-
-fn replay(list: &[u8]) {
-    let sections = byte(list, 0);
-    let mut at = after(list, 0, 1);
-    let mut all = report::none();
-    let mut k: u8 = 0;
-    while k < sections {
-        if at == PAST {
-            break;
+        let n = unpack(packed, &mut space);
+        if !agrees(call, &space[..n]) {
+            differing += 1;
         }
-        let s = section(list, at);
-        at = s.at;
-        all = report::sum(all, s.tally);
-        k += 1;
+        answers += 1;
     }
-    finish(list, at, all);
+    Tally { answers, differing }
+}
+
+fn print(name: &[u8], t: Tally) {
+    io::write_all(STDOUT_FILENO, name);
+    io::write_all(STDOUT_FILENO, b": ");
+    io::print_decimal(STDOUT_FILENO, t.answers);
+    io::write_all(STDOUT_FILENO, b" answers, ");
+    io::print_decimal(STDOUT_FILENO, t.differing);
+    io::write_all(STDOUT_FILENO, b" differ\n");
+}
+
+// The list in the file of this name.
+fn replay(call: u8, name: &[u8]) {
+    let mut list = io::large_buffer();
+    let fd = os::open_read(name);
+    let n = io::read_full(fd, &mut list);
+    libc::close(fd);
+    print(name, replayed(call, &list[..n]));
+}
+
+fn replay_texts() {
+    replay(0, b"well_formed");
+    replay(1, b"letter_count");
+    replay(2, b"char_offsets");
+    replay(3, b"char_offsets_all");
+}
+
+fn replay_notes() {
+    replay(4, b"from_text");
+    replay(5, b"check_note");
+}
+
+fn replay_ranges() {
+    replay(6, b"convert_offsets");
+    replay(7, b"get_range");
+    replay(8, b"get_range_original");
+    replay(9, b"convert_all");
+}
+
+fn replay_matches() {
+    replay(10, b"replace");
+    replay(11, b"published_alike");
+    replay(12, b"part");
+    replay(13, b"find_matches");
+    replay(14, b"redact");
 }
 
 fn main() {
-    let fd = os::open_read(b"answers");
-    if fd < 0 {
-        io::write_all(STDOUT_FILENO, b"The list of answers cannot be opened.\n");
-        return;
-    }
-    let mut list = io::large_buffer();
-    let n = io::read_full(fd, &mut list);
-    libc::close(fd);
-    if n == 65536 {
-        io::write_all(STDOUT_FILENO, b"The list has 65,536 bytes or more.\n");
-        return;
-    }
-    replay(&list[..n]);
+    replay_texts();
+    replay_notes();
+    replay_ranges();
+    replay_matches();
 }

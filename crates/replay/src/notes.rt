@@ -1,75 +1,60 @@
-// The calls that are lent a note. It is read here, and lent to the call by its number.
-use crate::calls::Outcome;
-use crate::calls::ROOM;
-use crate::list::after;
-use crate::list::byte;
-use crate::list::column;
-use crate::list::long;
-use crate::list::text;
-use crate::lists::convert_all;
-use crate::ranges::on_range;
-use crate::replacing::published_alike;
-use crate::replacing::replace;
+// The starting note, and the calls on a note, whose first fields are transcript, cleaned text, starts, ends, shift.
+use crate::columns::offsets;
+use crate::columns::zeros;
+use crate::fields::field;
+use crate::fields::is_number;
+use crate::fields::value;
+use crate::matches::published_alike;
+use crate::matches::replace;
+use crate::pairs::on_pairs;
+use crate::ranges::convert_offsets;
+use crate::ranges::get_range;
+use crate::ranges::get_range_original;
+use crate::told::are_columns;
+use buffers::Offset;
+use zulmyren::notes::zulmyren_check_note;
+use zulmyren::notes::zulmyren_from_text;
 
 // A note; the refusal.
-fn check_note(
-    list: &[u8],
-    at: usize,
-    original: &[u8],
-    normalized: &[u8],
-    starts: &[u16],
-    ends: &[u16],
-    shift: u32,
-) -> Outcome {
-    let verdict = note::check_note(original, normalized, starts, ends, shift);
-    Outcome {
-        at: after(list, at, 1),
-        agrees: note::answer(verdict) == byte(list, at) as u32,
-    }
+fn check_note(case: &[u8], starts: &[Offset], ends: &[Offset]) -> bool {
+    let refusal = zulmyren_check_note(field(case, 0), field(case, 1), starts, ends, value(case, 4));
+    is_number(case, 5, refusal)
 }
 
-// The call whose further operands stand at `at`.
-fn call(
-    call: u8,
-    list: &[u8],
-    at: usize,
-    original: &[u8],
-    normalized: &[u8],
-    starts: &[u16],
-    ends: &[u16],
-    shift: u32,
-) -> Outcome {
+fn started(case: &[u8], starts: &mut [Offset], ends: &mut [Offset]) -> bool {
+    let refusal = zulmyren_from_text(field(case, 0), starts, ends);
+    are_columns(case, 3, refusal, starts, ends)
+}
+
+// A text, the lent starts and ends; the refusal, the two columns.
+pub fn from_text(case: &[u8]) -> bool {
+    let mut starts = zeros();
+    let mut ends = zeros();
+    let s = offsets(case, 1, &mut starts);
+    let e = offsets(case, 2, &mut ends);
+    started(case, &mut starts[..s], &mut ends[..e])
+}
+
+// One of the calls on a note; its columns are read already.
+fn called(call: u8, case: &[u8], starts: &[Offset], ends: &[Offset]) -> bool {
     match call {
-        4 => check_note(list, at, original, normalized, starts, ends, shift),
-        9 => convert_all(list, at, original, normalized, starts, ends, shift),
-        13 => replace(list, at, original, normalized, starts, ends, shift),
-        14 => published_alike(list, at, original, normalized, starts, ends, shift),
-        _ => on_range(call, list, at, original, normalized, starts, ends, shift),
+        3 => on_pairs(call, case, 1, starts, ends),
+        5 => check_note(case, starts, ends),
+        6 => convert_offsets(case, starts, ends),
+        7 => get_range(case, starts, ends),
+        8 => get_range_original(case, starts, ends),
+        9 => on_pairs(call, case, 6, starts, ends),
+        10 => replace(case, starts, ends),
+        11 => published_alike(case, starts, ends),
+        _ => false,
     }
 }
 
-// A note: transcript, cleaned text, starts, ends, shift; then as the call has it.
-pub fn on_note(number: u8, list: &[u8], at: usize) -> Outcome {
-    let mut original = [0u8; ROOM];
-    let mut normalized = [0u8; ROOM];
-    let mut starts = [0u16; ROOM];
-    let mut ends = [0u16; ROOM];
-    let o = text(list, at, &mut original);
-    let n = text(list, o.at, &mut normalized);
-    let s = column(list, n.at, &mut starts);
-    let e = column(list, s.at, &mut ends);
-    let o_len = o.len;
-    let n_len = n.len;
-    let s_len = s.len;
-    let e_len = e.len;
-    call(
-        number,
-        list,
-        after(list, e.at, 4),
-        &original[..o_len],
-        &normalized[..n_len],
-        &starts[..s_len],
-        &ends[..e_len],
-        long(list, e.at),
-    )
+// A call on a note, or one that takes no columns.
+pub fn on_note(call: u8, case: &[u8]) -> bool {
+    let mut starts = zeros();
+    let mut ends = zeros();
+    let s = offsets(case, 2, &mut starts);
+    let e = offsets(case, 3, &mut ends);
+    called(call, case, &starts[..s], &ends[..e])
 }

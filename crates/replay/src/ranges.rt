@@ -1,109 +1,116 @@
-// The calls on a note and a range: converting and reading.
-use crate::calls::Outcome;
-use crate::calls::ROOM;
-use crate::list::after;
-use crate::list::byte;
-use crate::list::long;
-use crate::list::text;
-use buffers::equality::same_bytes;
-use convert::Converted;
+// The calls on a note and a range, or a list of ranges. A range: 1 where it is of the transcript, 0 of the cleaned
+// text; start, end.
+use crate::fields::field;
+use crate::fields::is_number;
+use crate::fields::is_text;
+use crate::fields::value;
+use crate::told::are_pairs;
+use crate::told::is_range;
+use buffers::Offset;
 use convert::Range;
+use get_range::part_of;
 use note::NormalizedByte;
 use note::OriginalByte;
+use zulmyren::ranges::zulmyren_convert_all;
+use zulmyren::ranges::zulmyren_convert_offsets;
+use zulmyren::ranges::zulmyren_get_range;
+use zulmyren::ranges::zulmyren_get_range_original;
+use zulmyren::ranges::zulmyren_part_verdict;
 
-// The text that a range names (1 the transcript, 0 the cleaned text), start, end: 9 bytes.
-fn range_at(list: &[u8], at: usize) -> Range {
-    let from = long(list, after(list, at, 1));
-    let to = long(list, after(list, at, 5));
-    if byte(list, at) == 1 {
-        Range::Original(OriginalByte(from), OriginalByte(to))
+// A note, a range; the refusal, start, end.
+pub fn convert_offsets(case: &[u8], starts: &[Offset], ends: &[Offset]) -> bool {
+    let answer = zulmyren_convert_offsets(
+        field(case, 0),
+        field(case, 1),
+        starts,
+        ends,
+        value(case, 4),
+        value(case, 5) == 1,
+        value(case, 6),
+        value(case, 7),
+    );
+    is_range(case, 8, answer)
+}
+
+// A note, a range; the refusal, start, end.
+pub fn get_range(case: &[u8], starts: &[Offset], ends: &[Offset]) -> bool {
+    let answer = zulmyren_get_range(
+        field(case, 0),
+        field(case, 1),
+        starts,
+        ends,
+        value(case, 4),
+        value(case, 5) == 1,
+        value(case, 6),
+        value(case, 7),
+    );
+    is_range(case, 8, answer)
+}
+
+// A note, a range; the refusal, start, end.
+pub fn get_range_original(case: &[u8], starts: &[Offset], ends: &[Offset]) -> bool {
+    let answer = zulmyren_get_range_original(
+        field(case, 0),
+        field(case, 1),
+        starts,
+        ends,
+        value(case, 4),
+        value(case, 5) == 1,
+        value(case, 6),
+        value(case, 7),
+    );
+    is_range(case, 8, answer)
+}
+
+// The range at fields 2 to 4.
+fn range(case: &[u8]) -> Range {
+    let start = value(case, 3);
+    let end = value(case, 4);
+    if value(case, 2) == 1 {
+        Range::Original(OriginalByte(start), OriginalByte(end))
     } else {
-        Range::Normalized(NormalizedByte(from), NormalizedByte(to))
+        Range::Normalized(NormalizedByte(start), NormalizedByte(end))
     }
-}
-
-// Which text a range names, as above.
-fn side(range: Range) -> u8 {
-    match range {
-        Range::Original(_, _) => 1,
-        Range::Normalized(_, _) => 0,
-    }
-}
-
-// Whether an answer is the one at this place of the list: the refusal, then a range, all 0 where it is refused; 10 bytes.
-fn answered(list: &[u8], at: usize, answer: Converted) -> Outcome {
-    let refusal = byte(list, at) as u32;
-    let text = byte(list, after(list, at, 1));
-    let from = long(list, after(list, at, 2));
-    let to = long(list, after(list, at, 6));
-    let agrees = match answer {
-        Converted::Found(range) => {
-            (refusal == 0)
-                & (text == side(range))
-                & (from == convert::start_of(range))
-                & (to == convert::end_of(range))
-        }
-        Converted::Refused(k) => {
-            (refusal == note::number(k)) & (text == 0) & (from == 0) & (to == 0)
-        }
-    };
-    Outcome {
-        at: after(list, at, 10),
-        agrees,
-    }
-}
-
-// One of three calls by its number.
-fn called(
-    call: u8,
-    original: &[u8],
-    normalized: &[u8],
-    starts: &[u16],
-    ends: &[u16],
-    shift: u32,
-    range: Range,
-) -> Converted {
-    match call {
-        5 => convert::convert_offsets(original, normalized, starts, ends, shift, range),
-        6 => get_range::get_range(original, normalized, starts, ends, shift, range),
-        _ => get_range::get_range_original(original, normalized, starts, ends, shift, range),
-    }
-}
-
-// A note, a range; the refusal, a range.
-pub fn on_range(
-    call: u8,
-    list: &[u8],
-    at: usize,
-    original: &[u8],
-    normalized: &[u8],
-    starts: &[u16],
-    ends: &[u16],
-    shift: u32,
-) -> Outcome {
-    let range = range_at(list, at);
-    let answer = called(call, original, normalized, starts, ends, shift, range);
-    answered(list, after(list, at, 9), answer)
 }
 
 // Two texts, a range; the refusal, the part that the reader hands back.
-pub fn part(list: &[u8], at: usize) -> Outcome {
-    let mut original = [0u8; ROOM];
-    let mut normalized = [0u8; ROOM];
-    let mut expected = [0u8; ROOM];
-    let o = text(list, at, &mut original);
-    let n = text(list, o.at, &mut normalized);
-    let answer = after(list, n.at, 9);
-    let e = text(list, after(list, answer, 1), &mut expected);
-    let o_len = o.len;
-    let n_len = n.len;
-    let e_len = e.len;
-    let range = range_at(list, n.at);
-    let verdict = get_range::part_verdict(&original[..o_len], &normalized[..n_len], range);
-    let read = get_range::part_of(&original[..o_len], &normalized[..n_len], range);
-    Outcome {
-        at: e.at,
-        agrees: (note::answer(verdict) == byte(list, answer) as u32)
-            & same_bytes(read, &expected[..e_len]),
-    }
+pub fn part(case: &[u8]) -> bool {
+    let original = field(case, 0);
+    let normalized = field(case, 1);
+    let refusal = zulmyren_part_verdict(
+        original,
+        normalized,
+        value(case, 2) == 1,
+        value(case, 3),
+        value(case, 4),
+    );
+    is_number(case, 5, refusal) & is_text(case, 6, part_of(original, normalized, range(case)))
+}
+
+// A note, the text that the ranges are of, their starts and ends, the lent numbers, starts and ends; the refusal, the
+// three buffers.
+pub fn convert_all(
+    case: &[u8],
+    note_starts: &[Offset],
+    note_ends: &[Offset],
+    from: &[u32],
+    to: &[u32],
+    numbers: &mut [u8],
+    starts: &mut [u32],
+    ends: &mut [u32],
+) -> bool {
+    let refusal = zulmyren_convert_all(
+        field(case, 0),
+        field(case, 1),
+        note_starts,
+        note_ends,
+        value(case, 4),
+        value(case, 5) == 1,
+        from,
+        to,
+        numbers,
+        starts,
+        ends,
+    );
+    are_pairs(case, 11, refusal, numbers, starts, ends)
 }

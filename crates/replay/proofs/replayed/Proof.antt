@@ -1,42 +1,38 @@
--- `replayed` is safe, ends, and counts at most as many answers as the list has of the call. The measure is the number of answers that are left.
-use Prim.Native.Nat.{_-_, _≤_}
-use mathlib.Core.Path.{_≡_}
+-- The case's buffer keeps its length, and no more answers differ than there are.
+use borrow.Author.Needs.{needs}
+use Prim.Native.Nat.{ℕ, _-_, _≤_}
+use mathlib.Core.Path.{_≡_, _∙_, sym}
+use mathlib.Core.Logic.{⊎-elim}
+use lib.ListN.{length, length-replicate}
 use native.Mathlib.Omega.{arith}
 use Rattle.replay.proofs.replayed.Statement.{statement}
 use Rattle.replay.proofs.replayed.Tie as tie
 
 abbrev Inv-loop : tie.InvT-loop
-Inv-loop call list from answers at₀ tally₀ k₀ at tally k = (k ≤ answers) × (tally .answers ≡ k) × (tally .differing ≤ k)
+Inv-loop call list space₀ answers₀ differing₀ space answers differing = (3145728 ≡ length space) × (differing ≤ answers)
 
 abbrev μ-loop : tie.MeasureT-loop
-μ-loop call list from answers at₀ tally₀ k₀ at tally k = answers - k
-
-none-requires : tie.Need-none-requires Inv-loop μ-loop
-none-requires c κs = tt
+μ-loop call list space₀ answers₀ differing₀ space answers differing = 65536 - answers
 
 loop-holds : tie.Need-loop-holds Inv-loop μ-loop
-loop-holds c = omega arith
+loop-holds c = (sym (length-replicate {0} {A = ℕ} 3145728 0), omega arith)
 
-replay-requires : tie.Need-replay-requires Inv-loop μ-loop
-replay-requires c κs = tt
+slice-aggregate-unpack : tie.Need-slice-aggregate-unpack Inv-loop μ-loop
+slice-aggregate-unpack c = c .before .before .before .before .loop .inv .0
 
-counted-requires : tie.Need-counted-requires Inv-loop μ-loop
-counted-requires c κs = omega arith
+array-share-prefix-space : tie.Need-array-share-prefix-space Inv-loop μ-loop
+array-share-prefix-space c = c .before .unpack .ensures .0 .0
 
-add-k : tie.Need-add-k Inv-loop μ-loop
-add-k c = omega arith
-
-loop-less : tie.Need-loop-less Inv-loop μ-loop
-loop-less c = omega arith
+slice-aggregate-agrees : tie.Need-slice-aggregate-agrees Inv-loop μ-loop
+slice-aggregate-agrees c = c .before .before .unpack .ensures .0 .1
 
 loop-again : tie.Need-loop-again Inv-loop μ-loop
-loop-again c = omega arith
-
-returns : tie.Need-returns Inv-loop μ-loop
-returns c = omega arith
-
-returns-2 : tie.Need-returns-2 Inv-loop μ-loop
-returns-2 c = omega arith
+loop-again c =
+    let call = c .before .before .before .before in
+    let head = call .before .before .before .before .before in (
+      head .loop .inv .0 ∙ sym (call .unpack .ensures .1 .same),
+      ⊎-elim (λ w. omega (arith, head .loop .inv .1, w .1)) (λ w. omega (arith, head .loop .inv .1, w .1)) (c .if2 .came),
+    )
 
 pub replayed-spec : {M : Type 1} → statement M
 replayed-spec =
@@ -44,12 +40,16 @@ replayed-spec =
     (tie.spec
     Inv-loop
     μ-loop
-    none-requires
     loop-holds
-    replay-requires
-    counted-requires
-    add-k
-    loop-less
+    (λ c κs. search needs)
+    slice-aggregate-unpack
+    (λ c κs. search needs)
+    array-share-prefix-space
+    slice-aggregate-agrees
+    (λ c κs. search needs)
+    (λ c. omega arith)
+    (λ c. omega arith)
+    (λ c. omega arith)
     loop-again
-    returns
-    returns-2)
+    (λ c. search needs)
+    (λ c. search needs))

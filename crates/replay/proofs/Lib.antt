@@ -1,0 +1,5 @@
+-- Laws that belong to no one function.
+pub mod Splice
+pub mod Framing
+pub mod Packing
+pub mod Differences

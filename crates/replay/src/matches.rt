@@ -1,0 +1,171 @@
+// The calls on matches: finding, replacing, whether two notes are published alike, and blanking a literal.
+use crate::columns::bytes;
+use crate::columns::offsets;
+use crate::columns::zeros;
+use crate::fields::field;
+use crate::fields::is_number;
+use crate::fields::value;
+use crate::told::are_published;
+use crate::told::is_list;
+use crate::told::is_published;
+use buffers::Offset;
+use zulmyren::matches::zulmyren_find_matches;
+use zulmyren::matches::zulmyren_published_alike;
+use zulmyren::matches::zulmyren_redact;
+use zulmyren::matches::zulmyren_replace;
+
+fn found(case: &[u8], out: &mut [u8]) -> bool {
+    let answer = zulmyren_find_matches(field(case, 0), field(case, 1), out);
+    is_list(case, 3, answer, out)
+}
+
+// A text, a literal, the lent list; the refusal, its size, the list.
+pub fn find_matches(case: &[u8]) -> bool {
+    let mut out = io::large_buffer();
+    let o = bytes(case, 2, &mut out);
+    found(case, &mut out[..o])
+}
+
+fn replaced(
+    case: &[u8],
+    starts: &[Offset],
+    ends: &[Offset],
+    out: &mut [u8],
+    out_starts: &mut [Offset],
+    out_ends: &mut [Offset],
+) -> bool {
+    let answer = zulmyren_replace(
+        field(case, 0),
+        field(case, 1),
+        starts,
+        ends,
+        value(case, 4),
+        field(case, 5),
+        field(case, 6),
+        out,
+        out_starts,
+        out_ends,
+    );
+    is_published(case, 10, answer, out, out_starts, out_ends)
+}
+
+// The lent starts and ends are filled already.
+fn replaced_beside(
+    case: &[u8],
+    starts: &[Offset],
+    ends: &[Offset],
+    out_starts: &mut [Offset],
+    out_ends: &mut [Offset],
+) -> bool {
+    let mut out = io::large_buffer();
+    let o = bytes(case, 7, &mut out);
+    replaced(case, starts, ends, &mut out[..o], out_starts, out_ends)
+}
+
+// A note, a list, a content, the lent text, starts and ends; the refusal, the size, the text, starts and ends.
+pub fn replace(case: &[u8], starts: &[Offset], ends: &[Offset]) -> bool {
+    let mut out_starts = zeros();
+    let mut out_ends = zeros();
+    let s = offsets(case, 8, &mut out_starts);
+    let e = offsets(case, 9, &mut out_ends);
+    replaced_beside(case, starts, ends, &mut out_starts[..s], &mut out_ends[..e])
+}
+
+fn compared(
+    case: &[u8],
+    starts: &[Offset],
+    ends: &[Offset],
+    other_starts: &[Offset],
+    other_ends: &[Offset],
+) -> bool {
+    let answer = zulmyren_published_alike(
+        field(case, 0),
+        field(case, 1),
+        starts,
+        ends,
+        value(case, 4),
+        field(case, 5),
+        field(case, 6),
+        other_starts,
+        other_ends,
+        value(case, 9),
+        field(case, 10),
+        field(case, 11),
+    );
+    is_number(case, 12, answer.refusal) & is_number(case, 13, answer.alike as u32)
+}
+
+// A note, another note, a list, a content; the refusal, 1 where both are published alike.
+pub fn published_alike(case: &[u8], starts: &[Offset], ends: &[Offset]) -> bool {
+    let mut other_starts = zeros();
+    let mut other_ends = zeros();
+    let s = offsets(case, 7, &mut other_starts);
+    let e = offsets(case, 8, &mut other_ends);
+    compared(case, starts, ends, &other_starts[..s], &other_ends[..e])
+}
+
+fn blanked(
+    case: &[u8],
+    starts: &mut [Offset],
+    ends: &mut [Offset],
+    list: &mut [u8],
+    out: &mut [u8],
+    out_starts: &mut [Offset],
+    out_ends: &mut [Offset],
+) -> bool {
+    let answer = zulmyren_redact(
+        field(case, 0),
+        field(case, 1),
+        field(case, 2),
+        starts,
+        ends,
+        list,
+        out,
+        out_starts,
+        out_ends,
+    );
+    is_published(case, 9, answer, list, starts, ends)
+        & are_published(case, 14, out, out_starts, out_ends)
+}
+
+// The lent list and text, beside all columns.
+fn blanked_texts(
+    case: &[u8],
+    starts: &mut [Offset],
+    ends: &mut [Offset],
+    out_starts: &mut [Offset],
+    out_ends: &mut [Offset],
+) -> bool {
+    let mut list = io::large_buffer();
+    let mut out = io::large_buffer();
+    let l = bytes(case, 3, &mut list);
+    let o = bytes(case, 6, &mut out);
+    blanked(
+        case,
+        starts,
+        ends,
+        &mut list[..l],
+        &mut out[..o],
+        out_starts,
+        out_ends,
+    )
+}
+
+// The lent columns, beside those of the starting note.
+fn blanked_beside(case: &[u8], starts: &mut [Offset], ends: &mut [Offset]) -> bool {
+    let mut out_starts = zeros();
+    let mut out_ends = zeros();
+    let s = offsets(case, 7, &mut out_starts);
+    let e = offsets(case, 8, &mut out_ends);
+    blanked_texts(case, starts, ends, &mut out_starts[..s], &mut out_ends[..e])
+}
+
+// A text, a literal, a content, the lent list, the columns of the starting note, text, starts and ends; the refusal,
+// the size, all six buffers.
+pub fn redact(case: &[u8]) -> bool {
+    let mut starts = zeros();
+    let mut ends = zeros();
+    let s = offsets(case, 4, &mut starts);
+    let e = offsets(case, 5, &mut ends);
+    blanked_beside(case, &mut starts[..s], &mut ends[..e])
+}

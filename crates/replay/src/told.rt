@@ -1,0 +1,110 @@
+// Whether what a call answers, and what it leaves in the lent buffers, is what the fields from `index` on say.
+use crate::columns::are_numbers;
+use crate::columns::are_offsets;
+use crate::fields::is_number;
+use crate::fields::is_text;
+use crate::fields::value;
+use buffers::Offset;
+use zulmyren::answers::Count;
+use zulmyren::answers::Listed;
+use zulmyren::answers::Offsets;
+ghost use mathlib.Core.Path.{_≡_};
+ghost use mathlib.Core.Bool.{_&&_};
+ghost use Prim.Native.Nat.{_+_, _<_};
+ghost use Rattle.buffers.specs.Same.{same};
+ghost use Rattle.replay.specs.Framing.{fieldOf, isNumber};
+ghost use Rattle.replay.specs.Differences.{columnOf};
+
+// The refusal, start, end.
+pub fn is_range(case: &[u8], index: usize, answer: Offsets) -> bool
+    requires { ⌜ index < 100 ⌝ }
+    ensures { λ r. ⌜ r ≡ (isNumber (fieldOf index (now (case .entry))) (answer .refusal)
+        && isNumber (fieldOf (index + 1) (now (case .entry))) (answer .start))
+        && isNumber (fieldOf (index + 2) (now (case .entry))) (answer .end) ⌝ }
+{
+    is_number(case, index, answer.refusal)
+        & is_number(case, index + 1, answer.start)
+        & is_number(case, index + 2, answer.end)
+}
+
+// The refusal, the list's size, the list.
+pub fn is_list(case: &[u8], index: usize, answer: Listed, list: &[u8]) -> bool
+    requires { ⌜ index < 100 ⌝ }
+{
+    is_number(case, index, answer.refusal)
+        & (value(case, index + 1) as usize == answer.len)
+        & is_text(case, index + 2, list)
+}
+
+// The refusal, two columns.
+pub fn are_columns(
+    case: &[u8],
+    index: usize,
+    refusal: u32,
+    starts: &[Offset],
+    ends: &[Offset],
+) -> bool
+    requires { ⌜ index < 100 ⌝ }
+    ensures { λ r. ⌜ r ≡ (isNumber (fieldOf index (now (case .entry))) refusal
+        && same (now (starts .entry)) (columnOf 65536 65536 (fieldOf (index + 1) (now (case .entry)))))
+        && same (now (ends .entry)) (columnOf 65536 65536 (fieldOf (index + 2) (now (case .entry)))) ⌝ }
+{
+    is_number(case, index, refusal)
+        & are_offsets(case, index + 1, starts)
+        & are_offsets(case, index + 2, ends)
+}
+
+// The refusal, and a number, start and end for each pair of a list.
+pub fn are_pairs(
+    case: &[u8],
+    index: usize,
+    refusal: u32,
+    numbers: &[u8],
+    starts: &[u32],
+    ends: &[u32],
+) -> bool
+    requires { ⌜ index < 100 ⌝ }
+    ensures { λ r. ⌜ r ≡ ((isNumber (fieldOf index (now (case .entry))) refusal
+        && same (fieldOf (index + 1) (now (case .entry))) (now (numbers .entry)))
+        && same (now (starts .entry)) (columnOf 4294967296 256 (fieldOf (index + 2) (now (case .entry)))))
+        && same (now (ends .entry)) (columnOf 4294967296 256 (fieldOf (index + 3) (now (case .entry)))) ⌝ }
+{
+    is_number(case, index, refusal)
+        & is_text(case, index + 1, numbers)
+        & are_numbers(case, index + 2, starts)
+        & are_numbers(case, index + 3, ends)
+}
+
+// A text and its columns.
+pub fn are_published(
+    case: &[u8],
+    index: usize,
+    text: &[u8],
+    starts: &[Offset],
+    ends: &[Offset],
+) -> bool
+    requires { ⌜ index < 100 ⌝ }
+    ensures { λ r. ⌜ r ≡ (same (fieldOf index (now (case .entry))) (now (text .entry))
+        && same (now (starts .entry)) (columnOf 65536 65536 (fieldOf (index + 1) (now (case .entry)))))
+        && same (now (ends .entry)) (columnOf 65536 65536 (fieldOf (index + 2) (now (case .entry)))) ⌝ }
+{
+    is_text(case, index, text)
+        & are_offsets(case, index + 1, starts)
+        & are_offsets(case, index + 2, ends)
+}
+
+// The refusal, a size, and a text with its columns.
+pub fn is_published(
+    case: &[u8],
+    index: usize,
+    answer: Count,
+    text: &[u8],
+    starts: &[Offset],
+    ends: &[Offset],
+) -> bool
+    requires { ⌜ index < 98 ⌝ }
+{
+    is_number(case, index, answer.refusal)
+        & is_number(case, index + 1, answer.count)
+        & are_published(case, index + 2, text, starts, ends)
+}
