@@ -1,0 +1,135 @@
+//! What the comments of `replace` and of patterns say.
+
+use super::{code_answers, note_of, panics, replaced_here};
+use crate::library;
+use crate::note::Note;
+use crate::places::{self, Given, Place};
+use crate::refusals::BAD_MATCHES;
+use crate::samples::{sound_notes, FILLERS};
+use crate::tally::Tally;
+use tokenizers::normalizer::Range;
+use tokenizers::pattern::{Invert, Pattern};
+use tokenizers::{NormalizedString, Offsets};
+
+pub fn compare(tally: &mut Tally) {
+    as_transforming(tally);
+    on_ranges_as_they_are(tally);
+    alignment_of_the_last(tally);
+    characters_of_the_cleaned_text(tally);
+    lists_that_do_not_cover(tally);
+    empty_literal(tally);
+    inverted(tally);
+}
+
+/// What stands in `replace`'s comment, for each matched place; `moved` adds the earlier changes of length to its range.
+fn transformed(note: &NormalizedString, places: &[Place], content: &str, moved: bool) -> NormalizedString {
+    let mut note = note.clone();
+    let mut change = 0;
+    for &((start, end), _) in places.iter().filter(|&&(_, matched)| matched) {
+        let range = start.strict_add_signed(change)..end.strict_add_signed(change);
+        let removed_chars = note.get()[range.clone()].chars().count();
+        note.transform_range(Range::Normalized(range), content.chars().map(|c| (c, 1)), removed_chars);
+        if moved {
+            change += content.len() as isize - (end - start) as isize;
+        }
+    }
+    note
+}
+
+fn replaced(note: &NormalizedString, pattern: impl Pattern, content: &str) -> NormalizedString {
+    let mut note = note.clone();
+    note.replace(pattern, content).expect("a literal is a regular expression");
+    note
+}
+
+fn replaced_by(note: &NormalizedString, places: &[Place], content: &str) -> NormalizedString {
+    replaced(note, Given(places.to_vec()), content)
+}
+
+type Fields<'a> = (&'a str, &'a [Offsets]);
+
+fn fields(note: &NormalizedString) -> Fields<'_> {
+    (note.get(), note.alignments())
+}
+
+fn as_transforming(tally: &mut Tally) {
+    tally.family("replace equals transform_range on each matched range, moved by the earlier changes of length");
+    for text in ["", "é", "aé", "éa", "aéb"] {
+        let notes = ["", "ů", "qů"].iter().flat_map(|transcript| sound_notes(transcript, text));
+        let notes: Vec<NormalizedString> = notes.map(|note| note.of_the_original()).collect();
+        for places in places::every(text, 2) {
+            for note in &notes {
+                for filler in FILLERS {
+                    let code = replaced_by(note, &places, filler);
+                    let said = transformed(note, &places, filler, true);
+                    code_answers(tally, &format!("{note:?}, {places:?}, {filler}"), fields(&said), fields(&code));
+                }
+            }
+        }
+    }
+}
+
+fn on_ranges_as_they_are(tally: &mut Tally) {
+    tally.family("replace differs from transform_range on each matched range as it is, where a length changed before");
+    let (note, places) = (NormalizedString::from("ab"), [((0, 1), true), ((1, 2), true)]);
+    let (code, comment) = (replaced_by(&note, &places, "**"), transformed(&note, &places, "**", false));
+    code_answers(tally, "ab by places", ("****", &[(0, 1), (0, 1), (1, 2), (1, 2)][..]), fields(&code));
+    code_answers(tally, "ab by ranges", ("***b", &[(0, 1), (0, 1), (0, 1), (1, 2)][..]), fields(&comment));
+}
+
+fn alignment_of_the_last(tally: &mut Tally) {
+    tally.family("an inserted character has the alignment of the last one under the match, not of the previous one");
+    let code = replaced(&NormalizedString::from("ab"), "b", "x");
+    code_answers(tally, "ab, b by x", ("ax", &[(0, 1), (1, 2)][..]), fields(&code));
+    let code = replaced(&NormalizedString::from("abc"), "abc", "xy");
+    code_answers(tally, "abc by xy", ("xy", &[(2, 3), (2, 3)][..]), fields(&code));
+}
+
+/// Were they the transcript's, three bytes would be removed of a text of one.
+fn characters_of_the_cleaned_text(tally: &mut Tally) {
+    tally.family("the characters that replace retrieves are the cleaned text's, not the original's");
+    let code = replaced(&note_of("漢", "a", &[(0, 3)]), "a", "x");
+    code_answers(tally, "a of 漢, by x", ("x", &[(0, 3)][..]), fields(&code));
+}
+
+/// `find_matches` "*must* cover the whole string": `replace` reads matched places alone and keeps what lies between.
+fn lists_that_do_not_cover(tally: &mut Tally) {
+    tally.family("replace keeps the bytes that a pattern's places leave out, and reads no unmatched place");
+    let lists: [(&[Place], Fields); 5] = [
+        (&[((1, 2), true)], ("axc", &[(0, 1), (1, 2), (2, 3)])),
+        (&[], ("abc", &[(0, 1), (1, 2), (2, 3)])),
+        (&[((0, 99), false)], ("abc", &[(0, 1), (1, 2), (2, 3)])),
+        (&[((2, 3), false), ((0, 1), true)], ("xbc", &[(0, 1), (1, 2), (2, 3)])),
+        (&[((0, 1), true), ((2, 2), true)], ("xbxc", &[(0, 1), (1, 2), (1, 2), (2, 3)])),
+    ];
+    let note = NormalizedString::from("abc");
+    for (places, said) in lists {
+        let input = format!("abc, {places:?}");
+        code_answers(tally, &input, said, fields(&replaced_by(&note, places, "x")));
+        code_answers(tally, &input, Some(BAD_MATCHES), replaced_here(&Note::from(&note), places, "x").err());
+    }
+}
+
+/// The place ends at the number of characters: it does not cover, and can end inside one.
+fn empty_literal(tally: &mut Tally) {
+    tally.family("find_matches of an empty literal gives one unmatched place that ends at the character count");
+    for (text, characters) in [("", 0), ("a", 1), ("é", 1), ("aé漢😀", 4)] {
+        let places = "".find_matches(text).expect("an empty literal is no regular expression");
+        code_answers(tally, text, vec![((0, characters), false)], places);
+        let mut ours = [0; 5];
+        library::find_matches(text.as_bytes(), b"", &mut ours);
+        code_answers(tally, text, places::bytes(&[((0, text.len()), false)]), ours.to_vec());
+        code_answers(tally, text, text, replaced(&NormalizedString::from(text), "", "x").get());
+    }
+}
+
+fn inverted(tally: &mut Tally) {
+    tally.family("Invert makes a match of that place, up to the character count, and of the place of an empty text");
+    for (text, said) in [("ab", "x"), ("éa", "xa"), ("", "x")] {
+        code_answers(tally, text, said, replaced(&NormalizedString::from(text), Invert(""), "x").get());
+    }
+    for text in ["é", "aé"] {
+        code_answers(tally, text, true, panics(|| replaced(&NormalizedString::from(text), Invert(""), "x")));
+    }
+    code_answers(tally, "no text, a", "x", replaced(&NormalizedString::from(""), Invert("a"), "x").get());
+}
