@@ -6,7 +6,7 @@ use mathlib.Core.List.{List, [], _∷_, _++_, append-assoc, append-nil}
 use native.Mathlib.Omega.{arith}
 use lib.Dec.{leb}
 use lib.ListN.{length, length-append}
-use borrow.Author.Tests.{le-leb, not-true, not-false}
+use borrow.Author.Tests.{le-leb, not-true, not-false, leb-true, leb-false}
 use Rattle.buffers.specs.Splice.{overlay, Laid}
 use Rattle.buffers.proofs.Cases.{le-or-lt}
 use Rattle.buffers.proofs.Splice.{Laying, splice-nil, splice-overlay, none-laid, piece-laid, laying-size, all-laid}
@@ -18,6 +18,7 @@ use Rattle.note.specs.Refusals.{also, verdict, after}
 use Rattle.note.specs.Notes.{limit}
 use Rattle.note.specs.Faults.{textFaults, stringFaults, roomFaults}
 use Rattle.note.proofs.Verdicts.{refused-then, accepted-then}
+use Rattle.note.proofs.Faults.{no-room, enough-room}
 use Rattle.pattern.specs.declared.Place.{Place}
 use Rattle.pattern.specs.Encoding.{placeBytes, encodedPlaces, roomFor}
 use Rattle.pattern.proofs.Encoding.{length-encoded}
@@ -155,15 +156,6 @@ module _ (text literal : List ℕ) {p : ℕ} {q : Place} (is : p ≡ firstMatch 
   pub whole-listed : {d₀ d : List ℕ} {r : ℕ} → Laid (placeBytes q) d₀ 0 r d → (r ≡ length (foundBytes text literal)) × (d ≡ overlay (foundBytes text literal) d₀)
   whole-listed {d₀} laid = rw whole-bytes (omega (arith, laid .reach), laid .holds ∙ splice-overlay d₀ _)
 
--- what finding answers, by the checks that it has passed
-room-missing : (size room : ℕ) → leb size room ≡ false → Rejected NoRoom ≡ verdict (roomFaults size room)
-unfolding verdict
-room-missing size room e = rw e
-
-room-given : (size room : ℕ) → leb size room ≡ true → Accepted ≡ verdict (roomFaults size room)
-unfolding verdict
-room-given size room e = rw e
-
 module _ (most : ℕ) (text literal o : List ℕ) where
   finding : {v : Verdict} → v ≡ verdict (findFaults most text literal (length o)) → Finding most text literal o (matchesOf v (length (foundBytes text literal))) (after v (foundBytes text literal) o)
   finding e =
@@ -178,7 +170,7 @@ module _ (most : ℕ) (text literal o : List ℕ) where
       then-room w = accepted-then 3 (also (textFaults most text) (stringFaults literal)) (roomFaults (length (foundBytes text literal)) (length o)) refl refl e is w
 
       pub room-refused : not fits ≡ true → Finding most text literal o (Refused NoRoom) o
-      room-refused short = finding (then-room (room-missing (length (foundBytes text literal)) (length o) (sym room ∙ not-true fits short)))
+      room-refused short = finding (then-room (no-room (leb-false (length (foundBytes text literal)) (length o) (sym room ∙ not-true fits short))))
 
       pub list-written : {size : ℕ} {o₁ : List ℕ} → not fits ≡ false → (size ≡ length (foundBytes text literal)) × (o₁ ≡ overlay (foundBytes text literal) o) → Finding most text literal o (Written size) o₁
-      list-written enough wrote = rw (wrote .0, wrote .1) (finding (then-room (room-given (length (foundBytes text literal)) (length o) (sym room ∙ not-false fits enough))))
+      list-written enough wrote = rw (wrote .0, wrote .1) (finding (then-room (enough-room (leb-true (length (foundBytes text literal)) (length o) (sym room ∙ not-false fits enough)))))

@@ -17,10 +17,9 @@ use Rattle.note.specs.Rank.{earlier}
 use Rattle.note.specs.Notes.{Note}
 use Rattle.note.proofs.Verdicts.{accepted-first, accepted-second, earlier-of}
 use Rattle.pattern.specs.Entries.{placesOf}
-use Rattle.pattern.proofs.Places.{covers-length}
 use Rattle.replace.specs.Replacing.{PublishedNote, carried, replaced, replaceFaults}
 use Rattle.replace.specs.Blanking.{Equal}
-use Rattle.replace.proofs.Faults.{Taken, accepted-taken}
+use Rattle.replace.proofs.Faults.{Taken, accepted-taken, taken-length}
 use Rattle.replace.proofs.Blanking.{agree-replaced, replaced-agree}
 use Rattle.indistinguishable.specs.declared.Comparison.the-variants.{Compared, Refused}
 use Rattle.indistinguishable.specs.Walk.{textAlike, columnAlike, allAlike, Covering}
@@ -51,9 +50,6 @@ module _ (most : ℕ) (n m : Note) (list content : List ℕ) (ok : verdict (comp
   second-taken : Taken m list
   second-taken = accepted-taken most m list content most (accepted-second (replaceFaults most n list content most) (replaceFaults most m list content most) ok)
 
-  same-length : length (m .normalized) ≡ length (n .normalized)
-  same-length = sym (covers-length (n .normalized) (m .normalized) 0 (placesOf list) (first-taken .covered) (second-taken .covered))
-
   walk-same : allAlike (n .normalized) (n .starts) (n .ends) (m .normalized) (m .starts) (m .ends) (length content) (placesOf list) ≡ samePublished (replaced (placesOf list) content n) (replaced (placesOf list) content m)
   unfolding allAlike samePublished replaced
   walk-same =
@@ -61,20 +57,20 @@ module _ (most : ℕ) (n m : Note) (list content : List ℕ) (ok : verdict (comp
       let tn : Taken n list = first-taken in
       let tm : Taken m list = second-taken in
       rw (
-        every-same (n .normalized) (n .normalized) (m .normalized) (λ end. content) (λ end. content) wide (textAlike (n .normalized) (m .normalized)) refl same-length (λ e. refl) (λ e. refl)
+        every-same (n .normalized) (n .normalized) (m .normalized) (λ end. content) (λ end. content) wide (textAlike (n .normalized) (m .normalized)) refl (taken-length n m list first-taken second-taken) (λ e. refl) (λ e. refl)
             (text-each content (n .normalized) (m .normalized)) 0 (placesOf list) (tn .covered),
-        every-same (n .normalized) (n .starts) (m .starts) (carried wide (n .starts)) (carried wide (m .starts)) wide (columnAlike wide (n .starts) (m .starts)) (tn .one-start) (tm .one-start ∙ same-length)
+        every-same (n .normalized) (n .starts) (m .starts) (carried wide (n .starts)) (carried wide (m .starts)) wide (columnAlike wide (n .starts) (m .starts)) (tn .one-start) (tm .one-start ∙ (taken-length n m list first-taken second-taken))
             (λ e. length-replicate wide _) (λ e. length-replicate wide _) (column-each wide (n .starts) (m .starts)) 0 (placesOf list) (tn .covered),
-        every-same (n .normalized) (n .ends) (m .ends) (carried wide (n .ends)) (carried wide (m .ends)) wide (columnAlike wide (n .ends) (m .ends)) (tn .one-end) (tm .one-end ∙ same-length)
+        every-same (n .normalized) (n .ends) (m .ends) (carried wide (n .ends)) (carried wide (m .ends)) wide (columnAlike wide (n .ends) (m .ends)) (tn .one-end) (tm .one-end ∙ (taken-length n m list first-taken second-taken))
             (λ e. length-replicate wide _) (λ e. length-replicate wide _) (column-each wide (n .ends) (m .ends)) 0 (placesOf list) (tn .covered),
       )
 
   coverings : Covering (n .normalized) (m .normalized) list × (Covering (n .starts) (m .starts) list × Covering (n .ends) (m .ends) list)
   coverings = (
-    record { text = n .normalized; covered = first-taken .covered; one = refl; other = same-length },
+    record { text = n .normalized; covered = first-taken .covered; one = refl; other = (taken-length n m list first-taken second-taken) },
     (
-      record { text = n .normalized; covered = first-taken .covered; one = first-taken .one-start; other = second-taken .one-start ∙ same-length },
-      record { text = n .normalized; covered = first-taken .covered; one = first-taken .one-end; other = second-taken .one-end ∙ same-length },
+      record { text = n .normalized; covered = first-taken .covered; one = first-taken .one-start; other = second-taken .one-start ∙ (taken-length n m list first-taken second-taken) },
+      record { text = n .normalized; covered = first-taken .covered; one = first-taken .one-end; other = second-taken .one-end ∙ (taken-length n m list first-taken second-taken) },
     ),
   )
 

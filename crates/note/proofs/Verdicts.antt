@@ -215,3 +215,7 @@ module _ {v w : Verdict} {j k : Refusal} (e : v ≡ Refused j) (d : w ≡ Refuse
 -- the verdict of one condition
 pub refused-when : {met : Bool} {k : Refusal} → met ≡ true → Refused k ≡ cond met (Refused k) Accepted
 refused-when e = rw e
+
+-- two inputs that are accepted are accepted together
+pub both-accepted : (f g : Refusal → Bool) → verdict f ≡ Accepted → verdict g ≡ Accepted → verdict (also f g) ≡ Accepted
+both-accepted f g a b = sym (earlier-of f g {v = Accepted} {w = Accepted} (sym a) (sym b) (earlier-first refl))

@@ -20,7 +20,7 @@ use Rattle.note.specs.Rank.{earlier}
 use Rattle.note.specs.Notes.{limit}
 use Rattle.note.specs.Faults.{noteFaults, textFaults, stringFaults, roomFaults}
 use Rattle.note.specs.Starting.{starting}
-use Rattle.note.proofs.Verdicts.{earlier-of, earlier-first, refused-then, accepted-then, accepted-first, accepted-second}
+use Rattle.note.proofs.Verdicts.{earlier-of, refused-then, accepted-then, accepted-first, accepted-second, both-accepted}
 use Rattle.note.proofs.Faults.{text-short, text-formed, string-formed, room-enough}
 use Rattle.note.proofs.Starting.{length-starting-starts, length-starting-ends, starting-accepted}
 use Rattle.pattern.specs.Entries.{placesOf}
@@ -40,10 +40,6 @@ use Rattle.replace.proofs.Faults.{Taken, published-size, taken, ready}
 use Rattle.redact.specs.Redacting.{blanked, inputFaults, roomsFaults, redactFaults, Redacted}
 use Rattle.redact.specs.Publishing.{PublishedCall}
 use Rattle.redact.specs.Rooms.{allFit, Searchable}
-
--- two inputs that are accepted are accepted together
-both-accepted : (f g : Refusal → Bool) → verdict f ≡ Accepted → verdict g ≡ Accepted → verdict (also f g) ≡ Accepted
-both-accepted f g a b = sym (earlier-of f g {v = Accepted} {w = Accepted} (sym a) (sym b) (earlier-first refl))
 
 -- the list that is found covers the text, so that the size of its places is that of the result
 module _ (text literal : List ℕ) (t : wellFormed text ≡ true) (l : wellFormed literal ≡ true) (short : length text ≤ limit) where

@@ -14,13 +14,12 @@ use Rattle.note.proofs.BeforeEnd.{before-some}
 use Rattle.pattern.specs.declared.Place.{Place}
 use Rattle.pattern.specs.Entries.{placesOf}
 use Rattle.pattern.specs.Places.{coversFrom}
-use Rattle.pattern.proofs.Places.{covers-length}
 use Rattle.replace.specs.declared.Publication.the-variants.{Published}
 use Rattle.replace.specs.Replacing.{PublishedNote, laid, carried, replaced, Replacing}
 use Rattle.replace.specs.Blanking.{Equal, Agree, published, Blanking}
 use Rattle.replace.proofs.Sizes.{length-laid}
 use Rattle.replace.proofs.Laid.{SameColumn, agree-laid, laid-agree}
-use Rattle.replace.proofs.Faults.{Taken, taken, published-says, published-size}
+use Rattle.replace.proofs.Faults.{Taken, taken, published-says, published-size, taken-length}
 
 -- what the content carries in one column
 carried-same : (k : ℕ) (xs ys : List ℕ) (e : ℕ) → (0 < k → 0 < e → getD xs (e - 1) 0 ≡ getD ys (e - 1) 0) → carried k xs e ≡ carried k ys e
@@ -48,20 +47,17 @@ module _ (n m : Note) (list content : List ℕ) (tn : Taken n list) (tm : Taken 
   wide : ℕ
   wide = length content
 
-  same-length : length (m .normalized) ≡ length (n .normalized)
-  same-length = sym (covers-length (n .normalized) (m .normalized) 0 (placesOf list) (tn .covered) (tm .covered))
-
   starts-long : length (m .starts) ≡ length (n .normalized)
-  starts-long = tm .one-start ∙ same-length
+  starts-long = tm .one-start ∙ (taken-length n m list tn tm)
 
   ends-long : length (m .ends) ≡ length (n .normalized)
-  ends-long = tm .one-end ∙ same-length
+  ends-long = tm .one-end ∙ (taken-length n m list tn tm)
 
   pub agree-replaced : Agree n m (placesOf list) content → Equal (replaced (placesOf list) content n) (replaced (placesOf list) content m)
   unfolding replaced
   agree-replaced a =
       record {
-        same-text = agree-laid (n .normalized) (n .normalized) (m .normalized) (λ e. content) (λ e. content) refl same-length (λ e. refl) 0 (placesOf list) (tn .covered)
+        same-text = agree-laid (n .normalized) (n .normalized) (m .normalized) (λ e. content) (λ e. content) refl (taken-length n m list tn tm) (λ e. refl) 0 (placesOf list) (tn .covered)
             (record { outside = λ p from to o. a .outside p to o .0; filled = λ q h t. refl });
         same-starts = column-laid (n .normalized) (n .starts) (m .starts) (length content) (placesOf list) (tn .covered) (tn .one-start) starts-long
             (record {
@@ -78,7 +74,7 @@ module _ (n m : Note) (list content : List ℕ) (tn : Taken n list) (tm : Taken 
   pub replaced-agree : Equal (replaced (placesOf list) content n) (replaced (placesOf list) content m) → Agree n m (placesOf list) content
   unfolding replaced
   replaced-agree q =
-      let t = laid-agree (n .normalized) (n .normalized) (m .normalized) (λ e. content) (λ e. content) refl same-length (λ e. refl) 0 (placesOf list) (tn .covered) (q .same-text) in
+      let t = laid-agree (n .normalized) (n .normalized) (m .normalized) (λ e. content) (λ e. content) refl (taken-length n m list tn tm) (λ e. refl) 0 (placesOf list) (tn .covered) (q .same-text) in
       let s = column-agree (n .normalized) (n .starts) (m .starts) (length content) (placesOf list) (tn .covered) (tn .one-start) starts-long (q .same-starts) in
       let e = column-agree (n .normalized) (n .ends) (m .ends) (length content) (placesOf list) (tn .covered) (tn .one-end) ends-long (q .same-ends) in
       record {

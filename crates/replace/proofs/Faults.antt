@@ -22,7 +22,7 @@ use Rattle.note.proofs.Sound.{length-starts, length-ends}
 use Rattle.note.proofs.Faults.{accepted-sound, string-formed, room-enough}
 use Rattle.pattern.specs.Entries.{placesOf}
 use Rattle.pattern.specs.Places.{coversFrom, covers, listFaults}
-use Rattle.pattern.proofs.Places.{covers-places}
+use Rattle.pattern.proofs.Places.{covers-places, covers-length}
 use Rattle.replace.specs.declared.Publication.{Publication}
 use Rattle.replace.specs.declared.Publication.the-variants.{Published, Refused}
 use Rattle.replace.specs.Replacing.{laid, carried, replaced, replaceFaults, publication, Replacing}
@@ -45,6 +45,10 @@ pub record Taken (n : Note) (list : List ℕ) : Type 0 where
   pub one-start : length (n .starts) ≡ length (n .normalized)
   pub one-end : length (n .ends) ≡ length (n .normalized)
   pub covered : coversFrom (n .normalized) 0 (placesOf list) ≡ true
+
+-- notes that one list covers have texts of one length
+pub taken-length : (n m : Note) (list : List ℕ) → Taken n list → Taken m list → length (m .normalized) ≡ length (n .normalized)
+taken-length n m list tn tm = sym (covers-length (n .normalized) (m .normalized) 0 (placesOf list) (tn .covered) (tm .covered))
 
 module _ (most : ℕ) (n : Note) (list content : List ℕ) (room : ℕ) (e : verdict (replaceFaults most n list content room) ≡ Accepted) where
   lent-accepted : verdict (lentFaults most n content) ≡ Accepted

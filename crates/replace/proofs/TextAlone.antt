@@ -9,28 +9,24 @@ use Rattle.buffers.proofs.Cases.{true-or-false}
 use Rattle.note.specs.Notes.{Note}
 use Rattle.pattern.specs.declared.Place.{Place}
 use Rattle.pattern.specs.Entries.{placesOf}
-use Rattle.pattern.proofs.Places.{covers-length}
 use Rattle.replace.specs.Replacing.{piece, laid, replaced}
 use Rattle.replace.specs.TextAlone.{SameOutside, kept, TextAlone, TextAloneTwoLists}
 use Rattle.replace.proofs.Laid.{agree-laid, laid-agree}
 use Rattle.replace.proofs.Blanking.{published-is}
-use Rattle.replace.proofs.Faults.{Taken, taken}
+use Rattle.replace.proofs.Faults.{Taken, taken, taken-length}
 
 -- one list, for what the definition makes of the two notes
 module _ (n m : Note) (list content : List ℕ) (tn : Taken n list) (tm : Taken m list) where
-  same-length : length (m .normalized) ≡ length (n .normalized)
-  same-length = sym (covers-length (n .normalized) (m .normalized) 0 (placesOf list) (tn .covered) (tm .covered))
-
   outside-text : SameOutside n m (placesOf list) → replaced (placesOf list) content n .text ≡ replaced (placesOf list) content m .text
   unfolding replaced
   outside-text o =
-      agree-laid (n .normalized) (n .normalized) (m .normalized) (λ e. content) (λ e. content) refl same-length (λ e. refl) 0 (placesOf list) (tn .covered)
+      agree-laid (n .normalized) (n .normalized) (m .normalized) (λ e. content) (λ e. content) refl (taken-length n m list tn tm) (λ e. refl) 0 (placesOf list) (tn .covered)
       (record { outside = λ p from. o p; filled = λ q h t. refl })
 
   text-outside : replaced (placesOf list) content n .text ≡ replaced (placesOf list) content m .text → SameOutside n m (placesOf list)
   unfolding replaced
   text-outside e p =
-      laid-agree (n .normalized) (n .normalized) (m .normalized) (λ e. content) (λ e. content) refl same-length (λ e. refl) 0 (placesOf list) (tn .covered) e
+      laid-agree (n .normalized) (n .normalized) (m .normalized) (λ e. content) (λ e. content) refl (taken-length n m list tn tm) (λ e. refl) 0 (placesOf list) (tn .covered) e
       .outside p (omega arith)
 
 pub text-alone : TextAlone
