@@ -1,19 +1,16 @@
 // Replays fixed lists of the Rust original's answers on the exported calls, and prints for each call how many there
 // are and how many differ. `compare/run list` wrote the lists; compare/src/list.rs says how they are laid out. Each
 // call has a file, an arm and a line here.
-mod columns;
-mod fields;
 mod matches;
 mod notes;
 mod pairs;
 mod ranges;
 mod texts;
 mod told;
-mod unpack;
 
-use fields::field;
 use libc::STDOUT_FILENO;
-use unpack::unpack;
+use stored_answers::fields::field;
+use stored_answers::unpack::unpack;
 
 // The most bytes of a case, unpacked.
 const CASE: usize = 3145728;

@@ -1,14 +1,14 @@
 // The calls on matches: finding, replacing, whether two notes are published alike, and blanking a literal.
-use crate::columns::bytes;
-use crate::columns::offsets;
-use crate::columns::zeros;
-use crate::fields::field;
-use crate::fields::is_number;
-use crate::fields::value;
 use crate::told::are_published;
 use crate::told::is_list;
 use crate::told::is_published;
 use buffers::Offset;
+use stored_answers::columns::bytes;
+use stored_answers::columns::offsets;
+use stored_answers::columns::zeros;
+use stored_answers::fields::field;
+use stored_answers::fields::is_number;
+use stored_answers::fields::value;
 use zulmyren::matches::zulmyren_find_matches;
 use zulmyren::matches::zulmyren_published_alike;
 use zulmyren::matches::zulmyren_redact;

@@ -1,9 +1,4 @@
 // The starting note, and the calls on a note, whose first fields are transcript, cleaned text, starts, ends, shift.
-use crate::columns::offsets;
-use crate::columns::zeros;
-use crate::fields::field;
-use crate::fields::is_number;
-use crate::fields::value;
 use crate::matches::published_alike;
 use crate::matches::replace;
 use crate::pairs::on_pairs;
@@ -12,6 +7,11 @@ use crate::ranges::get_range;
 use crate::ranges::get_range_original;
 use crate::told::are_columns;
 use buffers::Offset;
+use stored_answers::columns::offsets;
+use stored_answers::columns::zeros;
+use stored_answers::fields::field;
+use stored_answers::fields::is_number;
+use stored_answers::fields::value;
 use zulmyren::notes::zulmyren_check_note;
 use zulmyren::notes::zulmyren_from_text;
 

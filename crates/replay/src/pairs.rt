@@ -1,10 +1,10 @@
 // The calls on a list of pairs: its starts and ends, and the lent numbers, starts and ends, from fields `at` on.
-use crate::columns::FEW;
-use crate::columns::bytes;
-use crate::columns::numbers;
 use crate::ranges::convert_all;
 use crate::texts::char_offsets_all;
 use buffers::Offset;
+use stored_answers::columns::FEW;
+use stored_answers::columns::bytes;
+use stored_answers::columns::numbers;
 ghost use Prim.Native.Nat.{_<_};
 
 // A call that takes no columns leaves those of the note.

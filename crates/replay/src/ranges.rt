@@ -1,9 +1,5 @@
 // The calls on a note and a range, or a list of ranges. A range: 1 where it is of the transcript, 0 of the cleaned
 // text; start, end.
-use crate::fields::field;
-use crate::fields::is_number;
-use crate::fields::is_text;
-use crate::fields::value;
 use crate::told::are_pairs;
 use crate::told::is_range;
 use buffers::Offset;
@@ -11,6 +7,10 @@ use convert::Range;
 use get_range::part_of;
 use note::NormalizedByte;
 use note::OriginalByte;
+use stored_answers::fields::field;
+use stored_answers::fields::is_number;
+use stored_answers::fields::is_text;
+use stored_answers::fields::value;
 use zulmyren::ranges::zulmyren_convert_all;
 use zulmyren::ranges::zulmyren_convert_offsets;
 use zulmyren::ranges::zulmyren_get_range;

@@ -1,9 +1,9 @@
 // The calls on a text alone.
-use crate::fields::field;
-use crate::fields::is_number;
-use crate::fields::value;
 use crate::told::are_pairs;
 use crate::told::is_range;
+use stored_answers::fields::field;
+use stored_answers::fields::is_number;
+use stored_answers::fields::value;
 use zulmyren::texts::zulmyren_char_offsets;
 use zulmyren::texts::zulmyren_char_offsets_all;
 use zulmyren::texts::zulmyren_letter_count;

@@ -1,10 +1,10 @@
 // Whether what a call answers, and what it leaves in the lent buffers, is what the fields from `index` on say.
-use crate::columns::are_numbers;
-use crate::columns::are_offsets;
-use crate::fields::is_number;
-use crate::fields::is_text;
-use crate::fields::value;
 use buffers::Offset;
+use stored_answers::columns::are_numbers;
+use stored_answers::columns::are_offsets;
+use stored_answers::fields::is_number;
+use stored_answers::fields::is_text;
+use stored_answers::fields::value;
 use zulmyren::answers::Count;
 use zulmyren::answers::Listed;
 use zulmyren::answers::Offsets;
@@ -12,8 +12,8 @@ ghost use mathlib.Core.Path.{_≡_};
 ghost use mathlib.Core.Bool.{_&&_};
 ghost use Prim.Native.Nat.{_+_, _<_};
 ghost use Rattle.buffers.specs.Same.{same};
-ghost use Rattle.replay.specs.Framing.{fieldOf, isNumber};
-ghost use Rattle.replay.specs.Differences.{columnOf};
+ghost use Rattle.stored_answers.specs.Framing.{fieldOf, isNumber};
+ghost use Rattle.stored_answers.specs.Differences.{columnOf};
 
 // The refusal, start, end.
 pub fn is_range(case: &[u8], index: usize, answer: Offsets) -> bool

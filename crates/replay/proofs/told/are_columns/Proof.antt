@@ -1,6 +1,6 @@
 -- Each field by itself.
 use borrow.Author.Needs.{needs}
-use Rattle.replay.proofs.Framing.{both}
+use Rattle.stored_answers.proofs.Framing.{both}
 use Rattle.replay.proofs.told.are_columns.Statement.{statement}
 use Rattle.replay.proofs.told.are_columns.Tie as tie
 

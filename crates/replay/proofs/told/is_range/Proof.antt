@@ -1,6 +1,6 @@
 -- Each field by itself.
 use borrow.Author.Needs.{needs}
-use Rattle.replay.proofs.Framing.{both}
+use Rattle.stored_answers.proofs.Framing.{both}
 use Rattle.replay.proofs.told.is_range.Statement.{statement}
 use Rattle.replay.proofs.told.is_range.Tie as tie
 

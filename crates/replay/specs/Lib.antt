@@ -1,5 +1,0 @@
--- What the contracts of `replay` are said with: how a file is laid out, how a case is packed, and columns by their
--- differences.
-pub mod Framing
-pub mod Packing
-pub mod Differences

@@ -1,0 +1,64 @@
+-- Laws of `summed`: its length, and an element more.
+use Prim.Native.Nat.{ℕ, zero, suc, _+_, _*_, _-_, _/_, _%_, _≤_, _<_, min}
+use mathlib.Core.Path.{_≡_, _∙_, ap, refl, sym}
+use mathlib.Core.Bool.{Bool}
+use mathlib.Core.List.{List, [], _∷_}
+use native.Mathlib.Omega.{arith}
+use lib.ListN.{length, take, drop, set}
+use lib.Seq.{drop-drop}
+use Rattle.buffers.specs.Same.{same}
+use Rattle.io.specs.Counts.{Counts}
+use Rattle.stored_answers.specs.Framing.{numberOf}
+use Rattle.stored_answers.specs.Packing.{Laid}
+use Rattle.stored_answers.specs.Differences.{summed, columnOf}
+use Rattle.stored_answers.proofs.Splice.{Laying, none-laid, element-laid, all-laid, counted, take-laid}
+
+length-summed : (width n last : ℕ) (s : List ℕ) → length (summed width n last s) ≡ n
+unfolding summed
+length-summed width zero last s = refl
+length-summed width (suc n) last s = ap suc (length-summed width n ((last + numberOf s) % width) (drop 4 s))
+
+summed-more : (width n last : ℕ) (s : List ℕ) → summed width (suc n) last s ≡ ((last + numberOf s) % width) ∷ summed width n ((last + numberOf s) % width) (drop 4 s)
+unfolding summed
+summed-more width n last s = refl
+
+summed-none : (width last : ℕ) (s : List ℕ) → summed width 0 last s ≡ []
+unfolding summed
+summed-none width last s = refl
+
+-- i of n elements stand in d
+pub record Summing (width : ℕ) (s d₀ : List ℕ) (n : ℕ) (d : List ℕ) (last i : ℕ) : Type 0 where
+  pub laying : Laying (summed width n 0 s) d₀ 0 (summed width (n - i) last (drop (i * 4) s)) d i
+  pub below : last < width
+  pub most : i ≤ n
+  pub room : n ≤ length d
+  pub there : n * 4 ≤ length s
+
+pub none-summed : (width : ℕ) (s d : List ℕ) (n : ℕ) → 0 < width → n ≡ min (length s / 4) (length d) → Summing width s d n d 0 0
+none-summed width s d n w is =
+    let all : n - 0 ≡ n = omega arith in
+    let long : length (summed width n 0 s) ≡ n = length-summed width n 0 s in
+    record { laying = rw all (none-laid (omega arith)); below = w; most = omega arith; room = omega arith; there = omega arith }
+
+module _ {width : ℕ} {s d₀ : List ℕ} {n : ℕ} {d : List ℕ} {last i : ℕ} (m : Summing width s d₀ n d last i) where
+  pub one-summed : {k x : ℕ} → i < n → k ≡ numberOf (drop (i * 4) s) → x ≡ (last + k) % width → x < width → Summing width s d₀ n (set d i x) x (i + 1)
+  one-summed {k} {x} h is now below =
+      let step : n - i ≡ suc (n - (i + 1)) = omega arith in
+      let next : i * 4 + 4 ≡ (i + 1) * 4 = omega arith in
+      let more : summed width (n - i) last (drop (i * 4) s) ≡ x ∷ summed width (n - (i + 1)) x (drop ((i + 1) * 4) s) =
+      rw (step, now, is, ← next, ← drop-drop 4 (i * 4) s) (summed-more width (n - (i + 1)) last (drop (i * 4) s)) in
+      let after : Laying (summed width n 0 s) d₀ 0 (summed width (n - (i + 1)) x (drop ((i + 1) * 4) s)) (set d i x) (i + 1) = element-laid (m .laying) x _ more in
+      record { laying = after; below = below; most = omega arith; room = omega (arith, m .room, m .laying .same, after .same); there = m .there }
+
+  pub all-summed : {field : List ℕ} → n ≤ i → n ≡ min (length s / 4) (length d₀) → s ≡ field → Counts n d × Laid (columnOf width (length d₀) field) d₀ 0 d n
+  unfolding columnOf
+  all-summed h is here =
+      let none : n - i ≡ 0 = omega arith in
+      let end : i ≡ n = omega (arith, m .most) in
+      let all : Laid (summed width n 0 s) d₀ 0 d i = all-laid (m .laying) (rw none (summed-none width last (drop (i * 4) s))) in
+      (counted n d (m .room), rw (← here, ← is) (rw end at all))
+
+-- a lent buffer beside the column of a field
+pub same-column : (width room : ℕ) (column field : List ℕ) {d₀ d : List ℕ} {end : ℕ} {r : Bool} → r ≡ same column (take end d) → Laid (columnOf width (length d₀) field) d₀ 0 d end → length d₀ ≡ room → r ≡ same column (columnOf width room field)
+same-column width room column field is l long =
+    is ∙ ap (same column) (take-laid l ∙ ap (λ k. columnOf width k field) long)

@@ -1,0 +1,14 @@
+-- A column by the differences of its elements, modulo its width.
+use Prim.Native.Nat.{ℕ, zero, suc, _+_, _/_, _%_, min}
+use mathlib.Core.List.{List, [], _∷_}
+use lib.ListN.{length, drop}
+use Rattle.stored_answers.specs.Framing.{numberOf}
+
+-- n elements after `last`
+unfoldable pub summed : ℕ → ℕ → ℕ → List ℕ → List ℕ
+summed width zero last s = []
+summed width (suc n) last s = ((last + numberOf s) % width) ∷ summed width n ((last + numberOf s) % width) (drop 4 s)
+
+-- as many as the field has, in `room` elements
+unfoldable pub columnOf : ℕ → ℕ → List ℕ → List ℕ
+columnOf width room s = summed width (min (length s / 4) room) 0 s

@@ -1,0 +1,5 @@
+-- What the contracts here are said with: how a file is laid out, how a case is packed, and columns by their
+-- differences.
+pub mod Framing
+pub mod Packing
+pub mod Differences
