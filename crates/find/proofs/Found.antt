@@ -59,20 +59,20 @@ module _ (text literal : List ℕ) (room : ℕ) where
   fits-counted is size = rw (size, is, length-room (foundPlaces text literal))
 
 -- counting: none yet, one match more, all
-pub record Counted (text literal : List ℕ) (count at p : ℕ) : Type 0 where
+pub record CountedPlaces (text literal : List ℕ) (count at p : ℕ) : Type 0 where
   pub stands : Searched text literal at p
   pub total : count + length (matchesFrom text literal at) ≡ length (foundPlaces text literal)
   pub small : count ≤ at + at
 
-pub none-counted : {text literal : List ℕ} {p : ℕ} → p ≡ firstMatch text literal → (p ≡ length text → ⊥) → Counted text literal 0 0 p
+pub none-counted : {text literal : List ℕ} {p : ℕ} → p ≡ firstMatch text literal → (p ≡ length text → ⊥) → CountedPlaces text literal 0 0 p
 none-counted {text} {literal} is met =
     record { stands = searched-first text literal is met; total = omega (arith, ap length (found-from text literal is met)); small = omega arith }
 
-module _ {text literal : List ℕ} {count at p b : ℕ} (m : Counted text literal count at p) (is : b ≡ length (between at p)) where
+module _ {text literal : List ℕ} {count at p b : ℕ} (m : CountedPlaces text literal count at p) (is : b ≡ length (between at p)) where
   pub count-bounds : b ≤ 1
   count-bounds = omega (arith, between-most at p)
 
-  pub next-counted : {q : ℕ} → p < length text → q ≡ firstFrom text literal (p + length literal) → Counted text literal (count + (b + 1)) (p + length literal) q
+  pub next-counted : {q : ℕ} → p < length text → q ≡ firstFrom text literal (p + length literal) → CountedPlaces text literal (count + (b + 1)) (p + length literal) q
   next-counted h e =
       record {
         stands = searched-more (m .stands) h e;

@@ -17,7 +17,7 @@ use Rattle.pattern.specs.declared.Place.{Place}
 use Rattle.pattern.specs.Places.{fitsAt, coversFrom, covers}
 use Rattle.pattern.specs.Encoding.{writable, allWritable}
 use Rattle.pattern.proofs.Encoding.{read-back, room-enough}
-use Rattle.find.specs.Matching.{firstFrom, First, placeFrom, between, matchesFrom, foundPlaces}
+use Rattle.find.specs.Matching.{firstFrom, FirstMatch, placeFrom, between, matchesFrom, foundPlaces}
 use Rattle.find.specs.Finding.{foundBytes, FoundCovers, FoundRead, LongestList}
 use Rattle.find.specs.Searching.{firstMatch}
 use Rattle.find.proofs.Occurs.{starts-on, ends-on}
@@ -110,7 +110,7 @@ module _ (text literal : List ℕ) (t : wellFormed text ≡ true) (l : wellForme
   covers-matches : (n at p : ℕ) → length text - at < n → Searched text literal at p → coversFrom text at (matchesFrom text literal at) ≡ true
   covers-matches zero at p h s = absurd (omega arith)
   covers-matches (suc n) at p h s =
-      let f : First text literal at p = first-there s in
+      let f : FirstMatch text literal at p = first-there s in
       le-or-lt (length text) p
       (λ k.
       let end : p ≡ length text = omega (arith, f .most) in
@@ -155,7 +155,7 @@ module _ (text literal : List ℕ) (short : length text ≤ limit) where
   writable-matches : (n at p : ℕ) → length text - at < n → Searched text literal at p → allWritable (matchesFrom text literal at) ≡ true
   writable-matches zero at p h s = absurd (omega arith)
   writable-matches (suc n) at p h s =
-      let f : First text literal at p = first-there s in
+      let f : FirstMatch text literal at p = first-there s in
       le-or-lt (length text) p
       (λ k. rw (matches-end s k) (writable-between at p (omega (arith, s .most)) (omega (arith, f .most))))
       (λ k.
@@ -190,7 +190,7 @@ module _ (text literal : List ℕ) where
   count-from : (n at p : ℕ) → length text - at < n → Searched text literal at p → length (matchesFrom text literal at) ≤ 2 * ((length text - at) / length literal) + 1
   count-from zero at p h s = absurd (omega arith)
   count-from (suc n) at p h s =
-      let f : First text literal at p = first-there s in
+      let f : FirstMatch text literal at p = first-there s in
       le-or-lt (length text) p
       (λ k. omega (arith, ap length (matches-end s k), between-most at p))
       (λ k.

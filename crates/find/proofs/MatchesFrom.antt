@@ -8,7 +8,7 @@ use lib.Dec.{ltb}
 use lib.ListN.{length}
 use borrow.Author.Tests.{le-ltb, lt-ltb}
 use Rattle.buffers.proofs.Cases.{le-or-lt}
-use Rattle.find.specs.Matching.{firstFrom, First, placeFrom, between, matchesWithin, matchesFrom}
+use Rattle.find.specs.Matching.{firstFrom, FirstMatch, placeFrom, between, matchesWithin, matchesFrom}
 use Rattle.find.proofs.Occurs.{occurs-inside}
 use Rattle.find.proofs.FirstFrom.{first-leftmost}
 
@@ -20,7 +20,7 @@ module _ (text literal : List ℕ) (some : 0 < length literal) where
   within-enough (suc n) zero at most hn hm = absurd (omega arith)
   within-enough (suc n) (suc m) at most hn hm =
       let p : ℕ = firstFrom text literal at in
-      let f : First text literal at p = first-leftmost text literal at most in
+      let f : FirstMatch text literal at p = first-leftmost text literal at most in
       le-or-lt (length text) p
       (λ h. rw (le-ltb p (length text) h))
       (λ h.
@@ -32,7 +32,7 @@ module _ (text literal : List ℕ) (some : 0 < length literal) where
   unfolding matchesFrom matchesWithin
   matches-step at most =
       let p : ℕ = firstFrom text literal at in
-      let f : First text literal at p = first-leftmost text literal at most in
+      let f : FirstMatch text literal at p = first-leftmost text literal at most in
       le-or-lt (length text) p
       (λ h. rw (le-ltb p (length text) h))
       (λ h.
@@ -46,7 +46,7 @@ pub record Searched (text literal : List ℕ) (at p : ℕ) : Type 0 where
   pub next : p ≡ firstFrom text literal at
 
 module _ {text literal : List ℕ} {at p : ℕ} (s : Searched text literal at p) where
-  pub first-there : First text literal at p
+  pub first-there : FirstMatch text literal at p
   first-there = rw (s .next) (first-leftmost text literal at (s .most))
 
   module _ (h : p < length text) where

@@ -25,7 +25,7 @@ unfoldable pub firstFrom : List ℕ → List ℕ → ℕ → ℕ
 firstFrom text literal at = firstOf text literal (length text - at) at
 
 -- p is the least position from `at` on at which the literal stands, or there is none and p is the text's length
-pub record First (text literal : List ℕ) (at p : ℕ) : Type 0 where
+pub record FirstMatch (text literal : List ℕ) (at p : ℕ) : Type 0 where
   pub from : at ≤ p
   pub most : p ≤ length text
   pub before : (k : ℕ) → at ≤ k → k < p → occursAt text literal k ≡ false
@@ -33,7 +33,8 @@ pub record First (text literal : List ℕ) (at p : ℕ) : Type 0 where
 
 -- CLAIM: the search is leftmost.
 abbrev pub FirstLeftmost : Type 0
-FirstLeftmost = (text literal : List ℕ) (at : ℕ) → at ≤ length text → First text literal at (firstFrom text literal at)
+FirstLeftmost = (text literal : List ℕ) (at : ℕ) → at ≤ length text
+    → FirstMatch text literal at (firstFrom text literal at)
 
 -- the place from a up to e
 abbrev pub placeFrom : ℕ → ℕ → Bool → Place

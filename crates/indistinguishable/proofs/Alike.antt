@@ -22,7 +22,7 @@ use Rattle.replace.specs.Blanking.{Equal}
 use Rattle.replace.proofs.Faults.{Taken, accepted-taken, taken-length}
 use Rattle.replace.proofs.Blanking.{agree-replaced, replaced-agree}
 use Rattle.indistinguishable.specs.declared.Comparison.the-variants.{Compared, Refused}
-use Rattle.indistinguishable.specs.Walk.{textAlike, columnAlike, allAlike, Covering}
+use Rattle.indistinguishable.specs.Walk.{textAlike, columnAlike, allAlike, BothCovered}
 use Rattle.indistinguishable.specs.Alike.{samePublished, compareFaults, comparison, says, PublishedAlike, Readings}
 use Rattle.indistinguishable.proofs.Walk.{every-same, text-each, column-each}
 
@@ -65,7 +65,7 @@ module _ (most : ℕ) (n m : Note) (list content : List ℕ) (ok : verdict (comp
             (λ e. length-replicate wide _) (λ e. length-replicate wide _) (column-each wide (n .ends) (m .ends)) 0 (placesOf list) (tn .covered),
       )
 
-  coverings : Covering (n .normalized) (m .normalized) list × (Covering (n .starts) (m .starts) list × Covering (n .ends) (m .ends) list)
+  coverings : BothCovered (n .normalized) (m .normalized) list × (BothCovered (n .starts) (m .starts) list × BothCovered (n .ends) (m .ends) list)
   coverings = (
     record { text = n .normalized; covered = first-taken .covered; one = refl; other = (taken-length n m list first-taken second-taken) },
     (
@@ -108,7 +108,7 @@ module _ (most : ℕ) (n m : Note) (list content : List ℕ) {v w r : Verdict} (
   unfolding says
   refused {k} e = readings most n m list content (Refused k) (sym (rw (sym both ∙ e)))
 
-  pub covering : r ≡ Accepted → Covering (n .normalized) (m .normalized) list × (Covering (n .starts) (m .starts) list × Covering (n .ends) (m .ends) list)
+  pub covering : r ≡ Accepted → BothCovered (n .normalized) (m .normalized) list × (BothCovered (n .starts) (m .starts) list × BothCovered (n .ends) (m .ends) list)
   covering e = coverings most n m list content (sym both ∙ e)
 
   pub compared : r ≡ Accepted → {t : Bool} → t ≡ allAlike (n .normalized) (n .starts) (n .ends) (m .normalized) (m .starts) (m .ends) (length content) (placesOf list) → PublishedAlike most n m list content (Compared t)

@@ -22,15 +22,15 @@ use Rattle.pattern.proofs.Places.{Span, fits-span, covers-first, covers-rest}
 use Rattle.replace.specs.Replacing.{piece, laid, carried}
 use Rattle.replace.proofs.Sizes.{length-piece}
 use Rattle.replace.proofs.Laid.{piece-matched, piece-unmatched}
-use Rattle.indistinguishable.specs.Walk.{samePart, textAlike, columnAlike, everyPlace, allAlike, Lying, Covering}
+use Rattle.indistinguishable.specs.Walk.{samePart, textAlike, columnAlike, everyPlace, allAlike, Lying, BothCovered}
 
 -- a place lies inside both lists
-pub record Within (xs ys : List ℕ) (p : Place) : Type 0 where
+pub record InsideBoth (xs ys : List ℕ) (p : Place) : Type 0 where
   pub onward : p .start .0 ≤ p .end .0
   pub in-one : p .end .0 ≤ length xs
   pub in-other : p .end .0 ≤ length ys
 
-pub within : {xs ys : List ℕ} {p : Place} → Lying xs ys p → Within xs ys p
+pub within : {xs ys : List ℕ} {p : Place} → Lying xs ys p → InsideBoth xs ys p
 within {xs} {ys} {p} l =
     let here : Span (l .text) (l .from) p = fits-span (l .text) (l .from) p (l .fits) in
     record {
@@ -62,7 +62,7 @@ module _ (xs ys : List ℕ) (p : Place) where
   column-unmatched wide u e = rw u e
 
 -- the walk has come to i
-pub record Walked (f : Place → Bool) (xs ys list : List ℕ) (i : ℕ) : Type 0 where
+pub record WalkedTo (f : Place → Bool) (xs ys list : List ℕ) (i : ℕ) : Type 0 where
   pub so-far : everyPlace f (placesOf list) ≡ everyPlace f (placesOf (drop i list))
   pub text : List ℕ
   pub from : ℕ
@@ -71,11 +71,11 @@ pub record Walked (f : Place → Bool) (xs ys list : List ℕ) (i : ℕ) : Type 
   pub other : length ys ≡ length text
   pub most : i ≤ length list
 
-pub none-walked : (f : Place → Bool) {xs ys list : List ℕ} → Covering xs ys list → Walked f xs ys list 0
+pub none-walked : (f : Place → Bool) {xs ys list : List ℕ} → BothCovered xs ys list → WalkedTo f xs ys list 0
 none-walked f c =
     record { so-far = refl; text = c .text; from = 0; covered = c .covered; one = c .one; other = c .other; most = omega arith }
 
-module _ {f : Place → Bool} {xs ys list : List ℕ} {i : ℕ} (w : Walked f xs ys list i) where
+module _ {f : Place → Bool} {xs ys list : List ℕ} {i : ℕ} (w : WalkedTo f xs ys list i) where
   module _ {entry : Entry} {p : Place} {next : ℕ} (is : entry ≡ entryAt list i) (there : entry ≡ At p next) where
     step : Stepped list i p next
     step = entry-step list is there
@@ -92,7 +92,7 @@ module _ {f : Place → Bool} {xs ys list : List ℕ} {i : ℕ} (w : Walked f xs
       unfolding everyPlace
       walked-step = w .so-far ∙ rw (step .places, ← e)
 
-      pub one-walked : not r ≡ false → Walked f xs ys list next
+      pub one-walked : not r ≡ false → WalkedTo f xs ys list next
       one-walked t =
           record {
             so-far = walked-step ∙ rw (not-false r t);

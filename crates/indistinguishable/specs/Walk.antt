@@ -42,7 +42,7 @@ pub record Lying (xs ys : List ℕ) (p : Place) : Type 0 where
   pub other : length ys ≡ length text
 
 -- places that cover such a text
-pub record Covering (xs ys list : List ℕ) : Type 0 where
+pub record BothCovered (xs ys list : List ℕ) : Type 0 where
   pub text : List ℕ
   pub covered : coversFrom text 0 (placesOf list) ≡ true
   pub one : length xs ≡ length text

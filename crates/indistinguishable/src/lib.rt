@@ -16,7 +16,7 @@ ghost use mathlib.Core.Path.{_≡_};
 ghost use Rattle.note.specs.Notes.{lent, limit};
 ghost use Rattle.pattern.specs.Entries.{placesOf};
 ghost use Rattle.indistinguishable.specs.Alike.{PublishedAlike};
-ghost use Rattle.indistinguishable.specs.Walk.{Covering, Lying, allAlike, columnAlike, everyPlace, textAlike};
+ghost use Rattle.indistinguishable.specs.Walk.{BothCovered, Lying, allAlike, columnAlike, everyPlace, textAlike};
 
 // What the comparison answers.
 pub enum Comparison {
@@ -58,7 +58,7 @@ fn column_alike(a: &[Offset], b: &[Offset], wide: usize, place: Place) -> bool
 }
 
 fn texts_alike(a: &[u8], b: &[u8], list: &[u8]) -> bool
-    requires { ⌜ Covering (now a) (now b) (now list) ⌝ }
+    requires { ⌜ BothCovered (now a) (now b) (now list) ⌝ }
     ensures { λ r. ⌜ r ≡ everyPlace (textAlike (now (a .entry)) (now (b .entry))) (placesOf (now (list .entry))) ⌝ }
 {
     let mut i = 0;
@@ -77,7 +77,7 @@ fn texts_alike(a: &[u8], b: &[u8], list: &[u8]) -> bool
 }
 
 fn columns_alike(a: &[Offset], b: &[Offset], list: &[u8], wide: usize) -> bool
-    requires { ⌜ Covering (now a) (now b) (now list) ⌝ }
+    requires { ⌜ BothCovered (now a) (now b) (now list) ⌝ }
     ensures { λ r. ⌜ r ≡ everyPlace (columnAlike wide (now (a .entry)) (now (b .entry)))
         (placesOf (now (list .entry))) ⌝ }
 {
@@ -107,9 +107,9 @@ fn all_alike(
     list: &[u8],
     wide: usize,
 ) -> bool
-    requires { ⌜ Covering (now normalized) (now other) (now list)
-        × (Covering (now starts) (now «other_starts») (now list)
-        × Covering (now ends) (now «other_ends») (now list)) ⌝ }
+    requires { ⌜ BothCovered (now normalized) (now other) (now list)
+        × (BothCovered (now starts) (now «other_starts») (now list)
+        × BothCovered (now ends) (now «other_ends») (now list)) ⌝ }
     ensures { λ r. ⌜ r ≡ allAlike (now (normalized .entry)) (now (starts .entry)) (now (ends .entry))
         (now (other .entry)) (now («other_starts» .entry)) (now («other_ends» .entry))
         wide (placesOf (now (list .entry))) ⌝ }

@@ -69,18 +69,18 @@ pub decimal-bounded-5 : (n : ℕ) → n < 100000 → length (decimal n) ≤ 5
 decimal-bounded-5 n = decimal-bounded 5 n (omega arith)
 
 -- digits that are being counted, the last one taken away each time
-pub record Counted (n after count : ℕ) : Type 0 where
+pub record CountedDigits (n after count : ℕ) : Type 0 where
   pub rest : count + length (decimal after) ≡ length (decimal n) + 1
   pub most : count + after ≤ n + 1
 
-pub none-counted : {n : ℕ} → Counted n n 1
+pub none-counted : {n : ℕ} → CountedDigits n n 1
 none-counted = record { rest = omega arith; most = omega arith }
 
-pub one-counted : {n after count : ℕ} → Counted n after count → 10 ≤ after → Counted n (after / 10) (count + 1)
+pub one-counted : {n after count : ℕ} → CountedDigits n after count → 10 ≤ after → CountedDigits n (after / 10) (count + 1)
 one-counted {after = after} c big =
     record { rest = omega (arith, c .rest, length-more after big); most = omega (arith, c .most) }
 
-pub all-counted : {n after count : ℕ} → Counted n after count → after < 10 → count ≡ length (decimal n)
+pub all-counted : {n after count : ℕ} → CountedDigits n after count → after < 10 → count ≡ length (decimal n)
 all-counted {after = after} c small = omega (arith, c .rest, length-low after small)
 
 -- the last k digits, leading zeros too

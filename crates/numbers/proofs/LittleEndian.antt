@@ -1,4 +1,4 @@
--- Laws of `littleEndian` and `valueOf`: each undoes the other; lengths, bytes, and the numbers of two bytes.
+-- Laws of `littleEndian` and `valueOf`: each undoes the other; lengths, bytes, and the numbers of two and of four bytes.
 use Prim.Native.Nat.{ℕ, zero, suc, _+_, _*_, _-_, _/_, _%_, _^_, _≤_, _<_}
 use mathlib.Core.Path.{_≡_, _∙_, ap, refl, sym}
 use mathlib.Core.List.{List, [], _∷_, _++_}
@@ -30,7 +30,7 @@ bytes-written-back (b ∷ bs) h =
     rw (first, others, bytes-written-back bs (λ i k. h (suc i) (omega arith)))
 
 -- the numbers of two bytes
-pub number-read-back-2 : (n : ℕ) → n < 65536 → valueOf (littleEndian 2 n) ≡ n
+pub number-read-back-2 : (n : ℕ) → n < 256 ^ 2 → valueOf (littleEndian 2 n) ≡ n
 number-read-back-2 = number-read-back 2
 
 pub length-littleEndian : (width n : ℕ) → length (littleEndian width n) ≡ width
@@ -51,7 +51,8 @@ take-littleEndian width n rest = take-at (littleEndian width n) rest width (leng
 pub drop-littleEndian : (width n : ℕ) (rest : List ℕ) → drop width (littleEndian width n ++ rest) ≡ rest
 drop-littleEndian width n rest = drop-at (littleEndian width n) rest width (length-littleEndian width n)
 
--- the number that stands in a list, by its first byte, also where the list ends before; and the one of two bytes
+-- the number that stands in a list, by its first byte, also where the list ends before; the one of two bytes, and the
+-- one of four, by its halves
 pub value-part : (width : ℕ) (bs : List ℕ) (at : ℕ) → valueOf (part bs at (at + suc width)) ≡ getD bs at 0 + valueOf (part bs (at + 1) (at + 1 + width)) * 256
 unfolding valueOf
 value-part width bs at =
@@ -70,8 +71,13 @@ value-at bs at =
     let none : at + 1 + 1 + 0 - (at + 1 + 1) ≡ 0 = omega arith in
     omega (arith, value-part 1 bs at, rw none at (value-part 0 bs (at + 1)))
 
+pub value-at-4 : (bs : List ℕ) (at : ℕ) {low high : ℕ} → low ≡ valueOf (part bs at (at + 2)) → high ≡ valueOf (part bs (at + 2) (at + 2 + 2)) → low + high * 256 * 256 ≡ valueOf (part bs at (at + 4))
+value-at-4 bs at l h =
+    let second : at + 1 + 1 ≡ at + 2 = omega arith in
+    omega (arith, value-at bs at, value-part 3 bs at, rw second at (value-part 2 bs (at + 1)))
+
 -- the two bytes of a number, stored
-pub value-stored : (d : List ℕ) (n at : ℕ) → n < 65536 → at + 2 ≤ length d → set (set d at (n % 256)) (at + 1) (n / 256) ≡ splice d at (littleEndian 2 n)
+pub value-stored : (d : List ℕ) (n at : ℕ) → n < 256 ^ 2 → at + 2 ≤ length d → set (set d at (n % 256)) (at + 1) (n / 256) ≡ splice d at (littleEndian 2 n)
 unfolding littleEndian
 value-stored d n at fits h =
     let high : (n / 256) % 256 ≡ n / 256 = omega arith in

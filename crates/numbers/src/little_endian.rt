@@ -1,4 +1,4 @@
-// Numbers of two bytes, the least significant first.
+// Numbers of two and of four bytes, the least significant first.
 ghost use mathlib.Core.Path.{_≡_};
 ghost use Prim.Native.Nat.{_+_, _≤_};
 ghost use lib.ListN.{length};
@@ -11,6 +11,14 @@ pub fn get_u16_le(bytes: &[u8], at: usize) -> u16
     ensures { λ r. ⌜ r ≡ valueOf (part (now (bytes .entry)) at (at + 2)) ⌝ }
 {
     bytes[at] as u16 + bytes[at + 1] as u16 * 256
+}
+
+// The number whose four bytes stand at `at`.
+pub fn get_u32_le(bytes: &[u8], at: usize) -> u32
+    requires { ⌜ at + 4 ≤ length (now bytes) ⌝ }
+    ensures { λ r. ⌜ r ≡ valueOf (part (now (bytes .entry)) at (at + 4)) ⌝ }
+{
+    get_u16_le(bytes, at) as u32 + get_u16_le(bytes, at + 2) as u32 * 256 * 256
 }
 
 // The two bytes of `value` stand in `out` from `at` on; all else is as it was.

@@ -1,5 +1,5 @@
 -- Laws of `placeBytes`: reading gives back what was written.
-use Prim.Native.Nat.{ℕ, _+_, _*_, _≤_, _<_}
+use Prim.Native.Nat.{ℕ, _+_, _*_, _^_, _≤_, _<_}
 use mathlib.Core.Path.{_≡_, _∙_, ap, refl, sym}
 use mathlib.Core.Bool.{Bool, true, false, cond, _&&_, _||_}
 use mathlib.Mathlib.Data.Bool.Basic.{and-elim-left, and-elim-right}
@@ -24,13 +24,13 @@ pub length-placeBytes : (p : Place) → length (placeBytes p) ≡ 5
 unfolding placeBytes littleEndian
 length-placeBytes p = refl
 
-pub writable-start : (p : Place) → writable p ≡ true → p .start .0 < 65536
+pub writable-start : (p : Place) → writable p ≡ true → p .start .0 < 256 ^ 2
 unfolding writable
-writable-start p e = ltb-true (p .start .0) 65536 (and-elim-left _ (ltb (p .end .0) 65536) e)
+writable-start p e = ltb-true (p .start .0) (256 ^ 2) (and-elim-left _ (ltb (p .end .0) (256 ^ 2)) e)
 
-pub writable-end : (p : Place) → writable p ≡ true → p .end .0 < 65536
+pub writable-end : (p : Place) → writable p ≡ true → p .end .0 < 256 ^ 2
 unfolding writable
-writable-end p e = ltb-true (p .end .0) 65536 (and-elim-right (ltb (p .start .0) 65536) _ e)
+writable-end p e = ltb-true (p .end .0) (256 ^ 2) (and-elim-right (ltb (p .start .0) (256 ^ 2)) _ e)
 
 -- the entry of five bytes, and of a place that was written
 entry-built : (c a b d e : ℕ) (rest : List ℕ) (s t : ℕ) (m : Bool) → (eqb c 11 || eqb c 12) ≡ true → eqb c 12 ≡ m → valueOf (a ∷ b ∷ []) ≡ s → valueOf (d ∷ e ∷ []) ≡ t → entryAt (c ∷ a ∷ b ∷ d ∷ e ∷ rest) 0 ≡ At (record { start = record { 0 = s }; end = record { 0 = t }; matched = m }) 5

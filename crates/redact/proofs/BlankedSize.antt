@@ -10,7 +10,7 @@ use borrow.Author.Tests.{le-leb, lt-leb}
 use Rattle.buffers.proofs.Cases.{le-or-lt}
 use Rattle.note.specs.Notes.{limit}
 use Rattle.pattern.specs.declared.Place.{Place}
-use Rattle.find.specs.Matching.{firstFrom, First, placeFrom, between, matchesFrom, foundPlaces}
+use Rattle.find.specs.Matching.{firstFrom, FirstMatch, placeFrom, between, matchesFrom, foundPlaces}
 use Rattle.find.specs.Searching.{firstMatch}
 use Rattle.find.proofs.MatchesFrom.{Searched, first-there, match-inside, searched-more, matches-more, matches-end}
 use Rattle.find.proofs.FoundPlaces.{between-some, between-none, found-cases, found-whole, searched-first, found-from}
@@ -91,7 +91,7 @@ module _ (text literal : List ℕ) (wide : ℕ) (narrow : wide ≤ length litera
   sizes-rest : (n at p : ℕ) → length text - at < n → Searched text literal at p → sizes wide (matchesFrom text literal at) ≤ length text - at
   sizes-rest zero at p h s = absurd (omega arith)
   sizes-rest (suc n) at p h s =
-      let f : First text literal at p = first-there s in
+      let f : FirstMatch text literal at p = first-there s in
       le-or-lt (length text) p
       (λ last. omega (arith, sizes-end wide s last, f .most))
       (λ next.

@@ -14,12 +14,12 @@ use Rattle.buffers.proofs.Booleans.{and-false-r}
 use Rattle.redact.specs.Lines.{runOf}
 
 -- the bytes from `at` to i carry the alignment (start, end): what is left of the run begins at i
-pub record Walked (starts ends : List ℕ) (at start end i : ℕ) : Type 0 where
+pub record WalkedRun (starts ends : List ℕ) (at start end i : ℕ) : Type 0 where
   pub so-far : runOf start end (drop at starts) (drop at ends) ≡ (i - at) + runOf start end (drop i starts) (drop i ends)
   pub from : at ≤ i
   pub most : i ≤ length starts
 
-pub none-walked : {starts ends : List ℕ} {at start end : ℕ} → at ≤ length starts → Walked starts ends at start end at
+pub none-walked : {starts ends : List ℕ} {at start end : ℕ} → at ≤ length starts → WalkedRun starts ends at start end at
 none-walked h = record { so-far = omega arith; from = omega arith; most = h }
 
 run-cons : (start end s e : ℕ) (ss es : List ℕ) → runOf start end (s ∷ ss) (e ∷ es) ≡ cond (eqb s start && eqb e end) (suc (runOf start end ss es)) 0
@@ -35,7 +35,7 @@ run-step starts ends start end i alike h =
     let k : i < length ends = omega arith in
     rw (drop-cons starts i 0 h, drop-cons ends i 0 k, run-cons, add-one i)
 
-module _ {starts ends : List ℕ} {at start end i : ℕ} (w : Walked starts ends at start end i) where
+module _ {starts ends : List ℕ} {at start end i : ℕ} (w : WalkedRun starts ends at start end i) where
   stops : runOf start end (drop i starts) (drop i ends) ≡ 0 → i - at ≡ runOf start end (drop at starts) (drop at ends)
   stops none = omega (arith, w .so-far)
 
@@ -43,7 +43,7 @@ module _ {starts ends : List ℕ} {at start end i : ℕ} (w : Walked starts ends
   at-end h = stops (rw (drop-of-length-le starts h, run-none))
 
   module _ (alike : length starts ≡ length ends) (h : i < length starts) where
-    pub one-walked : getD starts i 0 ≡ start → getD ends i 0 ≡ end → Walked starts ends at start end (i + 1)
+    pub one-walked : getD starts i 0 ≡ start → getD ends i 0 ≡ end → WalkedRun starts ends at start end (i + 1)
     one-walked s e =
         let step : runOf start end (drop i starts) (drop i ends) ≡ suc (runOf start end (drop (i + 1) starts) (drop (i + 1) ends)) = run-step starts ends start end i alike h ∙ rw (eq-eqb _ _ s, eq-eqb _ _ e) in
         record { so-far = omega (arith, w .so-far, w .from); from = omega (arith, w .from); most = omega arith }

@@ -24,7 +24,10 @@ fn usage() {
         b"usage: redact LITERAL FILLER < NOTE               the note with every LITERAL blanked by FILLER\n",
     );
     say(
-        b"       redact LITERAL FILLER alignments < NOTE    its alignments: first byte, count, transcript start, transcript end\n",
+        b"       redact LITERAL FILLER alignments < NOTE    its alignments, one line for each run of bytes:\n",
+    );
+    say(
+        b"                                                  first byte, count, transcript start, transcript end\n",
     );
 }
 

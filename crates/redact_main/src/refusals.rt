@@ -36,7 +36,7 @@ pub fn refuse(k: Refusal, text: &[u8], literal: &[u8]) {
         Refusal::Exhausted => say(b"refused 7 nothing left\n"),
         Refusal::BadMatches => say(b"refused 8 broken list\n"),
         Refusal::NoRoom => say(
-            b"refused 9 no room: the published text would have more than 65,535 bytes; take a shorter filler or split the note\n",
+            b"refused 9 no room: the result would have more than 65,535 bytes; shorten the filler or split the note\n",
         ),
         Refusal::Missing => say(b"refused 10 nothing there\n"),
         Refusal::CountMismatch => say(b"refused 11 miscounted\n"),

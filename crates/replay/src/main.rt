@@ -35,13 +35,13 @@ fn agrees(call: u8, case: &[u8]) -> bool {
     }
 }
 
-// All cases of a list, up to the first empty field.
+// All cases of a list, up to the first empty field: there are no more of them than bytes.
 fn replayed(call: u8, list: &[u8]) -> Tally {
     let mut space = [0; CASE];
-    let mut answers: u64 = 0;
+    let mut answers: usize = 0;
     let mut differing: u64 = 0;
-    while answers < 65536 {
-        let packed = field(list, answers as usize);
+    while answers < list.len() {
+        let packed = field(list, answers);
         if packed.len() == 0 {
             break;
         }
@@ -51,7 +51,10 @@ fn replayed(call: u8, list: &[u8]) -> Tally {
         }
         answers += 1;
     }
-    Tally { answers, differing }
+    Tally {
+        answers: answers as u64,
+        differing,
+    }
 }
 
 fn print(name: &[u8], t: Tally) {

@@ -12,8 +12,9 @@ ghost use mathlib.Core.Path.{_≡_};
 ghost use mathlib.Core.Bool.{_&&_};
 ghost use Prim.Native.Nat.{_+_, _<_};
 ghost use Rattle.buffers.specs.Same.{same};
+ghost use Rattle.note.specs.Notes.{limit};
 ghost use Rattle.stored_answers.specs.Framing.{fieldOf, isNumber};
-ghost use Rattle.stored_answers.specs.Differences.{columnOf};
+ghost use Rattle.stored_answers.specs.Differences.{offsetsOf, numbersOf};
 
 // The refusal, start, end.
 pub fn is_range(case: &[u8], index: usize, answer: Offsets) -> bool
@@ -46,8 +47,8 @@ pub fn are_columns(
 ) -> bool
     requires { ⌜ index < 100 ⌝ }
     ensures { λ r. ⌜ r ≡ (isNumber (fieldOf index (now (case .entry))) refusal
-        && same (now (starts .entry)) (columnOf 65536 65536 (fieldOf (index + 1) (now (case .entry)))))
-        && same (now (ends .entry)) (columnOf 65536 65536 (fieldOf (index + 2) (now (case .entry)))) ⌝ }
+        && same (now (starts .entry)) (offsetsOf limit (fieldOf (index + 1) (now (case .entry)))))
+        && same (now (ends .entry)) (offsetsOf limit (fieldOf (index + 2) (now (case .entry)))) ⌝ }
 {
     is_number(case, index, refusal)
         & are_offsets(case, index + 1, starts)
@@ -66,8 +67,8 @@ pub fn are_pairs(
     requires { ⌜ index < 100 ⌝ }
     ensures { λ r. ⌜ r ≡ ((isNumber (fieldOf index (now (case .entry))) refusal
         && same (fieldOf (index + 1) (now (case .entry))) (now (numbers .entry)))
-        && same (now (starts .entry)) (columnOf 4294967296 256 (fieldOf (index + 2) (now (case .entry)))))
-        && same (now (ends .entry)) (columnOf 4294967296 256 (fieldOf (index + 3) (now (case .entry)))) ⌝ }
+        && same (now (starts .entry)) (numbersOf (fieldOf (index + 2) (now (case .entry)))))
+        && same (now (ends .entry)) (numbersOf (fieldOf (index + 3) (now (case .entry)))) ⌝ }
 {
     is_number(case, index, refusal)
         & is_text(case, index + 1, numbers)
@@ -85,8 +86,8 @@ pub fn are_published(
 ) -> bool
     requires { ⌜ index < 100 ⌝ }
     ensures { λ r. ⌜ r ≡ (same (fieldOf index (now (case .entry))) (now (text .entry))
-        && same (now (starts .entry)) (columnOf 65536 65536 (fieldOf (index + 1) (now (case .entry)))))
-        && same (now (ends .entry)) (columnOf 65536 65536 (fieldOf (index + 2) (now (case .entry)))) ⌝ }
+        && same (now (starts .entry)) (offsetsOf limit (fieldOf (index + 1) (now (case .entry)))))
+        && same (now (ends .entry)) (offsetsOf limit (fieldOf (index + 2) (now (case .entry)))) ⌝ }
 {
     is_text(case, index, text)
         & are_offsets(case, index + 1, starts)

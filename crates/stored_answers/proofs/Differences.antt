@@ -7,11 +7,11 @@ use native.Mathlib.Omega.{arith}
 use lib.ListN.{length, take, drop, set}
 use lib.Seq.{drop-drop}
 use Rattle.buffers.specs.Same.{same}
+use Rattle.buffers.specs.Splice.{Laid}
 use Rattle.io.specs.Counts.{Counts}
 use Rattle.stored_answers.specs.Framing.{numberOf}
-use Rattle.stored_answers.specs.Packing.{Laid}
 use Rattle.stored_answers.specs.Differences.{summed, columnOf}
-use Rattle.stored_answers.proofs.Splice.{Laying, none-laid, element-laid, all-laid, counted, take-laid}
+use Rattle.stored_answers.proofs.Splice.{LayingFrom, none-laid, element-laid, all-laid, counted, take-laid}
 
 length-summed : (width n last : ℕ) (s : List ℕ) → length (summed width n last s) ≡ n
 unfolding summed
@@ -28,7 +28,7 @@ summed-none width last s = refl
 
 -- i of n elements stand in d
 pub record Summing (width : ℕ) (s d₀ : List ℕ) (n : ℕ) (d : List ℕ) (last i : ℕ) : Type 0 where
-  pub laying : Laying (summed width n 0 s) d₀ 0 (summed width (n - i) last (drop (i * 4) s)) d i
+  pub laying : LayingFrom (summed width n 0 s) d₀ 0 (summed width (n - i) last (drop (i * 4) s)) d i
   pub below : last < width
   pub most : i ≤ n
   pub room : n ≤ length d
@@ -47,18 +47,18 @@ module _ {width : ℕ} {s d₀ : List ℕ} {n : ℕ} {d : List ℕ} {last i : �
       let next : i * 4 + 4 ≡ (i + 1) * 4 = omega arith in
       let more : summed width (n - i) last (drop (i * 4) s) ≡ x ∷ summed width (n - (i + 1)) x (drop ((i + 1) * 4) s) =
       rw (step, now, is, ← next, ← drop-drop 4 (i * 4) s) (summed-more width (n - (i + 1)) last (drop (i * 4) s)) in
-      let after : Laying (summed width n 0 s) d₀ 0 (summed width (n - (i + 1)) x (drop ((i + 1) * 4) s)) (set d i x) (i + 1) = element-laid (m .laying) x _ more in
+      let after : LayingFrom (summed width n 0 s) d₀ 0 (summed width (n - (i + 1)) x (drop ((i + 1) * 4) s)) (set d i x) (i + 1) = element-laid (m .laying) x _ more in
       record { laying = after; below = below; most = omega arith; room = omega (arith, m .room, m .laying .same, after .same); there = m .there }
 
-  pub all-summed : {field : List ℕ} → n ≤ i → n ≡ min (length s / 4) (length d₀) → s ≡ field → Counts n d × Laid (columnOf width (length d₀) field) d₀ 0 d n
+  pub all-summed : {field : List ℕ} → n ≤ i → n ≡ min (length s / 4) (length d₀) → s ≡ field → Counts n d × Laid (columnOf width (length d₀) field) d₀ 0 n d
   unfolding columnOf
   all-summed h is here =
       let none : n - i ≡ 0 = omega arith in
       let end : i ≡ n = omega (arith, m .most) in
-      let all : Laid (summed width n 0 s) d₀ 0 d i = all-laid (m .laying) (rw none (summed-none width last (drop (i * 4) s))) in
+      let all : Laid (summed width n 0 s) d₀ 0 i d = all-laid (m .laying) (rw none (summed-none width last (drop (i * 4) s))) in
       (counted n d (m .room), rw (← here, ← is) (rw end at all))
 
 -- a lent buffer beside the column of a field
-pub same-column : (width room : ℕ) (column field : List ℕ) {d₀ d : List ℕ} {end : ℕ} {r : Bool} → r ≡ same column (take end d) → Laid (columnOf width (length d₀) field) d₀ 0 d end → length d₀ ≡ room → r ≡ same column (columnOf width room field)
+pub same-column : (width room : ℕ) (column field : List ℕ) {d₀ d : List ℕ} {end : ℕ} {r : Bool} → r ≡ same column (take end d) → Laid (columnOf width (length d₀) field) d₀ 0 end d → length d₀ ≡ room → r ≡ same column (columnOf width room field)
 same-column width room column field is l long =
     is ∙ ap (same column) (take-laid l ∙ ap (λ k. columnOf width k field) long)

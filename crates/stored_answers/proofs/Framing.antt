@@ -1,5 +1,5 @@
 -- Laws of `numberOf` and `fieldOf`: a number at an index, a field more, and the field that is reached.
-use Prim.Native.Nat.{ℕ, zero, suc, _+_, _*_, _-_, _≤_, _<_, min}
+use Prim.Native.Nat.{ℕ, zero, suc, _+_, _-_, _≤_, _<_, min}
 use mathlib.Core.Path.{_≡_, _∙_, ap, refl, sym}
 use mathlib.Core.Bool.{Bool, true, false, _&&_}
 use mathlib.Core.List.{List, []}
@@ -8,20 +8,22 @@ use native.Mathlib.Omega.{arith}
 use native.Mathlib.Decide.{decLe}
 use native.Mathlib.Nat.{lt-of-not-le}
 use lib.Dec.{eqb}
-use lib.ListN.{length, getD, take, drop, length-drop, drop-of-length-le}
-use lib.Seq.{getD-drop, drop-drop, drop-length, take-all}
+use lib.ListN.{length, take, drop, length-drop, drop-of-length-le}
+use lib.Seq.{drop-drop, drop-length, take-all}
 use borrow.Author.Tests.{le-leb, lt-leb, ne-eqb, eq-eqb}
+use Rattle.buffers.specs.Splice.{part}
+use Rattle.numbers.specs.LittleEndian.{valueOf}
 use Rattle.stored_answers.specs.Framing.{numberOf, first, rest, fieldOf, isNumber}
 
 pub number-cut : (s : List ℕ) (at : ℕ) → length s < at + 4 → 0 ≡ numberOf (drop at s)
 unfolding numberOf
 number-cut s at h = simp (length-drop, lt-leb 4 (length s - at) (omega arith)) refl
 
-pub number-whole : (s : List ℕ) (at : ℕ) {a b c d : ℕ} → a ≡ getD s at 0 → b ≡ getD s (at + 1) 0 → c ≡ getD s (at + 2) 0 → d ≡ getD s (at + 3) 0 → at + 4 ≤ length s → a + b * 256 + c * 65536 + d * 16777216 ≡ numberOf (drop at s)
+pub number-whole : (s : List ℕ) (at : ℕ) {n : ℕ} → n ≡ valueOf (part s at (at + 4)) → at + 4 ≤ length s → n ≡ numberOf (drop at s)
 unfolding numberOf
-number-whole s at p q r t h =
-    let here : getD s (at + 0) 0 ≡ getD s at 0 = ap (λ k. getD s k 0) (omega arith) in
-    rw (length-drop, le-leb 4 (length s - at) (omega arith), getD-drop at s 0 0, getD-drop at s 1 0, getD-drop at s 2 0, getD-drop at s 3 0, here, p, q, r, t)
+number-whole s at is h =
+    let four : at + 4 - at ≡ 4 = omega arith in
+    is ∙ rw (four, length-drop, le-leb 4 (length s - at) (omega arith))
 
 -- whether a field is a number, by its length and then by its value
 pub no-number : {f : List ℕ} (s : List ℕ) (n : ℕ) → f ≡ s → (length f ≡ 4 → ⊥) → false ≡ isNumber s n

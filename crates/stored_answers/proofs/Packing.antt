@@ -8,12 +8,12 @@ use native.Mathlib.Nat.{lt-of-not-le}
 use lib.ListN.{length, take, drop, length-append, length-drop}
 use lib.Seq.{take-all}
 use borrow.Author.Tests.{le-leb, lt-leb}
-use Rattle.buffers.specs.Splice.{splice}
-use Rattle.buffers.proofs.Splice.{length-splice}
+use Rattle.buffers.specs.Splice.{splice, Laid}
+use Rattle.buffers.proofs.Splice.{length-splice, laid-length}
 use Rattle.stored_answers.specs.Framing.{numberOf, fieldOf}
-use Rattle.stored_answers.specs.Packing.{Laid, times, laid, parts, unpacked}
+use Rattle.stored_answers.specs.Packing.{times, laid, parts, unpacked}
 use Rattle.stored_answers.proofs.Framing.{drop-min}
-use Rattle.stored_answers.proofs.Splice.{Laying, none-laid, piece-laid, all-laid}
+use Rattle.stored_answers.proofs.Splice.{LayingFrom, none-laid, piece-laid, all-laid}
 
 -- a unit that fits, one that does not, and none
 times-more : (n : ℕ) (unit : List ℕ) (room : ℕ) → length unit ≤ room → times (suc n) unit room ≡ unit ++ times n unit (room - length unit)
@@ -46,7 +46,7 @@ unit-of part from is =
 
 -- k units of a part were laid, or there is no room for one more
 pub record Repeating (part d₀ : List ℕ) (at n : ℕ) (unit d : List ℕ) (end k : ℕ) : Type 0 where
-  pub laying : Laying (laid part (length d₀ - at)) d₀ at (times (n - k) unit (length d - end)) d end
+  pub laying : LayingFrom (laid part (length d₀ - at)) d₀ at (times (n - k) unit (length d - end)) d end
   pub within : end ≤ length d
   pub most : k ≤ n
 
@@ -67,10 +67,10 @@ module _ {part d₀ : List ℕ} {at n : ℕ} {unit d : List ℕ} {end k : ℕ} (
       rw (step, ← room) (times-more (n - (k + 1)) unit (length d - end) fits) in
       record { laying = piece-laid (r .laying) unit _ d₁ (end + length unit) more is refl; within = omega (arith, r .within); most = omega arith }
 
-  pub no-room : length d - end < length unit → Laid (laid part (length d₀ - at)) d₀ at d end
+  pub no-room : length d - end < length unit → Laid (laid part (length d₀ - at)) d₀ at end d
   no-room h = all-laid (r .laying) (times-full (n - k) unit (length d - end) h)
 
-  pub all-repeated : n ≤ k → Laid (laid part (length d₀ - at)) d₀ at d end
+  pub all-repeated : n ≤ k → Laid (laid part (length d₀ - at)) d₀ at end d
   all-repeated h =
       let none : n - k ≡ 0 = omega arith in
       all-laid (r .laying) (rw none (times-none unit (length d - end)))
@@ -98,7 +98,7 @@ parts-fit (suc n) k packed room =
 
 -- k of n parts were laid
 pub record Unpacking (packed d₀ : List ℕ) (n : ℕ) (d : List ℕ) (end k : ℕ) : Type 0 where
-  pub laying : Laying (parts n 0 packed (length d₀)) d₀ 0 (parts (n - k) k packed (length d - end)) d end
+  pub laying : LayingFrom (parts n 0 packed (length d₀)) d₀ 0 (parts (n - k) k packed (length d - end)) d end
   pub within : end ≤ length d
   pub most : k ≤ n
 
@@ -110,17 +110,23 @@ none-unpacked packed d n =
     record { laying = rw (all, room) (none-laid (omega arith)); within = omega arith; most = omega arith }
 
 module _ {packed d₀ : List ℕ} {n : ℕ} {d : List ℕ} {end k : ℕ} (u : Unpacking packed d₀ n d end k) where
-  pub one-unpacked : {part d₁ : List ℕ} {end₁ : ℕ} → k < n → part ≡ fieldOf k packed → Laid (laid part (length d - end)) d end d₁ end₁ → Unpacking packed d₀ n d₁ end₁ (k + 1)
+  pub one-unpacked : {part d₁ : List ℕ} {end₁ : ℕ} → k < n → part ≡ fieldOf k packed → Laid (laid part (length d - end)) d end end₁ d₁ → Unpacking packed d₀ n d₁ end₁ (k + 1)
   one-unpacked {part} {d₁} {end₁} h is l =
       let step : n - k ≡ suc (n - (k + 1)) = omega arith in
       let fits : length (laid part (length d - end)) ≤ length d - end = laid-fits part (length d - end) in
-      let room : length d - end - length (laid part (length d - end)) ≡ length d₁ - end₁ = omega (arith, l .ends, l .same) in
+      let long : length d₁ ≡ length d = laid-length l (omega (arith, u .within)) in
+      let room : length d - end - length (laid part (length d - end)) ≡ length d₁ - end₁ = omega (arith, l .reach) in
       let more : parts (n - k) k packed (length d - end) ≡ laid part (length d - end) ++ parts (n - (k + 1)) (k + 1) packed (length d₁ - end₁) =
       rw (step, ← room, is) (parts-more (n - (k + 1)) k packed (length d - end)) in
-      record { laying = piece-laid (u .laying) (laid part (length d - end)) _ d₁ end₁ more (l .holds) (l .ends); within = omega (arith, u .within, l .ends, l .same); most = omega arith }
+      record { laying = piece-laid (u .laying) (laid part (length d - end)) _ d₁ end₁ more (l .holds) (l .reach); within = omega (arith, u .within, l .reach); most = omega arith }
 
-  pub all-unpacked : n ≤ k → n ≡ length packed / 8 → Laid (unpacked packed (length d₀)) d₀ 0 d end
+  pub all-unpacked : n ≤ k → n ≡ length packed / 8 → Laid (unpacked packed (length d₀)) d₀ 0 end d
   unfolding unpacked
   all-unpacked h is =
       let none : n - k ≡ 0 = omega arith in
       rw (← is) (all-laid (u .laying) (rw none (parts-none k packed (length d - end))))
+
+-- a case that is unpacked leaves the buffer as long as it was
+pub unpacked-length : (packed : List ℕ) {d₀ d : List ℕ} {end : ℕ} → Laid (unpacked packed (length d₀)) d₀ 0 end d → length d ≡ length d₀
+unfolding unpacked
+unpacked-length packed {d₀ = d₀} l = laid-length l (omega (arith, parts-fit (length packed / 8) 0 packed (length d₀)))

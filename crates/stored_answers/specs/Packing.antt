@@ -1,21 +1,15 @@
 -- A packed case: parts, each so many times a unit. Total: a unit for which there is no room is left out.
 use Prim.Native.Nat.{ℕ, zero, suc, _+_, _-_, _/_}
-use mathlib.Core.Bool.{Bool, true, false}
-use mathlib.Core.Path.{_≡_}
+use mathlib.Core.Bool.{cond}
 use mathlib.Core.List.{List, [], _++_}
 use lib.Dec.{leb}
 use lib.ListN.{length, drop}
-use Rattle.buffers.specs.Splice.{splice}
 use Rattle.stored_answers.specs.Framing.{numberOf, fieldOf}
-
-abbrev pub pickList : Bool → List ℕ → List ℕ → List ℕ
-pickList true a b = a
-pickList false a b = b
 
 -- n times the unit, in `room` bytes
 unfoldable pub times : ℕ → List ℕ → ℕ → List ℕ
 times zero unit room = []
-times (suc n) unit room = pickList (leb (length unit) room) (unit ++ times n unit (room - length unit)) []
+times (suc n) unit room = cond (leb (length unit) room) (unit ++ times n unit (room - length unit)) []
 
 -- a part: how many times, then the unit
 unfoldable pub laid : List ℕ → ℕ → List ℕ
@@ -30,9 +24,3 @@ parts (suc n) k packed room =
 -- all parts: each has 8 bytes or more, and past the last they are empty
 unfoldable pub unpacked : List ℕ → ℕ → List ℕ
 unpacked packed room = parts (length packed / 8) 0 packed room
-
--- a run that a function laid into a buffer from `at` on: what the buffer holds, and the place after the run
-pub record Laid (run d₀ : List ℕ) (at : ℕ) (d : List ℕ) (end : ℕ) : Type 0 where
-  pub holds : d ≡ splice d₀ at run
-  pub ends : end ≡ at + length run
-  pub same : length d ≡ length d₀

@@ -5,57 +5,54 @@ use crate::fields::number;
 use buffers::Offset;
 use buffers::copy_bytes;
 use buffers::equality::same_offsets;
+use checks::least_of_two;
+use note::LIMIT;
 ghost use mathlib.Core.Path.{_≡_};
-ghost use Prim.Native.Nat.{_+_, _≤_, min};
+ghost use Prim.Native.Nat.{_+_, _≤_, _^_};
 ghost use lib.ListN.{length, take};
 ghost use Rattle.buffers.specs.Same.{same};
+ghost use Rattle.buffers.specs.Splice.{Laid};
 ghost use Rattle.io.specs.Counts.{Counts};
+ghost use Rattle.note.specs.Notes.{limit};
 ghost use Rattle.stored_answers.specs.Framing.{fieldOf};
-ghost use Rattle.stored_answers.specs.Packing.{Laid};
-ghost use Rattle.stored_answers.specs.Differences.{columnOf};
+ghost use Rattle.stored_answers.specs.Differences.{columnOf, offsetsOf, numbersOf};
 
 // The most elements that a call is lent in one buffer.
-pub const ROOM: usize = 65536;
+pub const ROOM: usize = LIMIT + 1;
 
 // The most numbers of a list of pairs.
 pub const FEW: usize = 256;
 
 // A column to fill. Behind a call, so that no proof sees its elements.
 pub fn zeros() -> [Offset; ROOM]
-    ensures { λ r. ⌜ 65536 ≡ length r ⌝ }
+    ensures { λ r. ⌜ limit + 1 ≡ length r ⌝ }
 {
     [0; ROOM]
-}
-
-fn least(a: usize, b: usize) -> usize
-    ensures { λ r. ⌜ r ≡ min a b ⌝ }
-{
-    if a < b { a } else { b }
 }
 
 // A field's bytes at the start of the buffer, as far as there is room; how many.
 pub fn bytes(case: &[u8], index: usize, dst: &mut [u8]) -> usize
     ensures { λ r. ⌜ Counts r (now (dst .exit)) ⌝ }
-    ensures { λ r. ⌜ Laid (take (length (now (dst .entry))) (fieldOf index (now (case .entry)))) (now (dst .entry)) 0
-        (now (dst .exit)) r ⌝ }
+    ensures { λ r. ⌜ Laid (take (length (now (dst .entry))) (fieldOf index (now (case .entry)))) (now (dst .entry)) 0 r
+        (now (dst .exit)) ⌝ }
 {
     let field = field(case, index);
-    let n = least(field.len(), dst.len());
+    let n = least_of_two(field.len(), dst.len());
     copy_bytes(&field[..n], dst, 0);
     n
 }
 
 pub fn offsets(case: &[u8], index: usize, dst: &mut [Offset]) -> usize
     ensures { λ r. ⌜ Counts r (now (dst .exit)) ⌝ }
-    ensures { λ r. ⌜ Laid (columnOf 65536 (length (now (dst .entry))) (fieldOf index (now (case .entry))))
-        (now (dst .entry)) 0 (now (dst .exit)) r ⌝ }
+    ensures { λ r. ⌜ Laid (columnOf (limit + 1) (length (now (dst .entry))) (fieldOf index (now (case .entry))))
+        (now (dst .entry)) 0 r (now (dst .exit)) ⌝ }
 {
     let field = field(case, index);
-    let n = least(field.len() / 4, dst.len());
+    let n = least_of_two(field.len() / 4, dst.len());
     let mut last: u64 = 0;
     let mut i = 0;
     while i < n {
-        last = (last + number(field, i * 4) as u64) % 65536;
+        last = (last + number(field, i * 4) as u64) % (LIMIT as u64 + 1);
         dst[i] = last as Offset;
         i += 1;
     }
@@ -64,11 +61,11 @@ pub fn offsets(case: &[u8], index: usize, dst: &mut [Offset]) -> usize
 
 pub fn numbers(case: &[u8], index: usize, dst: &mut [u32]) -> usize
     ensures { λ r. ⌜ Counts r (now (dst .exit)) ⌝ }
-    ensures { λ r. ⌜ Laid (columnOf 4294967296 (length (now (dst .entry))) (fieldOf index (now (case .entry))))
-        (now (dst .entry)) 0 (now (dst .exit)) r ⌝ }
+    ensures { λ r. ⌜ Laid (columnOf (256 ^ 4) (length (now (dst .entry))) (fieldOf index (now (case .entry))))
+        (now (dst .entry)) 0 r (now (dst .exit)) ⌝ }
 {
     let field = field(case, index);
-    let n = least(field.len() / 4, dst.len());
+    let n = least_of_two(field.len() / 4, dst.len());
     let mut last: u64 = 0;
     let mut i = 0;
     while i < n {
@@ -81,7 +78,7 @@ pub fn numbers(case: &[u8], index: usize, dst: &mut [u32]) -> usize
 
 // Whether a column is the one at a field of a case.
 pub fn are_offsets(case: &[u8], index: usize, column: &[Offset]) -> bool
-    ensures { λ r. ⌜ r ≡ same (now (column .entry)) (columnOf 65536 65536 (fieldOf index (now (case .entry)))) ⌝ }
+    ensures { λ r. ⌜ r ≡ same (now (column .entry)) (offsetsOf limit (fieldOf index (now (case .entry)))) ⌝ }
 {
     let mut expected = zeros();
     let n = offsets(case, index, &mut expected);
@@ -104,7 +101,7 @@ fn same_numbers(a: &[u32], b: &[u32]) -> bool
 }
 
 pub fn are_numbers(case: &[u8], index: usize, column: &[u32]) -> bool
-    ensures { λ r. ⌜ r ≡ same (now (column .entry)) (columnOf 4294967296 256 (fieldOf index (now (case .entry)))) ⌝ }
+    ensures { λ r. ⌜ r ≡ same (now (column .entry)) (numbersOf (fieldOf index (now (case .entry)))) ⌝ }
 {
     let mut expected = [0; FEW];
     let n = numbers(case, index, &mut expected);

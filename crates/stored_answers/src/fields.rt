@@ -2,18 +2,12 @@
 // cases, packed), and so are a packed case (its parts) and an unpacked one (what the call is lent, then what it
 // answers). Nothing is asked of the bytes.
 use buffers::equality::same_bytes;
+use numbers::little_endian::get_u32_le;
 ghost use mathlib.Core.Path.{_≡_};
-ghost use Prim.Native.Nat.{_+_, _≤_, _<_, min};
-ghost use lib.ListN.{length, getD, drop};
+ghost use Prim.Native.Nat.{_+_, _≤_, min};
+ghost use lib.ListN.{length, drop};
 ghost use Rattle.buffers.specs.Same.{same};
 ghost use Rattle.stored_answers.specs.Framing.{numberOf, fieldOf, isNumber};
-
-fn byte(list: &[u8], at: usize) -> u32
-    requires { ⌜ at < length (now list) ⌝ }
-    ensures { λ r. ⌜ (r ≡ getD (now (list .entry)) at 0) × (r < 256) ⌝ }
-{
-    list[at] as u32
-}
 
 // The number at a byte; 0 where its 4 bytes are not all there.
 pub fn number(list: &[u8], at: usize) -> u32
@@ -25,10 +19,7 @@ pub fn number(list: &[u8], at: usize) -> u32
     if list.len() - 4 < at {
         return 0;
     }
-    byte(list, at)
-        + byte(list, at + 1) * 256
-        + byte(list, at + 2) * 65536
-        + byte(list, at + 3) * 16777216
+    get_u32_le(list, at)
 }
 
 // The byte `n` bytes after `at`, or the end.

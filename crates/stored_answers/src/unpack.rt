@@ -5,15 +5,16 @@ use crate::fields::number;
 use buffers::copy_bytes;
 ghost use Prim.Native.Nat.{_-_, _≤_};
 ghost use lib.ListN.{length};
+ghost use Rattle.buffers.specs.Splice.{Laid};
 ghost use Rattle.io.specs.Counts.{Counts};
-ghost use Rattle.stored_answers.specs.Packing.{Laid, laid, unpacked};
+ghost use Rattle.stored_answers.specs.Packing.{laid, unpacked};
 
 // A part, its times in 4 bytes and then its unit, put into the buffer from `at` on as far as there is room; the byte
 // after it.
 fn lay(part: &[u8], dst: &mut [u8], at: usize) -> usize
     requires { ⌜ at ≤ length (now dst) ⌝ }
-    ensures { λ r. ⌜ Laid (laid (now (part .entry)) (length (now (dst .entry)) - at)) (now (dst .entry)) at
-        (now (dst .exit)) r ⌝ }
+    ensures { λ r. ⌜ Laid (laid (now (part .entry)) (length (now (dst .entry)) - at)) (now (dst .entry)) at r
+        (now (dst .exit)) ⌝ }
 {
     let times = number(part, 0);
     let from = after(part, 0, 4);
@@ -34,8 +35,8 @@ fn lay(part: &[u8], dst: &mut [u8], at: usize) -> usize
 // All parts, put at the start of the buffer; how many bytes they have.
 pub fn unpack(packed: &[u8], dst: &mut [u8]) -> usize
     ensures { λ r. ⌜ Counts r (now (dst .exit)) ⌝ }
-    ensures { λ r. ⌜ Laid (unpacked (now (packed .entry)) (length (now (dst .entry)))) (now (dst .entry)) 0
-        (now (dst .exit)) r ⌝ }
+    ensures { λ r. ⌜ Laid (unpacked (now (packed .entry)) (length (now (dst .entry)))) (now (dst .entry)) 0 r
+        (now (dst .exit)) ⌝ }
 {
     let parts = packed.len() / 8;
     let mut end = 0;

@@ -3,12 +3,12 @@ use Prim.Native.Nat.{_-_}
 use native.Mathlib.Omega.{arith}
 use lib.ListN.{length}
 use Rattle.find.proofs.MatchesFrom.{first-there, match-inside}
-use Rattle.find.proofs.Found.{Counted, none-counted, count-bounds, next-counted, all-counted, one-counted}
+use Rattle.find.proofs.Found.{CountedPlaces, none-counted, count-bounds, next-counted, all-counted, one-counted}
 use Rattle.find.proofs.count_places.Statement.{statement}
 use Rattle.find.proofs.count_places.Tie as tie
 
 abbrev Inv-loop : tie.InvT-loop
-Inv-loop text literal first count₀ at₀ p₀ count at p = Counted text literal count at p
+Inv-loop text literal first count₀ at₀ p₀ count at p = CountedPlaces text literal count at p
 
 abbrev μ-loop : tie.MeasureT-loop
 μ-loop text literal first count₀ at₀ p₀ count at p = length text - at

@@ -5,12 +5,12 @@ use native.Mathlib.Omega.{arith}
 use borrow.Author.Needs.{needs}
 use Rattle.pattern.proofs.Entries.{entry-step}
 use Rattle.indistinguishable.specs.Walk.{textAlike}
-use Rattle.indistinguishable.proofs.Walk.{Walked, none-walked, lying, one-walked, one-unlike, broken-walked, all-walked}
+use Rattle.indistinguishable.proofs.Walk.{WalkedTo, none-walked, lying, one-walked, one-unlike, broken-walked, all-walked}
 use Rattle.indistinguishable.proofs.texts_alike.Statement.{statement}
 use Rattle.indistinguishable.proofs.texts_alike.Tie as tie
 
 abbrev Inv-loop : tie.InvT-loop
-Inv-loop a b list i₀ i = Walked (textAlike a b) a b list i
+Inv-loop a b list i₀ i = WalkedTo (textAlike a b) a b list i
 
 abbrev μ-loop : tie.MeasureT-loop
 μ-loop a b list i₀ i = length list - i

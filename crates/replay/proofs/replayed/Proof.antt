@@ -5,6 +5,7 @@ use mathlib.Core.Path.{_≡_, _∙_, sym}
 use mathlib.Core.Logic.{⊎-elim}
 use lib.ListN.{length, length-replicate}
 use native.Mathlib.Omega.{arith}
+use Rattle.stored_answers.proofs.Packing.{unpacked-length}
 use Rattle.replay.proofs.replayed.Statement.{statement}
 use Rattle.replay.proofs.replayed.Tie as tie
 
@@ -12,7 +13,7 @@ abbrev Inv-loop : tie.InvT-loop
 Inv-loop call list space₀ answers₀ differing₀ space answers differing = (3145728 ≡ length space) × (differing ≤ answers)
 
 abbrev μ-loop : tie.MeasureT-loop
-μ-loop call list space₀ answers₀ differing₀ space answers differing = 65536 - answers
+μ-loop call list space₀ answers₀ differing₀ space answers differing = length list - answers
 
 loop-holds : tie.Need-loop-holds Inv-loop μ-loop
 loop-holds c = (sym (length-replicate {0} {A = ℕ} 3145728 0), omega arith)
@@ -30,7 +31,7 @@ loop-again : tie.Need-loop-again Inv-loop μ-loop
 loop-again c =
     let call = c .before .before .before .before in
     let head = call .before .before .before .before .before in (
-      head .loop .inv .0 ∙ sym (call .unpack .ensures .1 .same),
+      head .loop .inv .0 ∙ sym (unpacked-length _ (call .unpack .ensures .1)),
       ⊎-elim (λ w. omega (arith, head .loop .inv .1, w .1)) (λ w. omega (arith, head .loop .inv .1, w .1)) (c .if2 .came),
     )
 

@@ -1,11 +1,11 @@
 -- Each turn takes the last digit away and counts one more.
-use Rattle.numbers.proofs.Decimal.{Counted, none-counted, one-counted, all-counted}
+use Rattle.numbers.proofs.Decimal.{CountedDigits, none-counted, one-counted, all-counted}
 use native.Mathlib.Omega.{arith}
 use Rattle.numbers.proofs.decimals.count_digits.Statement.{statement}
 use Rattle.numbers.proofs.decimals.count_digits.Tie as tie
 
 abbrev Inv-loop : tie.InvT-loop
-Inv-loop number left₀ count₀ left count = Counted number left count
+Inv-loop number left₀ count₀ left count = CountedDigits number left count
 
 abbrev μ-loop : tie.MeasureT-loop
 μ-loop number left₀ count₀ left count = left

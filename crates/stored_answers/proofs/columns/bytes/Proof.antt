@@ -10,13 +10,13 @@ use Rattle.stored_answers.proofs.columns.bytes.Tie as tie
 
 slice-aggregate-copy-bytes : tie.Need-slice-aggregate-copy-bytes
 slice-aggregate-copy-bytes c =
-    sym (length-take-le (c .before .least .result) (c .before .before .field .result .now) (omega arith))
+    sym (length-take-le (c .before .least-of-two .result) (c .before .before .field .result .now) (omega arith))
 
 copy-bytes-requires : tie.Need-copy-bytes-requires
 copy-bytes-requires c κs =
     let head = c .before .before in
-    let size : length (take (head .least .result) (head .before .field .result .now)) ≡ head .least .result =
-    length-take-le (head .least .result) (head .before .field .result .now) (omega arith) in
+    let size : length (take (head .least-of-two .result) (head .before .field .result .now)) ≡ head .least-of-two .result =
+    length-take-le (head .least-of-two .result) (head .before .field .result .now) (omega arith) in
     omega arith
 
 same-length : tie.Need-same-length
@@ -26,7 +26,7 @@ returns : tie.Need-returns
 returns c =
     let call = c .before .before in
     let head = call .before .before .before in
-    first-laid _ _ _ _ (head .least .ensures) (call .copy-bytes .ensures) (head .before .field .ensures)
+    first-laid _ _ _ _ (head .least-of-two .ensures) (call .copy-bytes .ensures) (head .before .field .ensures)
 
 pub bytes-spec : {M : Type 1} → statement M
 bytes-spec =

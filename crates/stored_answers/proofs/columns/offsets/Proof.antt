@@ -1,20 +1,21 @@
 -- Each turn adds one more difference.
 use borrow.Author.Needs.{needs}
 use mathlib.Core.Path.{refl}
-use Prim.Native.Nat.{_-_}
+use Prim.Native.Nat.{_+_, _-_}
 use native.Mathlib.Omega.{arith}
+use Rattle.note.specs.Notes.{limit}
 use Rattle.stored_answers.proofs.Differences.{Summing, none-summed, one-summed, all-summed}
 use Rattle.stored_answers.proofs.columns.offsets.Statement.{statement}
 use Rattle.stored_answers.proofs.columns.offsets.Tie as tie
 
 abbrev Inv-loop : tie.InvT-loop
-Inv-loop case index dst₀ field n last₀ i₀ dst last i = Summing 65536 field dst₀ n dst last i
+Inv-loop case index dst₀ field n last₀ i₀ dst last i = Summing (limit + 1) field dst₀ n dst last i
 
 abbrev μ-loop : tie.MeasureT-loop
 μ-loop case index dst₀ field n last₀ i₀ dst last i = n - i
 
 loop-holds : tie.Need-loop-holds Inv-loop μ-loop
-loop-holds c = none-summed 65536 _ _ _ (omega arith) (c .least .ensures)
+loop-holds c = none-summed (limit + 1) _ _ _ (omega arith) (c .least-of-two .ensures)
 
 loop-again : tie.Need-loop-again Inv-loop μ-loop
 loop-again c =
@@ -23,7 +24,7 @@ loop-again c =
 returns : tie.Need-returns Inv-loop μ-loop
 returns c =
     let head = c .before .before in
-    all-summed (c .before .loop .inv) (c .loop-test .left) (head .least .ensures) (head .before .field .ensures)
+    all-summed (c .before .loop .inv) (c .loop-test .left) (head .least-of-two .ensures) (head .before .field .ensures)
 
 pub offsets-spec : {M : Type 1} → statement M
 offsets-spec =
@@ -36,6 +37,8 @@ offsets-spec =
     loop-holds
     (λ c. omega arith)
     (λ c κs. search needs)
+    (λ c. omega arith)
+    (λ c. omega arith)
     (λ c. omega arith)
     (λ c. omega arith)
     (λ c. omega arith)
