@@ -1,0 +1,4 @@
+-- Laws of blanking in a note, and of chains.
+pub mod MatchCount
+pub mod Redacting
+pub mod Chain
