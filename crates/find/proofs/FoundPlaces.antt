@@ -199,7 +199,7 @@ module _ (text literal : List ℕ) where
       let less = one-less (length text - (p + length literal)) (length text - at) (length literal) (s .some) (omega (arith, f .from, inside)) in
       omega (arith, ap length (matches-more s k) ∙ length-append (between at p) _, between-most at p, rest, less))
 
-  count-longest : 0 < length literal → length (foundPlaces text literal) ≤ 2 * (length text / length literal) + 1
+  pub count-longest : 0 < length literal → length (foundPlaces text literal) ≤ 2 * (length text / length literal) + 1
   count-longest some =
       found-cases text literal
       (λ one. omega (arith, ap length one))

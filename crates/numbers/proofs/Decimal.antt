@@ -1,4 +1,5 @@
 -- Laws of `decimal`: it is read back; how many digits there are; digits that are being laid from the last one back.
+-- And of `field`.
 use Prim.Native.Nat.{ℕ, zero, suc, _+_, _*_, _-_, _/_, _%_, _^_, _≤_, _<_}
 use mathlib.Core.Path.{_≡_, _∙_, ap, refl, sym}
 use mathlib.Core.List.{List, [], _∷_, _++_}
@@ -8,9 +9,9 @@ use native.Mathlib.Omega.{arith}
 use borrow.Author.Tests.{lt-ltb, le-ltb}
 use lib.ListN.{length, set, length-append, length-set}
 use Rattle.buffers.specs.Splice.{splice, Laid}
-use Rattle.buffers.proofs.Splice.{store-before, splice-nil}
+use Rattle.buffers.proofs.Splice.{store-before, store-after, splice-nil, laid-length}
 use Rattle.buffers.proofs.Cases.{le-or-lt}
-use Rattle.numbers.specs.Decimal.{digits, decimal, readFrom, readDecimal, DecimalReadBack, DecimalBounded}
+use Rattle.numbers.specs.Decimal.{digits, decimal, field, readFrom, readDecimal, DecimalReadBack, DecimalBounded}
 
 -- more steps than there are digits change nothing
 enough : (k m n : ℕ) → n < k → n < m → digits k n ≡ digits m n
@@ -63,10 +64,6 @@ decimal-bounded (suc (suc k)) n h few =
     le-or-lt 10 n
     (λ big. omega (arith, length-more n big, decimal-bounded (suc k) (n / 10) (omega arith) (omega arith)))
     (λ small. omega (arith, length-low n small))
-
--- the numbers of five digits
-pub decimal-bounded-5 : (n : ℕ) → n < 100000 → length (decimal n) ≤ 5
-decimal-bounded-5 n = decimal-bounded 5 n (omega arith)
 
 -- digits that are being counted, the last one taken away each time
 pub record CountedDigits (n after count : ℕ) : Type 0 where
@@ -133,3 +130,26 @@ unfolding lastDigits
 digits-laid {at = at} {d = d} {i = i} s none is =
     let done : i ≡ 0 = omega arith in
     record { reach = ap (_+_ at) is; holds = sym (splice-nil d at) ∙ (rw done at (s .rest)) }
+
+-- a field: its length, and room for its number and its byte
+pub length-field : (n after : ℕ) → length (field n after) ≡ length (decimal n) + 1
+unfolding field
+length-field n after = length-append (decimal n) (after ∷ [])
+
+-- the fields of five digits
+pub field-bounded-5 : (n after : ℕ) → n < 100000 → length (field n after) ≤ 5 + 1
+field-bounded-5 n after few = omega (arith, length-field n after, decimal-bounded 5 n (omega arith) few)
+
+module _ (n after : ℕ) {d d₁ : List ℕ} {at r : ℕ} (room : at + length (field n after) ≤ length d) (l : Laid (decimal n) d at r d₁) where
+  pub number-within : (r < length d₁) × (r < length d)
+  number-within =
+      let same = laid-length l (omega (arith, length-field n after)) in
+      (omega (arith, l .reach, length-field n after), omega (arith, l .reach, length-field n after))
+
+  pub field-laid : Laid (field n after) d at (r + 1) (set d₁ r after)
+  unfolding field
+  field-laid =
+      record {
+        reach = omega (arith, l .reach, length-append (decimal n) (after ∷ []));
+        holds = rw (l .holds, l .reach) (store-after d (decimal n) at after (omega (arith, length-field n after)));
+      }

@@ -15,6 +15,10 @@ digits (suc k) n = cond (ltb n 10) [] (digits k (n / 10)) ++ ((0x30 + n % 10) �
 unfoldable pub decimal : ℕ → List ℕ
 decimal n = digits (suc n) n
 
+-- a number and the byte after it
+unfoldable pub field : ℕ → ℕ → List ℕ
+field n after = decimal n ++ (after ∷ [])
+
 -- the number that digits stand for behind those of n
 unfoldable pub readFrom : ℕ → List ℕ → ℕ
 readFrom n [] = n

@@ -3,7 +3,7 @@ ghost use mathlib.Core.Path.{_≡_};
 ghost use Prim.Native.Nat.{_+_, _≤_};
 ghost use lib.ListN.{length};
 ghost use Rattle.buffers.specs.Splice.{Laid};
-ghost use Rattle.numbers.specs.Decimal.{decimal};
+ghost use Rattle.numbers.specs.Decimal.{decimal, field};
 
 // How many digits a number has.
 pub fn count_digits(number: usize) -> usize
@@ -32,4 +32,14 @@ pub fn write_decimal(number: usize, out: &mut [u8], at: usize) -> usize
         left = left / 10;
     }
     at + count
+}
+
+// The number and a byte after it, in `out` from `at` on; where they end.
+pub fn write_field(number: usize, after: u8, out: &mut [u8], at: usize) -> usize
+    requires { ⌜ at + length (field number after) ≤ length (now out) ⌝ }
+    ensures { λ r. ⌜ Laid (field number after) (now (out .entry)) at r (now (out .exit)) ⌝ }
+{
+    let end = write_decimal(number, out, at);
+    out[end] = after;
+    end + 1
 }

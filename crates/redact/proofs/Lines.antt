@@ -1,38 +1,19 @@
--- Laws of `field`, `lineOf` and `linesOf`: lines are laid one behind the other, each within `longestLine` bytes.
+-- Laws of `lineOf` and `linesOf`: lines are laid one behind the other, each within `longestLine` bytes.
 use Prim.Native.Nat.{ℕ, zero, suc, _+_, _*_, _≤_, _<_}
 use mathlib.Core.Path.{_≡_, _∙_, ap, refl, sym}
 use mathlib.Core.List.{List, [], _∷_, _++_}
 use native.Mathlib.Nat.{add-zero}
 use native.Mathlib.Numerals.{add-one}
 use native.Mathlib.Omega.{arith}
-use lib.ListN.{length, getD, set, drop, length-append, drop-of-length-le}
+use lib.ListN.{length, getD, drop, length-append, drop-of-length-le}
 use lib.Seq.{drop-cons, drop-drop}
 use Rattle.buffers.specs.Splice.{splice, overlay, Laid}
-use Rattle.buffers.proofs.Splice.{splice-nil, splice-splice, splice-overlay, store-after, laid-length, laid-after}
-use Rattle.numbers.specs.Decimal.{decimal}
-use Rattle.numbers.proofs.Decimal.{decimal-bounded-5}
+use Rattle.buffers.proofs.Splice.{splice-nil, splice-splice, splice-overlay, laid-length, laid-after}
+use Rattle.numbers.specs.Decimal.{field}
+use Rattle.numbers.proofs.Decimal.{field-bounded-5}
 use Rattle.note.specs.Notes.{limit}
-use Rattle.redact.specs.Lines.{runOf, field, lineOf, linesFrom, linesOf, longestLine, LineBounded}
+use Rattle.redact.specs.Lines.{runOf, lineOf, linesFrom, linesOf, longestLine, LineBounded}
 use Rattle.redact.proofs.Runs.{run-first, run-within}
-
--- a field, and room for its number and its byte
-pub length-field : (n after : ℕ) → length (field n after) ≡ length (decimal n) + 1
-unfolding field
-length-field n after = length-append (decimal n) (after ∷ [])
-
-module _ (n after : ℕ) {d d₁ : List ℕ} {at r : ℕ} (room : at + length (field n after) ≤ length d) (l : Laid (decimal n) d at r d₁) where
-  pub number-within : (r < length d₁) × (r < length d)
-  number-within =
-      let same = laid-length l (omega (arith, length-field n after)) in
-      (omega (arith, l .reach, length-field n after), omega (arith, l .reach, length-field n after))
-
-  pub field-laid : Laid (field n after) d at (r + 1) (set d₁ r after)
-  unfolding field
-  field-laid =
-      record {
-        reach = omega (arith, l .reach, length-append (decimal n) (after ∷ []));
-        holds = rw (l .holds, l .reach) (store-after d (decimal n) at after (omega (arith, length-field n after)));
-      }
 
 -- a line: room for each field, and all four
 pub length-line : (first count start end : ℕ) → length (lineOf first count start end) ≡ length (field first 0x09) + (length (field count 0x09) + (length (field start 0x09) + length (field end 0x0A)))
@@ -62,12 +43,9 @@ module _ (first count start end : ℕ) (d : List ℕ) (at : ℕ) (room : at + le
             let here : at ≤ length d = omega arith in
             laid-after (laid-after (laid-after l₁ l₂ here) l₃ here) l₄ here
 
-field-bounded : (n after : ℕ) → n ≤ limit → length (field n after) ≤ 5 + 1
-field-bounded n after few = omega (arith, length-field n after, decimal-bounded-5 n (omega arith))
-
 pub line-bounded : LineBounded
 line-bounded first count start end a b c e =
-    omega (arith, length-line first count start end, field-bounded first 0x09 a, field-bounded count 0x09 b, field-bounded start 0x09 c, field-bounded end 0x0A e)
+    omega (arith, length-line first count start end, field-bounded-5 first 0x09 (omega arith), field-bounded-5 count 0x09 (omega arith), field-bounded-5 start 0x09 (omega arith), field-bounded-5 end 0x0A (omega arith))
 
 -- bytes of a run whose line is laid are passed over
 no-ends : (at k : ℕ) (ss : List ℕ) → linesFrom at k ss [] ≡ []

@@ -5,7 +5,7 @@ use mathlib.Core.Bool.{cond, _&&_}
 use mathlib.Core.List.{List, [], _∷_, _++_}
 use lib.Dec.{eqb}
 use lib.ListN.{length}
-use Rattle.numbers.specs.Decimal.{decimal}
+use Rattle.numbers.specs.Decimal.{field}
 use Rattle.note.specs.Notes.{limit}
 
 -- how many alignments in front are (start, end)
@@ -13,10 +13,6 @@ unfoldable pub runOf : ℕ → ℕ → List ℕ → List ℕ → ℕ
 runOf start end [] es = 0
 runOf start end (s ∷ ss) [] = 0
 runOf start end (s ∷ ss) (e ∷ es) = cond (eqb s start && eqb e end) (suc (runOf start end ss es)) 0
-
--- a number and the byte after it
-unfoldable pub field : ℕ → ℕ → List ℕ
-field n after = decimal n ++ (after ∷ [])
 
 -- the line of a run
 unfoldable pub lineOf : ℕ → ℕ → ℕ → ℕ → List ℕ

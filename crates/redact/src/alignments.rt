@@ -1,13 +1,13 @@
 // The alignments of a text as lines (RULES 14.1).
 // Each function here is an inner one: columns and room were judged before.
 use buffers::Offset;
-use numbers::decimals::write_decimal;
+use numbers::decimals::write_field;
 ghost use mathlib.Core.Path.{_≡_};
 ghost use Prim.Native.Nat.{_+_, _*_, _≤_, _<_};
 ghost use lib.ListN.{length, getD, drop};
 ghost use Rattle.buffers.specs.Splice.{overlay, Laid};
 ghost use Rattle.note.specs.Notes.{limit};
-ghost use Rattle.redact.specs.Lines.{field, lineOf, linesOf, longestLine, runOf};
+ghost use Rattle.redact.specs.Lines.{lineOf, linesOf, longestLine, runOf};
 
 // Bytes that are enough for a line: four numbers of five digits, each with a byte after it.
 pub const LINE: usize = 24;
@@ -33,17 +33,7 @@ fn run_at(starts: &[Offset], ends: &[Offset], at: usize) -> usize
     i - at
 }
 
-// The number and a byte after it, in `out` from `at` on. Here and below: where it ends.
-fn write_field(number: usize, after: u8, out: &mut [u8], at: usize) -> usize
-    requires { ⌜ at + length (field number after) ≤ length (now out) ⌝ }
-    ensures { λ r. ⌜ Laid (field number after) (now (out .entry)) at r (now (out .exit)) ⌝ }
-{
-    let end = write_decimal(number, out, at);
-    out[end] = after;
-    end + 1
-}
-
-// The line of a run.
+// The line of a run, in `out` from `at` on; where it ends.
 fn write_line(
     first: usize,
     count: usize,

@@ -1,13 +1,10 @@
 // redact LITERAL FILLER [alignments] < note (RULES 14.1 and 14.2): blanks every match of the literal in a note and
 // publishes the text, or the alignments, to standard output. A refusal publishes nothing and says on standard error
 // what to do.
-mod input;
 mod lines;
 mod refusals;
 
-use input::Input;
-use input::asks_alignments;
-use input::read_note;
+use buffers::equality::same_bytes;
 use lines::write_alignments;
 use note::LIMIT;
 use pattern::MOST;
@@ -15,6 +12,8 @@ use redact::redact;
 use refusals::refuse;
 use refusals::say;
 use replace::Publication;
+use standard_input::Input;
+use standard_input::fill;
 
 // Room for the list of any literal's matches: one place for each, one before each, and one behind the last (RULES 9.6).
 const LIST: usize = MOST * (2 * LIMIT + 1);
@@ -67,9 +66,16 @@ fn publish(text: &[u8], literal: &[u8], content: &[u8], alignments: bool) {
     }
 }
 
+// Whether the third argument is `alignments`.
+fn asks_alignments() -> bool {
+    let mut word = io::buffer();
+    let n = os::arg(3, &mut word);
+    same_bytes(&word[..n], b"alignments")
+}
+
 fn run(literal: &[u8], content: &[u8], alignments: bool) {
     let mut text = io::large_buffer();
-    match read_note(&mut text) {
+    match fill(&mut text) {
         Input::Bytes(n) => publish(&text[..n], literal, content, alignments),
         Input::Unread => os::fail(b"redact: standard input"),
     }

@@ -2,7 +2,7 @@
 use mathlib.Core.Path.{sym}
 use lib.Seq.{length-take-le}
 use borrow.Author.Needs.{needs}
-use Rattle.redact_main.proofs.Reading.{bytes-within}
+use Rattle.standard_input.proofs.Reading.{bytes-within}
 use Rattle.redact_main.proofs.run.Statement.{statement}
 use Rattle.redact_main.proofs.run.Tie as tie
 
@@ -14,8 +14,8 @@ run-spec =
     (λ c. search needs)
     (λ c κs. search needs)
     (λ c. search needs)
-    (λ c. bytes-within (c .before .before .before .before .read-note .ensures) (c .before .n .given .1))
-    (λ c. sym (length-take-le _ _ (bytes-within (c .before .before .before .before .before .read-note .ensures) (c .before .before .n .given .1))))
+    (λ c. bytes-within (c .before .before .before .before .fill .ensures) (c .before .n .given .1))
+    (λ c. sym (length-take-le _ _ (bytes-within (c .before .before .before .before .before .fill .ensures) (c .before .before .n .given .1))))
     (λ c κs. search needs)
     (λ c. search needs)
     (λ c. search needs)

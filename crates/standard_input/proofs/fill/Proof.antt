@@ -1,10 +1,10 @@
--- A read fills the buffer from where the last one ended, and one that brings nothing ends the note.
+-- A read fills the buffer from where the last one ended, and one that brings nothing ends the input.
 use Prim.Native.Nat.{_≤_, _-_}
 use mathlib.Core.Path.{_≡_}
 use native.Mathlib.Omega.{arith}
 use lib.ListN.{length}
-use Rattle.redact_main.proofs.input.read_note.Statement.{statement}
-use Rattle.redact_main.proofs.input.read_note.Tie as tie
+use Rattle.standard_input.proofs.fill.Statement.{statement}
+use Rattle.standard_input.proofs.fill.Tie as tie
 
 abbrev Inv-loop : tie.InvT-loop
 Inv-loop buf₀ done₀ buf done = (done ≤ length buf) × (length buf ≡ length buf₀)
@@ -12,8 +12,8 @@ Inv-loop buf₀ done₀ buf done = (done ≤ length buf) × (length buf ≡ leng
 abbrev μ-loop : tie.MeasureT-loop
 μ-loop buf₀ done₀ buf done = length buf - done
 
-pub read-note-spec : {M : Type 1} → statement M
-read-note-spec =
+pub fill-spec : {M : Type 1} → statement M
+fill-spec =
     tie.close
     (tie.spec
     Inv-loop

@@ -1,10 +1,10 @@
--- What reading a note answers: no more bytes than the buffer has.
+-- What reading answers: no more bytes than the buffer has.
 use Prim.Native.Nat.{ℕ, _≤_}
 use mathlib.Core.Path.{_≡_}
 use mathlib.Core.List.{List}
 use lib.ListN.{length}
-use Rattle.redact_main.specs.declared.input.Input.{Input}
-use Rattle.redact_main.specs.declared.input.Input.the-variants.{Bytes, Unread}
+use Rattle.standard_input.specs.declared.Input.{Input}
+use Rattle.standard_input.specs.declared.Input.the-variants.{Bytes, Unread}
 
 abbrev pub Counted : Input → List ℕ → Type 0
 Counted (Bytes n) buf = n ≤ length buf

@@ -1,9 +1,9 @@
 -- The byte is stored where the number ends.
 use native.Mathlib.Omega.{arith}
 use borrow.Author.Needs.{needs}
-use Rattle.redact.proofs.Lines.{length-field, number-within, field-laid}
-use Rattle.redact.proofs.alignments.write_field.Statement.{statement}
-use Rattle.redact.proofs.alignments.write_field.Tie as tie
+use Rattle.numbers.proofs.Decimal.{length-field, number-within, field-laid}
+use Rattle.numbers.proofs.decimals.write_field.Statement.{statement}
+use Rattle.numbers.proofs.decimals.write_field.Tie as tie
 
 write-decimal-requires : tie.Need-write-decimal-requires
 write-decimal-requires c κs =

@@ -1,2 +1,0 @@
--- What the program's reader is held to.
-pub mod Counting

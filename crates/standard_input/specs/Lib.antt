@@ -1,0 +1,2 @@
+-- What reading is held to.
+pub mod Counting
