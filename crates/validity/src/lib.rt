@@ -91,11 +91,11 @@ pub fn well_formed(s: &[u8]) -> bool
         return false;
     }
     let mut i = 3;
-    while i + 128 <= s.len() {
-        if !valid_block(&s[i - 3..i + 128]) {
+    while i + 256 <= s.len() {
+        if !valid_block(&s[i - 3..i + 256]) {
             return false;
         }
-        i += 128;
+        i += 256;
     }
     valid_rest(s, i)
 }

@@ -1,6 +1,6 @@
 -- Laws of `pending` and `invalid`: the tests without branches, shorter where there are no long characters.
 -- A byte too far back to lead a long character counts as 0.
-use Prim.Native.Nat.{ℕ, _≤_, _<_, max}
+use Prim.Native.Nat.{ℕ, _+_, _-_, _≤_, _<_, max}
 use mathlib.Core.Path.{_≡_, _∙_, refl, sym}
 use mathlib.Core.Bool.{Bool, true, false, xor, _&&_, _||_, not, and-true, and-false, or-false}
 use mathlib.Mathlib.Data.Bool.Basic.{or-eq-false-eq-eq-false-and-eq-false}
@@ -90,16 +90,16 @@ pub invalid-four : (b3 b2 b1 b0 : ℕ) → (xor (pending b3 b2 b1) (within trail
 unfolding invalid
 invalid-four b3 b2 b1 b0 = rw (second-odd b1 b0) (odd-apart _ _ _ _ (λ e. pending-1 b3 b2 b1 (odd-lead b1 b0 e)))
 
-high-low : (b : ℕ) → ltb 0x9F b ≡ not (ltb b 0xA0)
-high-low b =
-    le-or-lt 0xA0 b
-    (λ high. rw (le-ltb b 0xA0 high, lt-ltb 0x9F b (omega arith)))
-    (λ low. rw (lt-ltb b 0xA0 low, le-ltb 0x9F b (omega arith)))
+high-low : (n b : ℕ) → ltb n b ≡ not (ltb b (n + 1))
+high-low n b =
+    le-or-lt (n + 1) b
+    (λ high. rw (le-ltb b (n + 1) high, lt-ltb n b (omega arith)))
+    (λ low. rw (lt-ltb b (n + 1) low, le-ltb n b (omega arith)))
 
 pub invalid-three : (b2 b1 b0 : ℕ) → b1 < 0xF0 → b0 < 0xF0 → (xor (leb 0xC0 b1 || leb 0xE0 b2) (within trail b0) || (leb 0xC0 b0 && ltb b0 0xC2) || ((eqb b1 0xE0 && ltb b0 0xA0) || (eqb b1 0xED && not (ltb b0 0xA0)))) ≡ invalid 0 b2 b1 b0
 unfolding pending never odd
 invalid-three b2 b1 b0 h1 h0 =
-    rw (← high-low b0)
+    rw (← high-low 0x9F b0)
     (simp (or-false, lt-leb 0xF5 b0 (omega arith), ne-eqb b1 0xF0 (λ e. omega arith), ne-eqb b1 0xF4 (λ e. omega arith)) at (invalid-four 0 b2 b1 b0))
 
 pub invalid-two : (b1 b0 : ℕ) → b1 < 0xE0 → b0 < 0xE0 → (xor (leb 0xC0 b1) (within trail b0) || (leb 0xC0 b0 && ltb b0 0xC2)) ≡ invalid 0 0 b1 b0
@@ -107,29 +107,66 @@ invalid-two b1 b0 h1 h0 =
     simp (or-false, ne-eqb b1 0xE0 (λ e. omega arith), ne-eqb b1 0xED (λ e. omega arith)) at (invalid-three 0 b1 b0 (omega arith) (omega arith))
 
 -- between C0 and E0 there is no plain byte
-plain-high : {b : ℕ} → Plain b → 0xC0 ≤ b → 0xE1 ≤ b
+plain-high : {n b : ℕ} → Plain n b → n ≤ 0xF4 → 0xC0 ≤ b → 0xE1 ≤ b
 unfolding fromLead
-plain-high p h = omega (arith, p .far, p .low)
+plain-high p most h = omega (arith, p .far, p .low)
 
-plain-pending : (b2 b1 : ℕ) → Plain b2 → leb 0xC0 (max b1 b2) ≡ (leb 0xC0 b1 || leb 0xE0 b2)
-plain-pending b2 b1 p =
+-- the larger of two plain bytes tells whether a character is pending, and a third byte counted from 30 on
+plain-pending : {n b2 m : ℕ} (b3 b1 : ℕ) → Plain n b2 → n ≤ 0xF4 → m ≡ max (max b1 b2) (b3 - 0x30) → leb 0xC0 m ≡ pending b3 b2 b1
+plain-pending {n} {b2} {m} b3 b1 p most larger =
     le-or-lt 0xC0 b1
-    (λ h. rw (le-leb 0xC0 b1 h) (le-leb 0xC0 (max b1 b2) (omega arith)))
-    (λ low. rw (lt-leb 0xC0 b1 low) (le-or-lt 0xC0 b2
-    (λ h. le-leb 0xC0 (max b1 b2) (omega arith) ∙ sym (le-leb 0xE0 b2 (omega (arith, plain-high p h))))
-    (λ low2. lt-leb 0xC0 (max b1 b2) (omega arith) ∙ sym (lt-leb 0xE0 b2 (omega arith)))))
+    (λ h. le-leb 0xC0 m (omega arith) ∙ sym (pending-1 b3 b2 b1 h))
+    (λ low1. le-or-lt 0xC0 b2
+    (λ h. le-leb 0xC0 m (omega arith) ∙ sym (pending-2 b3 b2 b1 low1 (omega (arith, plain-high p most h))))
+    (λ low2. le-or-lt 0xF0 b3
+    (λ h. le-leb 0xC0 m (omega arith) ∙ sym (pending-3 b3 b2 b1 low1 (omega arith) h))
+    (λ low3. lt-leb 0xC0 m (omega arith) ∙ sym (pending-none b3 b2 b1 low1 (omega arith) low3))))
 
-plain-lead : (b : ℕ) → Plain b → (leb 0xC0 b && ltb b 0xC2) ≡ false
-plain-lead b p =
+never-low : (b : ℕ) → b < 0xC0 → never b ≡ false
+unfolding never
+never-low b h = simp (lt-leb 0xC0 b h, lt-leb 0xF5 b (omega arith))
+
+plain-never : {n b : ℕ} → Plain n b → n ≤ 0xF4 → never b ≡ false
+unfolding never
+plain-never {n} {b} p most =
     le-or-lt 0xC0 b
-    (λ h. and-false-r (leb 0xC0 b) _ (le-ltb b 0xC2 (omega (arith, plain-high p h))))
-    (λ low. rw (lt-leb 0xC0 b low))
+    (λ h. simp (le-ltb b 0xC2 (omega (arith, plain-high p most h)), lt-leb 0xF5 b (omega (arith, p .low)), and-false))
+    (λ low. never-low b low)
 
-pub invalid-plain : {b2 b1 b0 m : ℕ} → Plain b2 → Plain b1 → Plain b0 → m ≡ max b1 b2 → xor (leb 0xC0 m) (within trail b0) ≡ invalid 0 b2 b1 b0
-unfolding fromLead
-invalid-plain {b2} {b1} {b0} p2 p1 p0 larger =
-    rw (larger, plain-pending b2 b1 p2)
-    (simp (or-false, plain-lead b0 p0, ne-eqb b1 0xE0 (λ e. omega (arith, p1 .far)), ne-eqb b1 0xED (λ e. omega (arith, p1 .low))) at (invalid-three b2 b1 b0 (omega (arith, p1 .low)) (omega (arith, p0 .low))))
+-- of the lead bytes from E1 to F3 two ask for a second byte of less than 80..BF
+plain-second : {n b : ℕ} → Plain n b → n ≤ 0xF4 → eqb b 0xED ≡ false → eqb b 0xF0 ≡ false → second b ≡ trail
+unfolding second fromLead
+plain-second {n} {b} p most d f = rw (ne-eqb b 0xE0 (λ e. omega (arith, p .far)), d, f, ne-eqb b 0xF4 (λ e. omega (arith, p .low)))
+
+pub invalid-plain : {b2 b1 b0 m : ℕ} → Plain 0xED b2 → Plain 0xED b1 → Plain 0xED b0 → m ≡ max b1 b2 → xor (leb 0xC0 m) (within trail b0) ≡ invalid 0 b2 b1 b0
+unfolding invalid
+invalid-plain {b2} {b1} {b0} {m} p2 p1 p0 larger =
+    let alone : m ≡ max (max b1 b2) (0 - 0x30) = omega arith in
+    rw (plain-pending 0 b1 p2 (omega arith) alone, plain-second p1 (omega arith) (ne-eqb b1 0xED (λ e. omega (arith, p1 .low))) (ne-eqb b1 0xF0 (λ e. omega (arith, p1 .low))), plain-never p0 (omega arith))
+    (sym (or-false (xor (pending 0 b2 b1) (within trail b0))))
+
+-- a column narrower than 80..BF, by what it is without
+narrower : (t high : Bool) → (xor true t || not (t && not high)) ≡ xor true (t && not high)
+unfolding xor
+narrower true true = refl
+narrower true false = refl
+narrower false high = refl
+
+wider : (t low : Bool) → (xor true t || (t && not (not low))) ≡ xor true (t && not low)
+unfolding xor
+wider true true = refl
+wider true false = refl
+wider false low = refl
+
+pub invalid-plain-four : {b2 b1 b0 m : ℕ} (b3 : ℕ) → Plain 0xF4 b2 → Plain 0xF4 b1 → Plain 0xF4 b0 → m ≡ max (max b1 b2) (b3 - 0x30) → (xor (leb 0xC0 m) (within trail b0) || (eqb b1 0xED && not (within (bytes 0x80 0x9F) b0)) || (eqb b1 0xF0 && within (bytes 0x80 0x8F) b0)) ≡ invalid b3 b2 b1 b0
+unfolding invalid xor second
+invalid-plain-four {b2} {b1} {b0} b3 p2 p1 p0 larger =
+    rw (plain-pending b3 b1 p2 (omega arith) larger, plain-never p0 (omega arith))
+    (true-or-false (eqb b1 0xED)
+    (λ d. rw (eqb-true b1 0xED d, pending-1 b3 b2 0xED (omega arith), below 0x9F b0 (omega arith)) (simp or-false (narrower (within trail b0) (ltb 0x9F b0))))
+    (λ d. true-or-false (eqb b1 0xF0)
+    (λ f. rw (eqb-true b1 0xF0 f, pending-1 b3 b2 0xF0 (omega arith), above 0x90 b0 (omega arith), below 0x8F b0 (omega arith), high-low 0x8F b0) (simp or-false (wider (within trail b0) (ltb b0 0x90))))
+    (λ f. rw (plain-second p1 (omega arith) d f, d, f) (simp or-false))))
 
 -- a byte that leads no character as far as b0 counts as 0
 pub no-third : (b3 b2 b1 b0 : ℕ) → b3 < 0xF0 → invalid 0 b2 b1 b0 ≡ invalid b3 b2 b1 b0
@@ -139,11 +176,6 @@ no-third b3 b2 b1 b0 h = rw (lt-leb 0xF0 b3 h)
 pub no-second : (b2 b1 b0 : ℕ) → b2 < 0xE0 → invalid 0 0 b1 b0 ≡ invalid 0 b2 b1 b0
 unfolding invalid pending
 no-second b2 b1 b0 h = rw (lt-leb 0xE0 b2 h)
-
--- what stands in no row
-never-low : (b : ℕ) → b < 0xC0 → never b ≡ false
-unfolding never
-never-low b h = simp (lt-leb 0xC0 b h, lt-leb 0xF5 b (omega arith))
 
 pub never-lead : (b : ℕ) → never b ≡ false → 0xC0 ≤ b → (0xC2 ≤ b) × (b < 0xF5)
 unfolding never

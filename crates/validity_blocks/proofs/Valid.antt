@@ -28,7 +28,7 @@ rest-at s k j = rw (← length-drop k s, take-length (drop k s), getD-drop k s j
 pub rest-below : (s : List ℕ) {n : ℕ} (k j : ℕ) → largest s < n → getD (part s k (length s)) j 0 < n
 rest-below s k j h = rw (rest-at s k j) (omega (arith, largest-at s (j + k)))
 
-pub rest-plain : (s : List ℕ) (k j : ℕ) → largest s < 0xED → 0x21 ≤ leastLead s → Plain (getD (part s k (length s)) j 0)
+pub rest-plain : (s : List ℕ) {n : ℕ} (k j : ℕ) → largest s < n → 0x21 ≤ leastLead s → Plain n (getD (part s k (length s)) j 0)
 rest-plain s k j low far = record { far = rw (rest-at s k j) (omega (arith, least-at s (j + k))); low = rest-below s k j low }
 
 -- the same, read from a block and what is left of it from 1, 2 and 3 on

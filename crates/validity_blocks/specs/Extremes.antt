@@ -16,7 +16,7 @@ unfoldable pub leastLead : List ℕ → ℕ
 leastLead [] = 0x40
 leastLead (b ∷ s) = min (fromLead b) (leastLead s)
 
--- a byte that leads nothing, or E1..EC: in their row of Table 3-7 the second byte is any of 80..BF
-pub record Plain (b : ℕ) : Type 0 where
+-- a byte that leads nothing, or E1 and more below `most`: up to EC the second byte is any of 80..BF in Table 3-7
+pub record Plain (most b : ℕ) : Type 0 where
   pub far : 0x21 ≤ fromLead b
-  pub low : b < 0xED
+  pub low : b < most

@@ -2,6 +2,7 @@
 // the shorter. Each function is an inner one: a block begins with the three bytes before it.
 use crate::bytes::invalid;
 use crate::bytes::invalid_plain;
+use crate::bytes::invalid_plain_four;
 use crate::bytes::invalid_three;
 use crate::bytes::invalid_two;
 use crate::extremes::largest;
@@ -81,7 +82,24 @@ fn valid_plain(s: &[u8]) -> bool
     !bad
 }
 
-// The same by the test that the largest byte asks for, and, up to EC, the least lead byte.
+// The same where every lead byte is between E1 and F3.
+fn valid_plain_four(s: &[u8]) -> bool
+    requires { ⌜ (3 ≤ length (now s)) × (largest (now s) < 0xF4) × (0x21 ≤ leastLead (now s)) ⌝ }
+    ensures { λ r. ⌜ r ≡ validFirst (now (s .entry)) (length (now (s .entry)) - 3) ⌝ }
+{
+    let s2 = &s[1..];
+    let s1 = &s[2..];
+    let s0 = &s[3..];
+    let mut bad = false;
+    let mut j = 0;
+    while j < s0.len() {
+        bad = bad | invalid_plain_four(s[j], s2[j], s1[j], s0[j]);
+        j += 1;
+    }
+    !bad
+}
+
+// The same by the test that the largest byte asks for, and, where E1..EC or E1..F3 may be all, the least lead byte.
 pub fn valid_block(s: &[u8]) -> bool
     requires { ⌜ 3 ≤ length (now s) ⌝ }
     ensures { λ r. ⌜ r ≡ validFirst (now (s .entry)) (length (now (s .entry)) - 3) ⌝ }
@@ -100,6 +118,11 @@ pub fn valid_block(s: &[u8]) -> bool
     }
     if most < 0xF0 {
         return valid_three(s);
+    }
+    if most < 0xF4 {
+        if 0x21 <= least_lead(s) {
+            return valid_plain_four(s);
+        }
     }
     valid_four(s)
 }

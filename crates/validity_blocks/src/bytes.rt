@@ -1,6 +1,7 @@
 // Whether a byte cannot stand where it does, told by the bytes before it. The tests have no branch, so that the loops
 // over them are vectorised. Each but the first is an inner one: which bytes it is asked of was seen before.
 use crate::extremes::max;
+use crate::extremes::over;
 ghost use mathlib.Core.Path.{_≡_};
 ghost use Prim.Native.Nat.{_<_};
 ghost use Rattle.validity_blocks.specs.Extremes.{Plain};
@@ -46,9 +47,22 @@ pub fn invalid_two(b1: u8, b0: u8) -> bool
 // The same as `invalid_three` where every lead byte is between E1 and EC:
 // none is `never` or asks for an `odd` second byte.
 pub fn invalid_plain(b2: u8, b1: u8, b0: u8) -> bool
-    requires { ⌜ Plain b2 × Plain b1 × Plain b0 ⌝ }
+    requires { ⌜ Plain 0xED b2 × Plain 0xED b1 × Plain 0xED b0 ⌝ }
     ensures { λ r. ⌜ r ≡ invalid 0 b2 b1 b0 ⌝ }
 {
     let trail = (0x80 <= b0) & (b0 <= 0xBF);
     (0xC0 <= max(b1, b2)) != trail
+}
+
+// The same as `invalid` where every lead byte is between E1 and F3. The ranges from 80 on are one comparison each of
+// signed bytes.
+pub fn invalid_plain_four(b3: u8, b2: u8, b1: u8, b0: u8) -> bool
+    requires { ⌜ Plain 0xF4 b2 × Plain 0xF4 b1 × Plain 0xF4 b0 ⌝ }
+    ensures { λ r. ⌜ r ≡ invalid b3 b2 b1 b0 ⌝ }
+{
+    let pending = 0xC0 <= max(max(b1, b2), over(b3, 0x30));
+    let trail = (0x80 <= b0) & (b0 <= 0xBF);
+    let low = (0x80 <= b0) & (b0 <= 0x9F);
+    let lowest = (0x80 <= b0) & (b0 <= 0x8F);
+    (pending != trail) | ((b1 == 0xED) & !low) | ((b1 == 0xF0) & lowest)
 }

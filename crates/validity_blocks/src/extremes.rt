@@ -1,6 +1,6 @@
 // The largest byte of a text, and its least lead byte: which test a block asks for.
 ghost use mathlib.Core.Path.{_≡_};
-ghost use Prim.Native.Nat.{max, min};
+ghost use Prim.Native.Nat.{_-_, max, min};
 ghost use Rattle.validity_blocks.specs.Extremes.{largest, leastLead};
 
 pub fn max(a: u8, b: u8) -> u8
@@ -19,6 +19,16 @@ fn min(a: u8, b: u8) -> u8
         return b;
     }
     a
+}
+
+// How far `a` is above `b`, or 0.
+pub fn over(a: u8, b: u8) -> u8
+    ensures { λ r. ⌜ r ≡ a - b ⌝ }
+{
+    if b < a {
+        return a - b;
+    }
+    0
 }
 
 // The largest byte, or 0.

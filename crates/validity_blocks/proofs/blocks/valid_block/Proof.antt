@@ -32,4 +32,7 @@ valid-block-spec =
     (λ c κs. (omega arith, omega (arith, whole (c .before .before .before .before))))
     (λ c. search needs)
     (λ c κs. search needs)
+    (λ c κs. (omega arith, omega (arith, whole (c .before .before .before .before .before .before .before)), omega arith))
+    (λ c. search needs)
+    (λ c κs. search needs)
     (λ c. search needs))
