@@ -2,6 +2,7 @@
 pub mod Cases
 pub mod Booleans
 pub mod Splice
+pub mod Over
 pub mod Every
 pub mod Columns
 pub mod Same

@@ -5,8 +5,8 @@ use mathlib.Core.Path.{_≡_, _∙_, ap, refl, sym}
 use mathlib.Core.List.{List, [], _∷_, _++_, append-assoc, append-nil}
 use native.Mathlib.Numerals.{add-one}
 use native.Mathlib.Omega.{arith}
-use lib.ListN.{length, getD, set, take, drop, replicate, length-append, length-take, length-drop, length-set, length-replicate, getD-replicate, take-append-drop, List·getD-append}
-use lib.Seq.{take-at, drop-at, drop-drop, drop-cons, length-take-le, take-length, getD-take, getD-drop, getD-append-add, ext-getD, set-split, take-set-le, set-at, take-append-seam, drop-append-seam, paste, paste-zero, paste-suc}
+use lib.ListN.{length, getD, set, take, drop, replicate, length-append, length-take, length-drop, length-set, length-replicate, getD-replicate, take-append-drop, drop-of-length-le, List·getD-append}
+use lib.Seq.{take-at, drop-at, drop-drop, drop-cons, length-take-le, take-length, getD-take, getD-drop, getD-append-add, ext-getD, set-split, take-set-le, take-take, take-add, set-at, take-append-seam, drop-append-seam, paste, paste-zero, paste-suc}
 use Rattle.buffers.specs.Splice.{part, splice, overlay, Laid}
 
 -- lists in two pieces, and one value many times
@@ -19,6 +19,11 @@ append-cut a b c d l e = (
 pub replicate-same : (k a b : ℕ) → (0 < k → a ≡ b) → replicate k a ≡ replicate k b
 replicate-same zero a b h = refl
 replicate-same (suc k) a b h = ap (replicate (suc k)) (h (omega arith))
+
+pub replicate-front : (n m v : ℕ) → n ≤ m → take n (replicate m v) ≡ replicate n v
+replicate-front zero m v h = refl
+replicate-front (suc n) zero v h = absurd (omega arith)
+replicate-front (suc n) (suc m) v h = ap (_∷_ v) (replicate-front n m v (omega arith))
 
 pub replicate-value : (k a b : ℕ) → 0 < k → replicate k a ≡ replicate k b → a ≡ b
 replicate-value zero a b h e = absurd (omega arith)
@@ -43,6 +48,15 @@ part-same xs ys s e hx hy same =
     let below : i < e - s = omega (arith, length-part xs s e hx) in
     part-index xs s e i below ∙ same (s + i) (omega arith) (omega arith) ∙ sym (part-index ys s e i below))
 
+pub part-append : (xs : List ℕ) (a b c : ℕ) → a ≤ b → b ≤ c → part xs a b ++ part xs b c ≡ part xs a c
+part-append xs a b c h k =
+    let all : (b - a) + (c - b) ≡ c - a = omega arith in
+    let on : a + (b - a) ≡ b = omega arith in
+    sym (rw (all, drop-drop (b - a) a xs, on) at (take-add (b - a) (c - b) (drop a xs)))
+
+pub part-front : (xs : List ℕ) (a b c : ℕ) → b ≤ c → take (b - a) (part xs a c) ≡ part xs a b
+part-front xs a b c h = take-take (b - a) (c - a) (drop a xs) (omega arith)
+
 pub part-end : (xs : List ℕ) (s : ℕ) → part xs s (length xs) ≡ drop s xs
 part-end xs s = rw (← length-drop s xs) (take-length (drop s xs))
 
@@ -51,7 +65,7 @@ pub length-splice : (d : List ℕ) (at : ℕ) (r : List ℕ) → at + length r �
 unfolding splice
 length-splice d at r h = simp (length-append, length-take, length-drop) (omega arith)
 
-length-front : (d r : List ℕ) (at : ℕ) → at ≤ length d → length (take at d ++ r) ≡ at + length r
+pub length-front : (d r : List ℕ) (at : ℕ) → at ≤ length d → length (take at d ++ r) ≡ at + length r
 length-front d r at h = length-append (take at d) r ∙ rw (length-take-le at d h)
 
 pub splice-nil : (d : List ℕ) (at : ℕ) → splice d at [] ≡ d
@@ -102,6 +116,10 @@ store-after d p at b h =
 pub splice-overlay : (d r : List ℕ) → splice d 0 r ≡ overlay r d
 unfolding splice overlay
 splice-overlay d r = let z : 0 + length r ≡ length r = omega arith in rw z
+
+pub splice-whole : (d r : List ℕ) → length r ≡ length d → splice d 0 r ≡ r
+unfolding overlay
+splice-whole d r e = splice-overlay d r ∙ rw (drop-of-length-le d {i = length r} (omega arith)) (append-nil r)
 
 pub take-overlay : (r d : List ℕ) → take (length r) (overlay r d) ≡ r
 unfolding overlay

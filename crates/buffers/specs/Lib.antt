@@ -1,5 +1,6 @@
 -- What the contracts of `buffers`, and of every crate that writes a lent buffer, are said with.
 pub mod Splice
+pub mod Over
 pub mod Every
 pub mod Columns
 pub mod Same

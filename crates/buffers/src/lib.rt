@@ -1,5 +1,6 @@
 // Runs of bytes and of 16-bit numbers, copied or filled into lent buffers.
 // Each function here is an inner one: its callers have measured the room before.
+pub mod blocks;
 pub mod equality;
 
 ghost use mathlib.Core.Path.{_≡_};
