@@ -5,8 +5,8 @@ use crate::every;
 use crate::library::{self, lend, Offsets, RangeCall};
 use crate::lists::{self, List};
 use crate::note::Note;
-use crate::notes;
 use crate::random::Random;
+use crate::ranges::{range, ranges_to, samples_with_faults, sound_notes, Bytes, Sample, FAR};
 use crate::refusals::{ILL_FORMED, MISSING, TOO_LONG};
 use crate::samples::{self, ADDRESSES, DAMAGES, DAMAGES_AT};
 use crate::tally::{self, hex, Report, Tally};
@@ -14,11 +14,6 @@ use crate::texts::{self, KINDS, LIMIT};
 use std::str::from_utf8;
 use tokenizers::normalizer::Range;
 use tokenizers::NormalizedString;
-
-/// Far past every text.
-const FAR: [u32; 4] = [65_535, 65_536, 1 << 31, u32::MAX];
-
-type Bytes = std::ops::Range<usize>;
 
 /// What the Rust original found: a range, and where it hands out a part of a text, that part.
 type Found<'a> = Option<(Bytes, Option<&'a str>)>;
@@ -92,88 +87,25 @@ pub fn compare(report: &mut Report) {
     });
 }
 
-/// A note as the library is lent it and as the Rust original holds it, or the refusal that the second check gives it.
-pub struct Sample {
-    pub lent: Note,
-    theirs: Result<NormalizedString, u32>,
-}
-
-impl From<NormalizedString> for Sample {
-    fn from(note: NormalizedString) -> Self {
-        Sample::from(Note::from(&note))
-    }
-}
-
-impl From<Note> for Sample {
-    fn from(lent: Note) -> Self {
-        let theirs = match lent.refusal() {
-            0 => Ok(lent.of_the_original()),
-            refusal => Err(refusal),
-        };
-        Sample { lent, theirs }
-    }
-}
-
-impl Sample {
-    fn text(&self, of_original: bool) -> &[u8] {
-        if of_original {
-            &self.lent.original
-        } else {
-            &self.lent.normalized
-        }
-    }
-
-    pub fn refusal(&self) -> u32 {
-        self.theirs.as_ref().err().copied().unwrap_or(0)
-    }
-
-    /// Our answer as it has to be, and the part that the Rust original hands out.
-    pub fn expected(&self, call: &Call, of_original: bool, start: u32, end: u32) -> (Offsets, Option<&str>) {
-        let range = start as usize..end as usize;
-        match &self.theirs {
-            Err(refusal) => (Offsets::refused(*refusal), None),
-            Ok(note) => {
-                let range = if of_original { Range::Original(range) } else { Range::Normalized(range) };
-                let (found, part) = (call.theirs)(note, range).unzip();
-                (Offsets::of(found.map(|found| (found.start, found.end))), part.flatten())
-            }
-        }
-    }
-
-    /// An end of a range of one of the texts: anywhere, near what the alignments name, or past it.
-    fn any_end(&self, of_original: bool, random: &mut Random) -> u32 {
-        let len = self.text(of_original).len();
-        let columns = [&self.lent.starts, &self.lent.ends];
-        let near = match *random.choose(&columns) {
-            column if of_original && !column.is_empty() => usize::from(*random.choose(column)),
-            _ => random.below(len + 1),
-        };
-        match random.below(10) {
-            0 => *random.choose(&FAR),
-            1 | 2 => (len + random.below(3)) as u32,
-            3 => 0,
-            4 | 5 => random.below(len + 1) as u32,
-            _ => (near + random.below(3)).saturating_sub(1) as u32,
-        }
-    }
-
-    /// Mostly from the lower end to the higher.
-    fn any_range(&self, of_original: bool, random: &mut Random) -> (u32, u32) {
-        let one = self.any_end(of_original, random);
-        let other = match random.below(3) {
-            0 => one.saturating_add(random.below(5) as u32),
-            _ => self.any_end(of_original, random),
-        };
-        match random.below(8) {
-            0 => (one, other),
-            _ => (one.min(other), one.max(other)),
+/// Our answer as it has to be, and the part that the Rust original hands out.
+pub fn expected<'a>(
+    sample: &'a Sample,
+    call: &Call,
+    of_original: bool,
+    (start, end): (u32, u32),
+) -> (Offsets, Option<&'a str>) {
+    match sample.theirs() {
+        Err(refusal) => (Offsets::refused(refusal), None),
+        Ok(note) => {
+            let (found, part) = (call.theirs)(note, range(of_original, (start, end))).unzip();
+            (Offsets::of(found.map(|found| (found.start, found.end))), part.flatten())
         }
     }
 }
 
 fn convert(tally: &mut Tally, call: &Call, sample: &Sample, of_original: bool, (start, end): (u32, u32)) {
     let ours = library::on_range(call.ours, &sample.lent, of_original, start, end);
-    let (theirs, part) = sample.expected(call, of_original, start, end);
+    let (theirs, part) = expected(sample, call, of_original, (start, end));
     let our_part = (call.reads)(&sample.lent).get(ours.start as usize..ours.end as usize);
     let parts_differ = part.is_some_and(|part| our_part != Some(part.as_bytes()));
     tally.case(tally::refusal(ours.refusal), ours != theirs || parts_differ, || {
@@ -200,33 +132,6 @@ fn convert_any_ranges(tally: &mut Tally, call: &Call, sample: &Sample, count: us
             convert(tally, call, sample, of_original, sample.any_range(of_original, random));
         }
     }
-}
-
-/// Every pair of ends up to `last`, and of these and far ones.
-fn ranges_to(last: usize) -> Vec<(u32, u32)> {
-    let ends: Vec<u32> = (0..=last as u32).chain(FAR).collect();
-    ends.iter().flat_map(|&start| ends.iter().map(move |&end| (start, end))).collect()
-}
-
-/// Every sound note with texts of up to 4 bytes in characters of one and two bytes, by turns without a shift and with
-/// the largest.
-fn sound_notes() -> impl Iterator<Item = Sample> {
-    let texts = |one, two| {
-        let mut texts: Vec<String> = every::list(&["", one, two], 4).map(|characters| characters.concat()).collect();
-        texts.retain(|text: &String| text.len() <= 4);
-        texts.sort();
-        texts.dedup();
-        texts
-    };
-    let normalized = texts("b", "ů");
-    let pairs = texts("a", "é")
-        .into_iter()
-        .flat_map(move |original| normalized.clone().into_iter().map(move |normalized| (original.clone(), normalized)));
-    let notes = pairs.flat_map(|(original, normalized)| samples::sound_notes(&original, &normalized));
-    notes.enumerate().map(|(i, note)| {
-        let shift = if i % 2 == 0 { 0 } else { LIMIT - note.original.len() };
-        Sample::from(Note { original_shift: shift as u32, ..note })
-    })
 }
 
 fn every_sound_note(tally: &mut Tally, call: &Call) {
@@ -257,10 +162,6 @@ fn every_set_of_faults(tally: &mut Tally, call: &Call) {
             }
         }
     }
-}
-
-fn samples_with_faults() -> impl Iterator<Item = Sample> {
-    notes::with_faults().map(|(_, note)| Sample::from(note))
 }
 
 fn sizes_around_the_limit(tally: &mut Tally, call: &Call) {
@@ -337,7 +238,7 @@ fn nothing_anywhere(tally: &mut Tally, call: &Call) {
         for of_original in [false, true] {
             for (start, end) in ranges_to(2) {
                 let ours = unsafe { (call.ours)(text, 0, text, 0, column, 0, column, 0, 0, of_original, start, end) };
-                let (theirs, _) = nothing.expected(call, of_original, start, end);
+                let (theirs, _) = expected(&nothing, call, of_original, (start, end));
                 tally.case(tally::refusal(ours.refusal), ours != theirs, || {
                     format!("ours {ours:?}, theirs {theirs:?}, on {start}..{end} of nothing at {address:#x}")
                 });
@@ -469,7 +370,7 @@ fn convert_list(tally: &mut Tally, sample: &Sample, of_original: bool, list: &Li
         sample.refusal(),
         |from, to, out| library::convert_all(&sample.lent, of_original, from, to, out),
         |from, to| library::convert_offsets(&sample.lent, of_original, from, to),
-        |from, to| sample.expected(&CONVERT_OFFSETS, of_original, from, to).0,
+        |from, to| expected(sample, &CONVERT_OFFSETS, of_original, (from, to)).0,
         || format!("the {text} text of {}", sample.lent),
     );
 }

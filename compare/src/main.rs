@@ -20,6 +20,7 @@ mod places;
 mod positions;
 mod program;
 mod random;
+mod ranges;
 mod redact;
 mod refusals;
 mod replace;

@@ -1,11 +1,12 @@
 //! Place lists: their bytes, a second judge of them written from docs/RULES.md, and lists to compare on.
 
+use crate::note::Note;
 use crate::random::Random;
-use crate::texts;
+use crate::texts::{self, Kind, LIMIT};
 use std::cell::Cell;
 use std::iter::once;
 use tokenizers::pattern::Pattern;
-use tokenizers::{Offsets, Result};
+use tokenizers::{NormalizedString, Offsets, Result};
 
 /// As the Rust original has it: start and end, and whether it is matched.
 pub type Place = (Offsets, bool);
@@ -101,11 +102,72 @@ pub fn any(text: &str, cuts: usize, random: &mut Random) -> Vec<Place> {
     ends.push(text.len());
     ends.sort();
     let one_matched_in = 1 + random.below(4);
-    let mut start = 0;
-    let mut place = |end| {
-        let place = ((start, end), random.below(one_matched_in) == 0);
-        start = end;
-        place
-    };
-    ends.into_iter().map(&mut place).collect()
+    of_ends(ends, || random.below(one_matched_in) == 0)
+}
+
+/// The places that end at these, one behind the other.
+fn of_ends(ends: Vec<usize>, mut matched: impl FnMut() -> bool) -> Vec<Place> {
+    let starts: Vec<usize> = once(0).chain(ends.iter().copied()).collect();
+    starts.into_iter().zip(ends).map(|offsets| (offsets, matched())).collect()
+}
+
+/// Places of a text that end within two of each multiple of 64, any of them matched.
+pub fn near_blocks(text: &str, random: &mut Random) -> Vec<Place> {
+    let near = |block: usize| texts::boundary_before(text, (64 * block + random.below(5) - 2).min(text.len()));
+    let ends = (1..=text.len() / 64).map(near).chain([text.len()]).collect();
+    of_ends(ends, || random.below(2) == 0)
+}
+
+/// Notes and lists whose bytes are damaged.
+pub fn lists_to_damage() -> Vec<(Note, Vec<u8>)> {
+    let mut lists = vec![];
+    for text in ["", "a", "ab", "aéb"] {
+        for places in every(text, 1) {
+            lists.push((NormalizedString::from(text), places));
+        }
+    }
+    let mut random = Random::new(43);
+    let long = [(20_000, 3, Kind::Mixed), (LIMIT, 4, Kind::Ascii), (LIMIT, 3, Kind::Any)];
+    let short = texts::KINDS.into_iter().flat_map(|kind| [(200, 9, kind), (600, 14, kind)]);
+    for (len, cuts, kind) in short.chain(long) {
+        let text = texts::text(kind, len, &mut random);
+        let places = any(&text, cuts, &mut random);
+        lists.push((NormalizedString::from(text), places));
+    }
+    lists.iter().map(|(note, places)| (Note::from(note), bytes(places))).collect()
+}
+
+const BYTES: [u8; 12] = [0, 1, 2, 4, 10, 11, 12, 13, 0x7F, 0x80, 0xFE, 0xFF];
+
+/// A list with every byte changed, cut off, added, left out, and every place left out, doubled, swapped; each in words.
+pub fn damaged(list: &[u8]) -> Vec<(String, Vec<u8>)> {
+    let mut lists = vec![("whole".into(), list.to_vec())];
+    let mut damaged = |made: &str, i: usize, list: Vec<u8>| lists.push((format!("{made} at {i}"), list));
+    let every: Vec<u8> = (0..=255).collect();
+    let values = if list.len() > 15 { &BYTES[..] } else { &every };
+    for i in 0..list.len() {
+        let near = [list[i].wrapping_sub(1), list[i].wrapping_add(1), list[i] ^ 0x80, list[i] ^ 1];
+        for &value in values.iter().chain(&near) {
+            let mut changed = list.to_vec();
+            changed[i] = value;
+            damaged("changed", i, changed);
+        }
+        damaged("cut", i, list[..i].to_vec());
+        damaged("left out", i, [&list[..i], &list[i + 1..]].concat());
+    }
+    for i in 0..=list.len() {
+        let values = if i == list.len() { &every[..] } else { &BYTES };
+        for &value in values {
+            damaged("added", i, [&list[..i], &[value], &list[i..]].concat());
+        }
+    }
+    for i in (0..list.len()).step_by(5) {
+        let (before, place, behind) = (&list[..i], &list[i..i + 5], &list[i + 5..]);
+        damaged("place left out", i, [before, behind].concat());
+        damaged("place doubled", i, [before, place, place, behind].concat());
+        if let Some((next, behind)) = behind.split_at_checked(5) {
+            damaged("places swapped", i, [before, next, place, behind].concat());
+        }
+    }
+    lists
 }

@@ -11,7 +11,7 @@ use crate::random::Random;
 use crate::refusals::{BAD_MATCHES, ILL_FORMED, LENGTH_MISMATCH, MISALIGNED, NO_ROOM, TOO_LONG};
 use crate::samples::{self, sound_notes, ADDRESSES, FILLERS};
 use crate::tally::{self, hex, Report, Tally};
-use crate::texts::{self, Kind, LIMIT};
+use crate::texts::{self, LIMIT};
 use std::str::from_utf8;
 use tokenizers::pattern::Pattern;
 use tokenizers::NormalizedString;
@@ -271,60 +271,12 @@ fn fillers_and_lists_past_the_limit(tally: &mut Tally) {
     plainly(tally, &note, &unmatched, "x", rooms);
 }
 
-/// Notes and lists whose bytes are damaged.
-fn lists_to_damage() -> Vec<(Note, Vec<u8>)> {
-    let mut lists = vec![];
-    for text in ["", "a", "ab", "aéb"] {
-        for places in places::every(text, 1) {
-            lists.push((NormalizedString::from(text), places));
-        }
-    }
-    let mut random = Random::new(43);
-    let long = [(20_000, 3, Kind::Mixed), (LIMIT, 4, Kind::Ascii), (LIMIT, 3, Kind::Any)];
-    let short = texts::KINDS.into_iter().flat_map(|kind| [(200, 9, kind), (600, 14, kind)]);
-    for (len, cuts, kind) in short.chain(long) {
-        let text = texts::text(kind, len, &mut random);
-        let places = places::any(&text, cuts, &mut random);
-        lists.push((NormalizedString::from(text), places));
-    }
-    lists.iter().map(|(note, places)| (Note::from(note), places::bytes(places))).collect()
-}
-
-const BYTES: [u8; 12] = [0, 1, 2, 4, 10, 11, 12, 13, 0x7F, 0x80, 0xFE, 0xFF];
-
 fn damaged_lists(tally: &mut Tally) {
     tally.family("every byte of a list changed, cut off, added, left out; every place left out, doubled, swapped");
-    for (note, list) in lists_to_damage() {
+    for (note, list) in places::lists_to_damage() {
         let rooms = if list.len() > 15 { ample } else { ample_or_none };
-        let mut damaged = |made: &str, i: usize, list: Vec<u8>| {
-            replace(tally, (&note, &list, b"x"), rooms, || format!("{made} at {i}"));
-        };
-        let every: Vec<u8> = (0..=255).collect();
-        let values = if list.len() > 15 { &BYTES[..] } else { &every };
-        damaged("whole", 0, list.clone());
-        for i in 0..list.len() {
-            let near = [list[i].wrapping_sub(1), list[i].wrapping_add(1), list[i] ^ 0x80, list[i] ^ 1];
-            for &value in values.iter().chain(&near) {
-                let mut changed = list.clone();
-                changed[i] = value;
-                damaged("changed", i, changed);
-            }
-            damaged("cut", i, list[..i].to_vec());
-            damaged("left out", i, [&list[..i], &list[i + 1..]].concat());
-        }
-        for i in 0..=list.len() {
-            let values = if i == list.len() { &every[..] } else { &BYTES };
-            for &value in values {
-                damaged("added", i, [&list[..i], &[value], &list[i..]].concat());
-            }
-        }
-        for i in (0..list.len()).step_by(5) {
-            let (before, place, behind) = (&list[..i], &list[i..i + 5], &list[i + 5..]);
-            damaged("place left out", i, [before, behind].concat());
-            damaged("place doubled", i, [before, place, place, behind].concat());
-            if let Some((next, behind)) = behind.split_at_checked(5) {
-                damaged("places swapped", i, [before, next, place, behind].concat());
-            }
+        for (made, list) in places::damaged(&list) {
+            replace(tally, (&note, &list, b"x"), rooms, || made.clone());
         }
     }
 }

@@ -11,6 +11,7 @@ use crate::note::Note;
 use crate::notes::{self, FAULTS};
 use crate::places::{self, Place};
 use crate::positions;
+use crate::ranges::Sample;
 use crate::replace;
 use crate::texts::LIMIT;
 use std::str::from_utf8;
@@ -60,8 +61,8 @@ fn faulty_notes() -> impl Iterator<Item = Note> {
 /// start, end.
 fn on_range(answers: &mut Answers, call: &Call, note: &Note, of_original: bool, (start, end): (usize, usize)) {
     let (start, end) = (start as u32, end as u32);
-    let sample = convert::Sample::from(note.clone());
-    let answer = sample.expected(call, of_original, start, end).0;
+    let sample = Sample::from(note.clone());
+    let answer = convert::expected(&sample, call, of_original, (start, end)).0;
     answers.answer().note(note).number(of_original.into()).number(start).number(end);
     answers.number(answer.refusal).number(answer.start).number(answer.end);
 }
@@ -146,10 +147,10 @@ fn converted_lists() -> Answers {
     let sound = [fresh, replaced].map(|note| (note, lists()));
     let faulty = faulty_notes().map(|note| (note, vec![List::of(&[(0, 1)])]));
     for (note, lists) in sound.into_iter().chain(faulty) {
-        let sample = convert::Sample::from(note);
+        let sample = Sample::from(note);
         for (list, of_original) in lists.iter().zip([true, false].into_iter().cycle()) {
             answers.answer().note(&sample.lent).number(of_original.into());
-            let answer = |from, to| sample.expected(&CONVERT_OFFSETS, of_original, from, to).0;
+            let answer = |from, to| convert::expected(&sample, &CONVERT_OFFSETS, of_original, (from, to)).0;
             of_list(&mut answers, list, sample.refusal(), answer);
         }
     }
@@ -330,7 +331,14 @@ fn redact(answers: &mut Answers, strings: [&[u8]; 3], rooms: impl Fn([usize; 6])
     let nothing = || Note { original: vec![], normalized: vec![], starts: vec![], ends: vec![], original_shift: 0 };
     let result = redaction(text, literal, content);
     let sizes = result.as_ref().map_or([9; 6], |(list, note, result)| {
-        [list.len(), note.starts.len(), note.ends.len(), result.normalized.len(), result.starts.len(), result.ends.len()]
+        [
+            list.len(),
+            note.starts.len(),
+            note.ends.len(),
+            result.normalized.len(),
+            result.starts.len(),
+            result.ends.len(),
+        ]
     });
     for room in rooms(sizes) {
         let (refusal, (list, note, result)) = match &result {
