@@ -1,169 +1,162 @@
--- Places laid into the three buffers: what one place needs and gives, and a list that has been laid down up to a place.
-use Prim.Native.Nat.{ℕ, _+_, _-_, _≤_, _<_}
-use mathlib.Core.Path.{_≡_, _∙_, refl, sym}
+-- Places laid into a buffer: what one place needs and gives, and a list that has been laid down up to a place.
+use Prim.Native.Nat.{ℕ, _+_, _-_, _≤_, _<_, min}
+use mathlib.Core.Path.{_≡_, _∙_, ap, refl, sym}
 use mathlib.Core.Bool.{true, false}
-use mathlib.Core.List.{List, [], _++_}
+use mathlib.Core.List.{List, [], _∷_, _++_}
 use native.Mathlib.Omega.{arith}
 use lib.ListN.{length, replicate, drop, length-append, length-replicate}
-use Rattle.buffers.specs.Splice.{splice, overlay}
-use Rattle.buffers.proofs.Splice.{Laying, none-laid, piece-laid, all-laid, laying-size}
+use lib.Seq.{take-length}
+use Rattle.buffers.specs.Splice.{part, splice}
+use Rattle.buffers.specs.Over.{Over, Source}
+use Rattle.buffers.proofs.Splice.{length-part, splice-overlay, take-overlay}
+use Rattle.buffers.proofs.Over.{Reaching, none-reached, run-reached, all-reached, reaching-size}
 use Rattle.note.specs.Notes.{beforeEnd}
 use Rattle.pattern.specs.declared.Place.{Place}
 use Rattle.pattern.specs.declared.Entry.{Entry}
 use Rattle.pattern.specs.declared.Entry.the-variants.{At, Broken}
 use Rattle.pattern.specs.Entries.{entryAt, placesOf}
-use Rattle.pattern.specs.Places.{fitsAt, coversFrom}
+use Rattle.pattern.specs.Places.{coversFrom}
 use Rattle.pattern.proofs.Entries.{Stepped, entry-step, entry-broken, entries-end}
-use Rattle.pattern.proofs.Places.{Span, fits-span, covers-first, covers-rest}
+use Rattle.pattern.proofs.Places.{Span, covers-first, covers-rest, covers-span}
 use Rattle.replace.specs.Replacing.{piece, laid, carried}
-use Rattle.replace.specs.Sizes.{sizeOf}
-use Rattle.replace.specs.Laying.{KeepRoom, Kept, ContentRoom, ContentLaid, Fitting, PlaceLaid, Ready, AllLaid}
+use Rattle.replace.specs.Sizes.{sizeOf, sizes}
+use Rattle.replace.specs.Laying.{PlaceRoom, PlaceLaid, ColumnReady, ColumnLaid, Ready}
 use Rattle.replace.proofs.Sizes.{size-matched, size-unmatched, length-piece, length-laid}
 use Rattle.replace.proofs.Laid.{piece-matched, piece-unmatched}
 
-pub content-laid : (starts ends : List ℕ) (to : ℕ) (content out₀ starts₀ ends₀ : List ℕ) (at : ℕ) {out starts₁ ends₁ : List ℕ} {s e : ℕ} → s ≡ beforeEnd starts to → e ≡ beforeEnd ends to → out ≡ splice out₀ at content → starts₁ ≡ splice starts₀ at (replicate (length content) s) → ends₁ ≡ splice ends₀ at (replicate (length content) e) → ContentLaid starts ends to content out₀ starts₀ ends₀ at out starts₁ ends₁
-content-laid starts ends to content out₀ starts₀ ends₀ at is ie o p q = record { text-is = o; starts-are = rw is at p; ends-are = rw ie at q }
-
--- one place
-module _ {text starts ends content : List ℕ} {p : Place} {out₀ starts₀ ends₀ : List ℕ} {at : ℕ} (f : Fitting text starts ends content p out₀ starts₀ ends₀ at) where
-  span : Span text (f .from) p
-  span = fits-span text (f .from) p (f .fits)
-
-  pub keep-room : p .matched ≡ false → KeepRoom text starts ends (p .start .0) (p .end .0) out₀ starts₀ ends₀ at
-  keep-room u =
-      let here : Span text (f .from) p = span in
-      let size : sizeOf (length content) p ≡ p .end .0 - p .start .0 = size-unmatched p (length content) u in
+-- one place: its elements where it is unmatched, and what stands in its place where it is matched
+module _ {column : List ℕ} {wide : ℕ} {p : Place} {until : ℕ} {d : List ℕ} {at : ℕ} (r : PlaceRoom column wide p until d at) where
+  pub place-source : p .matched ≡ false → Source column (p .start .0) (p .end .0) d at until
+  place-source u =
       record {
-        onward = omega (arith, here .from, here .onward);
-        in-text = here .inside;
-        in-starts = omega (arith, here .inside, f .one-start);
-        in-ends = omega (arith, here .inside, f .one-end);
-        text-room = omega (arith, size, f .text-room);
-        starts-room = omega (arith, size, f .starts-room);
-        ends-room = omega (arith, size, f .ends-room);
+        onward = r .onward;
+        inside = r .inside;
+        room = omega (arith, r .room, size-unmatched p wide u);
+        until-room = r .until-room;
       }
 
-  pub content-room : p .matched ≡ true → ContentRoom starts ends (p .end .0) content out₀ starts₀ ends₀ at
-  content-room t =
-      let here : Span text (f .from) p = span in
-      let size : sizeOf (length content) p ≡ length content = size-matched p (length content) t in
-      record {
-        in-starts = omega (arith, here .inside, f .one-start);
-        in-ends = omega (arith, here .inside, f .one-end);
-        text-room = omega (arith, size, f .text-room);
-        starts-room = omega (arith, size, f .starts-room);
-        ends-room = omega (arith, size, f .ends-room);
-      }
+  pub content-source : (filler : List ℕ) → p .matched ≡ true → wide ≤ length filler → Source filler 0 wide d at until
+  content-source filler t h =
+      record { onward = omega arith; inside = h; room = omega (arith, r .room, size-matched p wide t); until-room = r .until-room }
 
-module _ {text starts ends content : List ℕ} {p : Place} {out₀ starts₀ ends₀ : List ℕ} {at : ℕ} {out starts₁ ends₁ : List ℕ} where
-  pub laid-unmatched : p .matched ≡ false → Kept text starts ends (p .start .0) (p .end .0) out₀ starts₀ ends₀ at out starts₁ ends₁ → PlaceLaid text starts ends content p out₀ starts₀ ends₀ at (at + (p .end .0 - p .start .0)) out starts₁ ends₁
-  laid-unmatched u k =
-      record {
-        reached = rw (size-unmatched p (length content) u);
-        text-is = rw (piece-unmatched (λ end. content) p text u) (k .text-is);
-        starts-are = rw (piece-unmatched (carried (length content) starts) p starts u) (k .starts-are);
-        ends-are = rw (piece-unmatched (carried (length content) ends) p ends u) (k .ends-are);
-      }
+  pub content-room : p .matched ≡ true → (at + wide ≤ length d) × (until ≤ length d)
+  content-room t = (omega (arith, r .room, size-matched p wide t), r .until-room)
 
-  pub laid-matched : p .matched ≡ true → ContentLaid starts ends (p .end .0) content out₀ starts₀ ends₀ at out starts₁ ends₁ → PlaceLaid text starts ends content p out₀ starts₀ ends₀ at (at + length content) out starts₁ ends₁
-  laid-matched t k =
-      record {
-        reached = rw (size-matched p (length content) t);
-        text-is = rw (piece-matched (λ end. content) p text t) (k .text-is);
-        starts-are = rw (piece-matched (carried (length content) starts) p starts t) (k .starts-are);
-        ends-are = rw (piece-matched (carried (length content) ends) p ends t) (k .ends-are);
-      }
+module _ (fill : ℕ → List ℕ) (column : List ℕ) (wide : ℕ) (p : Place) {until : ℕ} {d₀ : List ℕ} {at : ℕ} {d : List ℕ} where
+  pub place-kept : p .matched ≡ false → Over (part column (p .start .0) (p .end .0)) d₀ at until d → PlaceLaid fill column wide p until d₀ at (at + (p .end .0 - p .start .0)) d
+  place-kept u o = record { reached = rw (size-unmatched p wide u); holds = rw (piece-unmatched fill p column u) o }
 
--- what a column has given into d up to the place at i
-abbrev Column : (ℕ → List ℕ) → List ℕ → List ℕ → ℕ → List ℕ → ℕ → List ℕ → Type 0
-Column f list xs i d₀ at d = Laying (laid f (placesOf list) xs) (laid f (placesOf (drop i list)) xs) d₀ at d
+  pub place-filled : p .matched ≡ true → Over (fill (p .end .0)) d₀ at until d → PlaceLaid fill column wide p until d₀ at (at + wide) d
+  place-filled t o = record { reached = rw (size-matched p wide t); holds = rw (piece-matched fill p column t) o }
 
-module _ (text : List ℕ) (f : ℕ → List ℕ) (wide : ℕ) (list xs : List ℕ) (lx : length xs ≡ length text) (lf : (e : ℕ) → length (f e) ≡ wide) {d₀ : List ℕ} {at : ℕ} {d : List ℕ} where
-  module _ {i : ℕ} {p : Place} {next : ℕ} (from : ℕ) (s : Stepped list i p next) (c : coversFrom text from (placesOf (drop i list)) ≡ true) (l : Column f list xs i d₀ at d) where
-    fits : fitsAt text from p ≡ true
-    fits = covers-first text from p (placesOf (drop next list)) (rw (s .places) at c)
+-- the same by the number that the column has before the end
+pub carried-filled : (column : List ℕ) (wide : ℕ) (p : Place) {until : ℕ} {d₀ : List ℕ} {at : ℕ} {d : List ℕ} {x : ℕ} → p .matched ≡ true → x ≡ beforeEnd column (p .end .0) → Over (replicate wide x) d₀ at until d → PlaceLaid (carried wide column) column wide p until d₀ at (at + wide) d
+carried-filled column wide p t is o = place-filled (carried wide column) column wide p t (rw is at o)
 
-    column-room : at + sizeOf wide p ≤ length d
-    unfolding laid
-    column-room =
-        let room : at + length (piece f p xs ++ laid f (placesOf (drop next list)) xs) ≤ length d = rw (s .places) at (l .room) in
-        omega (arith, length-append (piece f p xs) (laid f (placesOf (drop next list)) xs), length-piece text xs f wide from p lx lf fits)
-
-    column-next : (at₁ : ℕ) (d₁ : List ℕ) → at₁ ≡ at + sizeOf wide p → d₁ ≡ splice d at (piece f p xs) → Column f list xs next d₀ at₁ d₁
-    unfolding laid
-    column-next at₁ d₁ e is =
-        piece-laid (laid f (placesOf list) xs) (piece f p xs) (laid f (placesOf (drop next list)) xs) d₀ at d (rw (s .places) at l) at₁ d₁
-        (e ∙ rw (length-piece text xs f wide from p lx lf fits)) is
-
-column-done : (f : ℕ → List ℕ) (list xs : List ℕ) (i : ℕ) {d₀ : List ℕ} {at : ℕ} {d : List ℕ} → placesOf (drop i list) ≡ [] → Column f list xs i d₀ at d → (d ≡ overlay (laid f (placesOf list) xs) d₀) × (at ≡ length (laid f (placesOf list) xs))
-unfolding laid
-column-done f list xs i {d₀} {at} {d} none l =
-    let k : Laying (laid f (placesOf list) xs) [] d₀ at d = rw none at l in
-    (all-laid (laid f (placesOf list) xs) d₀ at d k, omega (arith, laying-size (laid f (placesOf list) xs) [] d₀ at d k))
-
-carried-wide : (k : ℕ) (xs : List ℕ) (e : ℕ) → length (carried k xs e) ≡ k
-carried-wide k xs e = length-replicate k (beforeEnd xs e)
-
--- the places before i are laid down, up to `at`
-pub record Going (text starts ends list content out₀ starts₀ ends₀ : List ℕ) (at i : ℕ) (out starts₁ ends₁ : List ℕ) : Type 0 where
+-- of a column the places before i are laid down, up to `at`
+pub record Going (fill : ℕ → List ℕ) (column list : List ℕ) (wide until : ℕ) (d₀ : List ℕ) (at i : ℕ) (d : List ℕ) : Type 0 where
+  pub text : List ℕ
+  pub long : length column ≡ length text
+  pub wides : (e : ℕ) → length (fill e) ≡ wide
+  pub below : until ≤ length (laid fill (placesOf list) column)
   pub from : ℕ
   pub covered : coversFrom text from (placesOf (drop i list)) ≡ true
   pub inside : i ≤ length list
-  pub text-laid : Column (λ end. content) list text i out₀ at out
-  pub starts-laid : Column (carried (length content) starts) list starts i starts₀ at starts₁
-  pub ends-laid : Column (carried (length content) ends) list ends i ends₀ at ends₁
+  pub reaching : Reaching (laid fill (placesOf list) column) (laid fill (placesOf (drop i list)) column) d₀ at d
 
-module _ {text starts ends list content out₀ starts₀ ends₀ : List ℕ} (r : Ready text starts ends list content out₀ starts₀ ends₀) where
-  pub none-going : Going text starts ends list content out₀ starts₀ ends₀ 0 0 out₀ starts₀ ends₀
-  none-going =
-      record {
-        from = 0;
-        covered = r .covered;
-        inside = omega arith;
-        text-laid = none-laid _ _ (rw (length-laid text text (λ end. content) (length content) 0 (placesOf list) refl (λ e. refl) (r .covered)) (r .text-room));
-        starts-laid = none-laid _ _ (rw (length-laid text starts (carried (length content) starts) (length content) 0 (placesOf list) (r .one-start) (carried-wide (length content) starts) (r .covered)) (r .starts-room));
-        ends-laid = none-laid _ _ (rw (length-laid text ends (carried (length content) ends) (length content) 0 (placesOf list) (r .one-end) (carried-wide (length content) ends) (r .covered)) (r .ends-room));
-      }
+pub none-going : (fill : ℕ → List ℕ) {column list : List ℕ} {wide until : ℕ} {d : List ℕ} → ((e : ℕ) → length (fill e) ≡ wide) → ColumnReady column list wide until d → Going fill column list wide until d 0 0 d
+none-going fill {column} {list} {wide} wides r =
+    let size : length (laid fill (placesOf list) column) ≡ sizes wide (placesOf list) = length-laid (r .text) column fill wide 0 (placesOf list) (r .long) wides (r .covered) in
+    record {
+      text = r .text;
+      long = r .long;
+      wides = wides;
+      below = omega (arith, r .below);
+      from = 0;
+      covered = r .covered;
+      inside = omega arith;
+      reaching = none-reached _ _ (omega (arith, r .room));
+    }
 
-  module _ {at i : ℕ} {out starts₁ ends₁ : List ℕ} (g : Going text starts ends list content out₀ starts₀ ends₀ at i out starts₁ ends₁) where
-    module _ {entry : Entry} {p : Place} {next : ℕ} (is : entry ≡ entryAt list i) (there : entry ≡ At p next) where
-      step : Stepped list i p next
-      step = entry-step list is there
+module _ {fill : ℕ → List ℕ} {column list : List ℕ} {wide until : ℕ} {d₀ : List ℕ} {at i : ℕ} {d : List ℕ} (g : Going fill column list wide until d₀ at i d) where
+  module _ {entry : Entry} {p : Place} {next : ℕ} (is : entry ≡ entryAt list i) (there : entry ≡ At p next) where
+    step : Stepped list i p next
+    step = entry-step list is there
 
-      pub fitting : Fitting text starts ends content p out starts₁ ends₁ at
-      fitting =
-          record {
-            one-start = r .one-start;
-            one-end = r .one-end;
-            from = g .from;
-            fits = fits text (λ end. content) (length content) list text refl (λ e. refl) (g .from) step (g .covered) (g .text-laid);
-            text-room = column-room text (λ end. content) (length content) list text refl (λ e. refl) (g .from) step (g .covered) (g .text-laid);
-            starts-room = column-room text (carried (length content) starts) (length content) list starts (r .one-start) (carried-wide (length content) starts) (g .from) step (g .covered) (g .starts-laid);
-            ends-room = column-room text (carried (length content) ends) (length content) list ends (r .one-end) (carried-wide (length content) ends) (g .from) step (g .covered) (g .ends-laid);
-          }
+    covered-here : coversFrom (g .text) (g .from) (p ∷ placesOf (drop next list)) ≡ true
+    covered-here = rw (step .places) at (g .covered)
 
-      pub going-on : {at₁ : ℕ} {out₂ starts₂ ends₂ : List ℕ} → PlaceLaid text starts ends content p out starts₁ ends₁ at at₁ out₂ starts₂ ends₂ → Going text starts ends list content out₀ starts₀ ends₀ at₁ next out₂ starts₂ ends₂
-      going-on l =
-          record {
-            from = p .end .0;
-            covered = covers-rest text (g .from) p (placesOf (drop next list)) (rw (step .places) at (g .covered));
-            inside = step .most;
-            text-laid = column-next text (λ end. content) (length content) list text refl (λ e. refl) (g .from) step (g .covered) (g .text-laid) _ _ (l .reached) (l .text-is);
-            starts-laid = column-next text (carried (length content) starts) (length content) list starts (r .one-start) (carried-wide (length content) starts) (g .from) step (g .covered) (g .starts-laid) _ _ (l .reached) (l .starts-are);
-            ends-laid = column-next text (carried (length content) ends) (length content) list ends (r .one-end) (carried-wide (length content) ends) (g .from) step (g .covered) (g .ends-laid) _ _ (l .reached) (l .ends-are);
-          }
+    size : length (piece fill p column) ≡ sizeOf wide p
+    size = length-piece (g .text) column fill wide (g .from) p (g .long) (g .wides) (covers-first (g .text) (g .from) p (placesOf (drop next list)) covered-here)
 
-    gone : placesOf (drop i list) ≡ [] → AllLaid text starts ends list content out₀ starts₀ ends₀ at out starts₁ ends₁
-    gone none =
+    here : Reaching (laid fill (placesOf list) column) (piece fill p column ++ laid fill (placesOf (drop next list)) column) d₀ at d
+    unfolding laid
+    here = rw (step .places) at (g .reaching)
+
+    pub place-room : PlaceRoom column wide p until d at
+    place-room =
+        let span : Span (g .text) (g .from) p = covers-span (g .text) (g .from) p (placesOf (drop next list)) covered-here in
         record {
-          reached = column-done (λ end. content) list text i none (g .text-laid) .1;
-          text-is = column-done (λ end. content) list text i none (g .text-laid) .0;
-          starts-are = column-done (carried (length content) starts) list starts i none (g .starts-laid) .0;
-          ends-are = column-done (carried (length content) ends) list ends i none (g .ends-laid) .0;
+          onward = omega (arith, span .from, span .onward);
+          inside = omega (arith, span .inside, g .long);
+          room = omega (arith, here .room, size, length-append (piece fill p column) (laid fill (placesOf (drop next list)) column));
+          until-room = omega (arith, g .below, here .room, reaching-size here);
         }
 
-    pub broken-gone : {entry : Entry} → i < length list → entry ≡ entryAt list i → entry ≡ Broken → AllLaid text starts ends list content out₀ starts₀ ends₀ at out starts₁ ends₁
-    broken-gone h is e = gone (entry-broken list h is e .0)
+    pub going-on : {at₁ : ℕ} {d₁ : List ℕ} → PlaceLaid fill column wide p until d at at₁ d₁ → Going fill column list wide until d₀ at₁ next d₁
+    going-on l =
+        record {
+          text = g .text;
+          long = g .long;
+          wides = g .wides;
+          below = g .below;
+          from = p .end .0;
+          covered = covers-rest (g .text) (g .from) p (placesOf (drop next list)) covered-here;
+          inside = step .most;
+          reaching = run-reached (piece fill p column) _ here (g .below) (l .reached ∙ rw size) (l .holds);
+        }
 
-    pub all-gone : length list ≤ i → AllLaid text starts ends list content out₀ starts₀ ends₀ at out starts₁ ends₁
-    all-gone h = gone (entries-end list h .0)
+    pub going-less : length list - next < length list - i
+    going-less = omega (arith, step .onward, step .most)
+
+  gone : placesOf (drop i list) ≡ [] → ColumnLaid fill column list d₀ at d
+  unfolding laid
+  gone none =
+      let all : Reaching (laid fill (placesOf list) column) [] d₀ at d = rw none at (g .reaching) in
+      record { reached = omega (arith, reaching-size all); holds = all-reached all }
+
+  pub broken-gone : {entry : Entry} → i < length list → entry ≡ entryAt list i → entry ≡ Broken → ColumnLaid fill column list d₀ at d
+  broken-gone h is e = gone (entry-broken list h is e .0)
+
+  pub all-gone : length list ≤ i → ColumnLaid fill column list d₀ at d
+  all-gone h = gone (entries-end list h .0)
+
+-- as many elements for each place
+pub carried-wide : (k : ℕ) (xs : List ℕ) (e : ℕ) → length (carried k xs e) ≡ k
+carried-wide k xs e = length-replicate k (beforeEnd xs e)
+
+pub filler-wide : (filler : List ℕ) (wide : ℕ) → wide ≤ length filler → (e : ℕ) → length (part filler 0 wide) ≡ wide
+filler-wide filler wide h e = omega (arith, length-part filler 0 wide h)
+
+-- a content that stands in front of its padding, or alone
+pub content-padded : (content zeros : List ℕ) {padded : List ℕ} → padded ≡ splice zeros 0 content → part padded 0 (length content) ≡ content
+content-padded content zeros is =
+    let all : length content - 0 ≡ length content = omega arith in
+    rw (is, all, splice-overlay zeros content) (take-overlay content zeros)
+
+pub content-alone : (content : List ℕ) → part content 0 (length content) ≡ content
+content-alone content = let all : length content - 0 ≡ length content = omega arith in rw all (take-length content)
+
+pub filled-by : (text list d₀ : List ℕ) {a content : List ℕ} {r : ℕ} {d : List ℕ} → a ≡ content → ColumnLaid (λ end. a) text list d₀ r d → ColumnLaid (λ end. content) text list d₀ r d
+filled-by text list d₀ is l = rw is at l
+
+-- the three columns, one after the other, below a size that was measured
+module _ {text starts ends list content out₀ starts₀ ends₀ : List ℕ} (r : Ready text starts ends list content out₀ starts₀ ends₀) (most : ℕ) {until : ℕ} (measured : until ≡ min most (sizes (length content) (placesOf list))) where
+  pub text-ready : ColumnReady text list (length content) until out₀
+  text-ready = record { text = text; long = refl; covered = r .covered; room = r .text-room; below = omega arith }
+
+  pub starts-ready : ColumnReady starts list (length content) until starts₀
+  starts-ready = record { text = text; long = r .one-start; covered = r .covered; room = r .starts-room; below = omega arith }
+
+  pub ends-ready : ColumnReady ends list (length content) until ends₀
+  ends-ready = record { text = text; long = r .one-end; covered = r .covered; room = r .ends-room; below = omega arith }

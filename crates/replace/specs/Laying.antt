@@ -1,63 +1,42 @@
--- What the inner functions of `replace` are told and say: one place laid down, all of them.
-use Prim.Native.Nat.{ℕ, _+_, _-_, _≤_}
+-- What the inner functions of `replace` are told and say: one place laid down, a column of them, all three columns.
+use Prim.Native.Nat.{ℕ, _+_, _≤_}
 use mathlib.Core.Path.{_≡_}
 use mathlib.Core.Bool.{true}
 use mathlib.Core.List.{List}
 use lib.ListN.{length}
-use Rattle.buffers.specs.Splice.{part, splice, overlay}
+use Rattle.buffers.specs.Splice.{overlay}
+use Rattle.buffers.specs.Over.{Over}
 use Rattle.pattern.specs.declared.Place.{Place}
 use Rattle.pattern.specs.Entries.{placesOf}
-use Rattle.pattern.specs.Places.{fitsAt, coversFrom}
+use Rattle.pattern.specs.Places.{coversFrom}
 use Rattle.replace.specs.Replacing.{piece, laid, carried}
 use Rattle.replace.specs.Sizes.{sizeOf, sizes}
 
--- an unmatched place's bytes and alignments, from `from` to `to`, and room for them
-pub record KeepRoom (text starts ends : List ℕ) (from to : ℕ) (out starts₀ ends₀ : List ℕ) (at : ℕ) : Type 0 where
-  pub onward : from ≤ to
-  pub in-text : to ≤ length text
-  pub in-starts : to ≤ length starts
-  pub in-ends : to ≤ length ends
-  pub text-room : at + (to - from) ≤ length out
-  pub starts-room : at + (to - from) ≤ length starts₀
-  pub ends-room : at + (to - from) ≤ length ends₀
+-- a place of a column, and room for what it gives beside a content of `wide` bytes
+pub record PlaceRoom (column : List ℕ) (wide : ℕ) (p : Place) (until : ℕ) (d : List ℕ) (at : ℕ) : Type 0 where
+  pub onward : p .start .0 ≤ p .end .0
+  pub inside : p .end .0 ≤ length column
+  pub room : at + sizeOf wide p ≤ length d
+  pub until-room : until ≤ length d
 
-pub record Kept (text starts ends : List ℕ) (from to : ℕ) (out₀ starts₀ ends₀ : List ℕ) (at : ℕ)
-    (out starts₁ ends₁ : List ℕ) : Type 0 where
-  pub text-is : out ≡ splice out₀ at (part text from to)
-  pub starts-are : starts₁ ≡ splice starts₀ at (part starts from to)
-  pub ends-are : ends₁ ≡ splice ends₀ at (part ends from to)
+-- what it gives stands in d from `at` on
+pub record PlaceLaid (fill : ℕ → List ℕ) (column : List ℕ) (wide : ℕ) (p : Place) (until : ℕ) (d₀ : List ℕ) (at r : ℕ)
+    (d : List ℕ) : Type 0 where
+  pub reached : r ≡ at + sizeOf wide p
+  pub holds : Over (piece fill p column) d₀ at until d
 
--- the content with the alignment of the byte before `to`, and room for it
-pub record ContentRoom (starts ends : List ℕ) (to : ℕ) (content out starts₀ ends₀ : List ℕ) (at : ℕ) : Type 0 where
-  pub in-starts : to ≤ length starts
-  pub in-ends : to ≤ length ends
-  pub text-room : at + length content ≤ length out
-  pub starts-room : at + length content ≤ length starts₀
-  pub ends-room : at + length content ≤ length ends₀
+-- a list that covers a text of the column's length, and room for what it gives, which is no less than `until`
+pub record ColumnReady (column list : List ℕ) (wide until : ℕ) (d : List ℕ) : Type 0 where
+  pub text : List ℕ
+  pub long : length column ≡ length text
+  pub covered : coversFrom text 0 (placesOf list) ≡ true
+  pub room : sizes wide (placesOf list) ≤ length d
+  pub below : until ≤ sizes wide (placesOf list)
 
-pub record ContentLaid (starts ends : List ℕ) (to : ℕ) (content out₀ starts₀ ends₀ : List ℕ) (at : ℕ)
-    (out starts₁ ends₁ : List ℕ) : Type 0 where
-  pub text-is : out ≡ splice out₀ at content
-  pub starts-are : starts₁ ≡ splice starts₀ at (carried (length content) starts to)
-  pub ends-are : ends₁ ≡ splice ends₀ at (carried (length content) ends to)
-
--- a place that fits the text at some place, and room for what it gives
-pub record Fitting (text starts ends content : List ℕ) (p : Place) (out starts₀ ends₀ : List ℕ) (at : ℕ) : Type 0 where
-  pub one-start : length starts ≡ length text
-  pub one-end : length ends ≡ length text
-  pub from : ℕ
-  pub fits : fitsAt text from p ≡ true
-  pub text-room : at + sizeOf (length content) p ≤ length out
-  pub starts-room : at + sizeOf (length content) p ≤ length starts₀
-  pub ends-room : at + sizeOf (length content) p ≤ length ends₀
-
--- what it gives stands in the buffers from `at` on
-pub record PlaceLaid (text starts ends content : List ℕ) (p : Place) (out₀ starts₀ ends₀ : List ℕ) (at r : ℕ)
-    (out starts₁ ends₁ : List ℕ) : Type 0 where
-  pub reached : r ≡ at + sizeOf (length content) p
-  pub text-is : out ≡ splice out₀ at (piece (λ end. content) p text)
-  pub starts-are : starts₁ ≡ splice starts₀ at (piece (carried (length content) starts) p starts)
-  pub ends-are : ends₁ ≡ splice ends₀ at (piece (carried (length content) ends) p ends)
+-- what the places give of a column stands in front of d
+pub record ColumnLaid (fill : ℕ → List ℕ) (column list d₀ : List ℕ) (r : ℕ) (d : List ℕ) : Type 0 where
+  pub reached : r ≡ length (laid fill (placesOf list) column)
+  pub holds : d ≡ overlay (laid fill (placesOf list) column) d₀
 
 -- a list that covers the text, and room for the whole result
 pub record Ready (text starts ends list content out starts₀ ends₀ : List ℕ) : Type 0 where

@@ -1,100 +1,139 @@
-// The result of a replacement, laid place by place into the lent buffers.
-// Each function here is an inner one: the list covers the text, and there is room for the result.
+// The result of a replacement, laid place by place into the lent buffers, one column after the other.
+// Each function here is an inner one: the list covers the text, and there is room for the result. Blocks are laid below
+// `until`, which is within the result, and what they write past a place is overwritten by the next.
+use crate::measure;
 use buffers::Offset;
+use buffers::blocks::copy_bytes_over;
+use buffers::blocks::copy_offsets_over;
+use buffers::blocks::fill_offsets_over;
 use buffers::copy_bytes;
-use buffers::copy_offsets;
-use buffers::fill_offsets;
 use note::before_end;
 use pattern::Entry;
 use pattern::Place;
 use pattern::entry_at;
-ghost use Rattle.replace.specs.Laying.{AllLaid, ContentLaid, ContentRoom, Fitting, Kept, KeepRoom};
-ghost use Rattle.replace.specs.Laying.{PlaceLaid, Ready};
+ghost use Prim.Native.Nat.{_≤_};
+ghost use lib.ListN.{length};
+ghost use Rattle.buffers.specs.Splice.{part};
+ghost use Rattle.replace.specs.Replacing.{carried};
+ghost use Rattle.replace.specs.Laying.{AllLaid, ColumnLaid, ColumnReady, PlaceLaid, PlaceRoom, Ready};
 
-// An unmatched place's bytes with their alignments, laid into the buffers from `at` on.
-fn keep(
-    normalized: &[u8],
-    starts: &[Offset],
-    ends: &[Offset],
-    from: usize,
-    to: usize,
-    out: &mut [u8],
-    out_starts: &mut [Offset],
-    out_ends: &mut [Offset],
-    at: usize,
-)
-    requires { ⌜ KeepRoom (now normalized) (now starts) (now ends) from to
-        (now out) (now «out_starts») (now «out_ends») at ⌝ }
-    ensures { λ _. ⌜ Kept (now (normalized .entry)) (now (starts .entry)) (now (ends .entry)) from to
-        (now (out .entry)) (now («out_starts» .entry)) (now («out_ends» .entry)) at
-        (now (out .exit)) (now («out_starts» .exit)) (now («out_ends» .exit)) ⌝ }
-{
-    copy_bytes(&normalized[from..to], out, at);
-    copy_offsets(&starts[from..to], out_starts, at);
-    copy_offsets(&ends[from..to], out_ends, at);
-}
-
-// The content in the place of a matched one that ends at `to`.
-fn fill(
-    starts: &[Offset],
-    ends: &[Offset],
-    to: usize,
-    content: &[u8],
-    out: &mut [u8],
-    out_starts: &mut [Offset],
-    out_ends: &mut [Offset],
-    at: usize,
-)
-    requires { ⌜ ContentRoom (now starts) (now ends) to (now content)
-        (now out) (now «out_starts») (now «out_ends») at ⌝ }
-    ensures { λ _. ⌜ ContentLaid (now (starts .entry)) (now (ends .entry)) to (now (content .entry))
-        (now (out .entry)) (now («out_starts» .entry)) (now («out_ends» .entry)) at
-        (now (out .exit)) (now («out_starts» .exit)) (now («out_ends» .exit)) ⌝ }
-{
-    copy_bytes(content, out, at);
-    fill_offsets(before_end(starts, to), content.len(), out_starts, at);
-    fill_offsets(before_end(ends, to), content.len(), out_ends, at);
-}
-
-// One place, laid into the buffers from `at` on; how far they reach then.
-fn lay_place(
-    normalized: &[u8],
-    starts: &[Offset],
-    ends: &[Offset],
-    content: &[u8],
+// A place's bytes, or the content in the place of a matched one, in `out` from `at` on; how far it reaches then. Here
+// and below the content is what `filler` has in front, `wide` bytes.
+fn lay_bytes(
+    text: &[u8],
     place: Place,
+    filler: &[u8],
+    wide: usize,
+    until: usize,
     out: &mut [u8],
-    out_starts: &mut [Offset],
-    out_ends: &mut [Offset],
     at: usize,
 ) -> usize
-    requires { ⌜ Fitting (now normalized) (now starts) (now ends) (now content) place
-        (now out) (now «out_starts») (now «out_ends») at ⌝ }
-    ensures { λ r. ⌜ PlaceLaid (now (normalized .entry)) (now (starts .entry)) (now (ends .entry))
-        (now (content .entry)) place
-        (now (out .entry)) (now («out_starts» .entry)) (now («out_ends» .entry)) at
-        r (now (out .exit)) (now («out_starts» .exit)) (now («out_ends» .exit)) ⌝ }
+    requires { ⌜ PlaceRoom (now text) wide place until (now out) at × (wide ≤ length (now filler)) ⌝ }
+    ensures { λ r. ⌜ PlaceLaid (λ end. part (now (filler .entry)) 0 wide) (now (text .entry)) wide place until
+        (now (out .entry)) at r (now (out .exit)) ⌝ }
 {
     let start = place.start;
     let end = place.end;
     let from = start.0 as usize;
     let to = end.0 as usize;
     if place.matched {
-        fill(starts, ends, to, content, out, out_starts, out_ends, at);
-        return at + content.len();
+        copy_bytes_over(filler, 0, wide, out, at, until);
+        return at + wide;
     }
-    keep(
-        normalized,
-        starts,
-        ends,
-        from,
-        to,
-        out,
-        out_starts,
-        out_ends,
-        at,
-    );
+    copy_bytes_over(text, from, to, out, at, until);
     at + (to - from)
+}
+
+// A place's alignments, or for each byte of a content of `wide` bytes the alignment before its end.
+fn lay_offsets(
+    column: &[Offset],
+    place: Place,
+    wide: usize,
+    until: usize,
+    out: &mut [Offset],
+    at: usize,
+) -> usize
+    requires { ⌜ PlaceRoom (now column) wide place until (now out) at ⌝ }
+    ensures { λ r. ⌜ PlaceLaid (carried wide (now (column .entry))) (now (column .entry)) wide place until
+        (now (out .entry)) at r (now (out .exit)) ⌝ }
+{
+    let start = place.start;
+    let end = place.end;
+    let from = start.0 as usize;
+    let to = end.0 as usize;
+    if place.matched {
+        fill_offsets_over(before_end(column, to), wide, out, at, until);
+        return at + wide;
+    }
+    copy_offsets_over(column, from, to, out, at, until);
+    at + (to - from)
+}
+
+// Every place's bytes, one behind the other; how many they are.
+fn lay_text(
+    text: &[u8],
+    list: &[u8],
+    filler: &[u8],
+    wide: usize,
+    until: usize,
+    out: &mut [u8],
+) -> usize
+    requires { ⌜ ColumnReady (now text) (now list) wide until (now out) × (wide ≤ length (now filler)) ⌝ }
+    ensures { λ r. ⌜ ColumnLaid (λ end. part (now (filler .entry)) 0 wide) (now (text .entry)) (now (list .entry))
+        (now (out .entry)) r (now (out .exit)) ⌝ }
+{
+    let mut at = 0;
+    let mut i = 0;
+    while i < list.len() {
+        match entry_at(list, i) {
+            Entry::At(place, next) => {
+                at = lay_bytes(text, place, filler, wide, until, out, at);
+                i = next;
+            }
+            Entry::Broken => return at,
+        }
+    }
+    at
+}
+
+// Every place's alignments of one column.
+fn lay_column(
+    column: &[Offset],
+    list: &[u8],
+    wide: usize,
+    until: usize,
+    out: &mut [Offset],
+) -> usize
+    requires { ⌜ ColumnReady (now column) (now list) wide until (now out) ⌝ }
+    ensures { λ r. ⌜ ColumnLaid (carried wide (now (column .entry))) (now (column .entry)) (now (list .entry))
+        (now (out .entry)) r (now (out .exit)) ⌝ }
+{
+    let mut at = 0;
+    let mut k = 0;
+    while k < list.len() {
+        match entry_at(list, k) {
+            Entry::At(place, next) => {
+                at = lay_offsets(column, place, wide, until, out, at);
+                k = next;
+            }
+            Entry::Broken => return at,
+        }
+    }
+    at
+}
+
+// Every place's bytes beside a content; a short one is padded, so that a block of it can be laid.
+fn lay_filled(text: &[u8], list: &[u8], content: &[u8], until: usize, out: &mut [u8]) -> usize
+    requires { ⌜ ColumnReady (now text) (now list) (length (now content)) until (now out) ⌝ }
+    ensures { λ r. ⌜ ColumnLaid (λ end. now (content .entry)) (now (text .entry)) (now (list .entry))
+        (now (out .entry)) r (now (out .exit)) ⌝ }
+{
+    if 16 < content.len() {
+        return lay_text(text, list, content, content.len(), until, out);
+    }
+    let mut padded = [0u8; 80];
+    copy_bytes(content, &mut padded, 0);
+    lay_text(text, list, &padded, content.len(), until, out)
 }
 
 // Every place of a list that covers the text, one behind the other; how many bytes they give.
@@ -115,26 +154,8 @@ pub fn lay_out(
         (now (out .entry)) (now («out_starts» .entry)) (now («out_ends» .entry))
         r (now (out .exit)) (now («out_starts» .exit)) (now («out_ends» .exit)) ⌝ }
 {
-    let mut at = 0;
-    let mut i = 0;
-    while i < list.len() {
-        match entry_at(list, i) {
-            Entry::At(place, next) => {
-                at = lay_place(
-                    normalized,
-                    starts,
-                    ends,
-                    content,
-                    place,
-                    out,
-                    out_starts,
-                    out_ends,
-                    at,
-                );
-                i = next;
-            }
-            Entry::Broken => return at,
-        }
-    }
-    at
+    let until = measure(list, content.len());
+    lay_column(starts, list, content.len(), until, out_starts);
+    lay_column(ends, list, content.len(), until, out_ends);
+    lay_filled(normalized, list, content, until, out)
 }

@@ -1,0 +1,47 @@
+-- Each turn lays down one more place.
+use Prim.Native.Nat.{_-_}
+use lib.ListN.{length}
+use borrow.Author.Needs.{needs}
+use Rattle.buffers.specs.Splice.{part}
+use Rattle.replace.proofs.Columns.{Going, none-going, place-room, going-on, going-less, broken-gone, all-gone, filler-wide}
+use Rattle.replace.proofs.laying.lay_text.Statement.{statement}
+use Rattle.replace.proofs.laying.lay_text.Tie as tie
+
+abbrev Inv-loop : tie.InvT-loop
+Inv-loop text list filler wide until out₀ at₀ i₀ out at i = Going (λ end. part filler 0 wide) text list wide until out₀ at i out
+
+abbrev μ-loop : tie.MeasureT-loop
+μ-loop text list filler wide until out₀ at₀ i₀ out at i = length list - i
+
+lay-bytes-requires : tie.Need-lay-bytes-requires Inv-loop μ-loop
+lay-bytes-requires c κs =
+    let there = c .before .before in
+    (place-room (there .before .before .before .before .loop .inv) (there .before .before .entry-at .ensures) (there .place .given .1), there .before .before .before .before .before .before .before .before .before .pre .1)
+
+loop-less : tie.Need-loop-less Inv-loop μ-loop
+loop-less c =
+    let there = c .before .before .before .before .before in
+    going-less (there .before .before .before .before .loop .inv) (there .before .before .entry-at .ensures) (there .place .given .1)
+
+loop-again : tie.Need-loop-again Inv-loop μ-loop
+loop-again c =
+    let there = c .before .before .before .before .before in
+    going-on (there .before .before .before .before .loop .inv) (there .before .before .entry-at .ensures) (there .place .given .1) (c .before .before .lay-bytes .ensures)
+
+pub lay-text-spec : {M : Type 1} → statement M
+lay-text-spec =
+    tie.close
+    (tie.spec
+    Inv-loop
+    μ-loop
+    (λ c. none-going _ (filler-wide _ _ (c .before .before .before .before .pre .1)) (c .before .before .before .before .pre .0))
+    (λ c κs. search needs)
+    (λ c. search needs)
+    lay-bytes-requires
+    loop-less
+    loop-again
+    (λ c. search needs)
+    (λ c. c .before .before .before .before .loop .inv .reaching .same)
+    (λ c. broken-gone (c .before .before .before .before .loop .inv) (c .before .before .before .loop-test .taken) (c .before .before .entry-at .ensures) (c .enum-told .given .1))
+    (λ c. c .before .loop .inv .reaching .same)
+    (λ c. all-gone (c .before .loop .inv) (c .loop-test .left)))
