@@ -23,7 +23,7 @@ use Rattle.convert.proofs.Answered.{answered-accepted, converted-missin
 use Rattle.convert.proofs.Leading.{leading-most, leading-within, leading-past, begins-qualifies, qualifies-begins, converted-by-leading}
 
 -- a first alignment that qualifies, or none
-first-or-none : (starts ends : List ℕ) (from k : ℕ) {P : Type 0} → ((i : ℕ) → First starts ends from k i → P) → (((i : ℕ) → i < k → Qualifies starts ends from i → ⊥) → P) → P
+pub first-or-none : (starts ends : List ℕ) (from k : ℕ) {P : Type 0} → ((i : ℕ) → First starts ends from k i → P) → (((i : ℕ) → i < k → Qualifies starts ends from i → ⊥) → P) → P
 first-or-none starts ends from zero first none = none (λ i h q. omega arith)
 first-or-none starts ends from (suc k) first none =
     first-or-none starts ends from k
@@ -88,7 +88,7 @@ module _ (n : Note) (sound : Sound n) where
         to-boundary = last-boundary n sound a b leads;
       }))))
 
-  expanded-inside : (a b : ℕ) → a < b → b ≤ length (n .ends) → Lies (n .original) (startAt n a) (endAt n (b - 1))
+  pub expanded-inside : (a b : ℕ) → a < b → b ≤ length (n .ends) → Lies (n .original) (startAt n a) (endAt n (b - 1))
   expanded-inside a b h most =
       let first : a < length (n .normalized) = omega (arith, length-ends n sound) in
       let last : b - 1 < length (n .normalized) = omega (arith, length-ends n sound) in
@@ -100,7 +100,7 @@ module _ (n : Note) (sound : Sound n) where
         to-boundary = boundaries-at n sound (b - 1) last .1;
       }
 
-  inside : (range : Range) → Outcome n range (converted (n .starts) (n .ends) range)
+  pub inside : (range : Range) → Outcome n range (converted (n .starts) (n .ends) range)
   unfolding converted toOriginal toNormalized expanded
   inside (Original a b) =
       true-or-false (eqb (a .0) (b .0))

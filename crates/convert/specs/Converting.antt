@@ -11,7 +11,7 @@ use Rattle.note.specs.declared.Refusal.{Refusal}
 use Rattle.note.specs.declared.Refusal.the-variants.{Missing}
 use Rattle.note.specs.declared.Verdict.{Verdict}
 use Rattle.note.specs.declared.Verdict.the-variants.{Accepted, Refused as Rejected}
-use Rattle.note.specs.Refusals.{none, meets, also, verdict}
+use Rattle.note.specs.Refusals.{numberOf, none, meets, also, verdict}
 use Rattle.note.specs.Notes.{Note}
 use Rattle.note.specs.Faults.{noteFaults}
 use Rattle.convert.specs.declared.OffsetReferential.{OffsetReferential}
@@ -44,6 +44,19 @@ startOf (Normalized a b) = a .0
 abbrev pub endOf : Range → ℕ
 endOf (Original a b) = b .0
 endOf (Normalized a b) = b .0
+
+-- an answer in three numbers: 0, start and end, or the refusal's number, 0 and 0
+abbrev pub numberIn : Converted → ℕ
+numberIn (Found range) = 0
+numberIn (Refused k) = numberOf k
+
+abbrev pub startIn : Converted → ℕ
+startIn (Found range) = startOf range
+startIn (Refused k) = 0
+
+abbrev pub endIn : Converted → ℕ
+endIn (Found range) = endOf range
+endIn (Refused k) = 0
 
 -- RULES 4.4: the cleaned bytes a..b in the transcript, from the first one's start to the last one's end
 unfoldable pub expanded : List ℕ → List ℕ → ℕ → ℕ → Converted

@@ -9,8 +9,7 @@ use Rattle.buffers.proofs.Columns.{length-column, Filling, none-filling, one-fi
 use Rattle.buffers.proofs.Splice.{splice-overlay, length-overlay, getD-overlay, overlay-overlay}
 use Rattle.convert.specs.declared.Converted.{Converted}
 use Rattle.convert.specs.declared.Converted.the-variants.{Found}
-use Rattle.convert.specs.Converting.{inOriginal}
-use Rattle.convert_list.specs.ConvertList.{startIn, endIn, numberIn}
+use Rattle.convert.specs.Converting.{inOriginal, startIn, endIn, numberIn}
 use Rattle.convert_list.specs.TwoReads.{AnswerRoom, AnswersWritten}
 
 -- the numbers before the first answer

@@ -7,27 +7,13 @@ use lib.ListN.{length, getD}
 use Rattle.buffers.specs.Columns.{column}
 use Rattle.note.specs.declared.Refusal.{Refusal}
 use Rattle.note.specs.declared.Verdict.{Verdict}
-use Rattle.note.specs.Refusals.{numberOf, also, verdict, least, after}
+use Rattle.note.specs.Refusals.{also, verdict, least, after}
 use Rattle.note.specs.Notes.{Note}
 use Rattle.note.specs.Faults.{noteFaults, roomFaults, unevenFaults}
 use Rattle.convert.specs.declared.OffsetReferential.{OffsetReferential}
 use Rattle.convert.specs.declared.Range.{Range}
 use Rattle.convert.specs.declared.Converted.{Converted}
-use Rattle.convert.specs.declared.Converted.the-variants.{Found, Refused}
-use Rattle.convert.specs.Converting.{startOf, endOf, rangeOf, convertOffsets}
-
--- an answer in three numbers: 0, start and end, or the refusal's number, 0 and 0
-abbrev pub numberIn : Converted → ℕ
-numberIn (Found range) = 0
-numberIn (Refused k) = numberOf k
-
-abbrev pub startIn : Converted → ℕ
-startIn (Found range) = startOf range
-startIn (Refused k) = 0
-
-abbrev pub endIn : Converted → ℕ
-endIn (Found range) = endOf range
-endIn (Refused k) = 0
+use Rattle.convert.specs.Converting.{numberIn, startIn, endIn, rangeOf, convertOffsets}
 
 -- what is answered of the range at i, by what answers a range
 unfoldable pub answerAt : (Range → Converted) → OffsetReferential → List ℕ → List ℕ → ℕ → Converted

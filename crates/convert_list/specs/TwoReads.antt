@@ -10,7 +10,7 @@ use Rattle.buffers.specs.Splice.{overlay}
 use Rattle.convert.specs.declared.OffsetReferential.{OffsetReferential}
 use Rattle.convert.specs.declared.OffsetReferential.the-variants.{Original, Normalized}
 use Rattle.convert.specs.declared.Converted.{Converted}
-use Rattle.convert_list.specs.ConvertList.{startIn, endIn, numberIn}
+use Rattle.convert.specs.Converting.{startIn, endIn, numberIn}
 
 -- a range of the cleaned text that has a byte and ends in it
 unfoldable pub expands : OffsetReferential → ℕ → ℕ → ℕ → Bool

@@ -18,9 +18,9 @@ ghost use mathlib.Core.Path.{_≡_};
 ghost use Prim.Native.Nat.{_-_, _≤_, _<_};
 ghost use lib.ListN.{length, getD};
 ghost use Rattle.note.specs.Notes.{lent, limit};
-ghost use Rattle.convert.specs.Converting.{converted};
+ghost use Rattle.convert.specs.Converting.{converted, endIn, numberIn, startIn};
 ghost use Rattle.convert.specs.Blocks.{Columns};
-ghost use Rattle.convert_list.specs.ConvertList.{answerAt, ConvertedList, endIn, numberIn, startIn};
+ghost use Rattle.convert_list.specs.ConvertList.{answerAt, ConvertedList};
 ghost use Rattle.convert_list.specs.TwoReads.{AnswerRoom, AnswersWritten, expands};
 
 // An answer's three numbers.

@@ -54,20 +54,20 @@ module _ (s : List ℕ) {answer : Converted} where
   got-refused is = rw is
 
 -- a range in the text that is read
-module _ (n : Note) {range : Range} where
-  pub asNormalized-other : {a b : OriginalByte} → range ≡ Original a b → converted (n .starts) (n .ends) range ≡ asNormalized n range
+module _ (starts ends : List ℕ) {range : Range} where
+  pub asNormalized-other : {a b : OriginalByte} {r : Converted} → range ≡ Original a b → r ≡ converted starts ends range → r ≡ asNormalized starts ends range
   unfolding asNormalized
-  asNormalized-other is = rw is
+  asNormalized-other is e = rw is at e ∙ rw is refl
 
-  pub asNormalized-own : {a b : NormalizedByte} → range ≡ Normalized a b → Found range ≡ asNormalized n range
+  pub asNormalized-own : {a b : NormalizedByte} → range ≡ Normalized a b → Found range ≡ asNormalized starts ends range
   unfolding asNormalized
   asNormalized-own is = rw is
 
-  pub asOriginal-other : {a b : NormalizedByte} → range ≡ Normalized a b → converted (n .starts) (n .ends) range ≡ asOriginal n range
+  pub asOriginal-other : {a b : NormalizedByte} {r : Converted} → range ≡ Normalized a b → r ≡ converted starts ends range → r ≡ asOriginal starts ends range
   unfolding asOriginal
-  asOriginal-other is = rw is
+  asOriginal-other is e = rw is at e ∙ rw is refl
 
-  pub asOriginal-own : {a b : OriginalByte} → range ≡ Original a b → Found range ≡ asOriginal n range
+  pub asOriginal-own : {a b : OriginalByte} → range ≡ Original a b → Found range ≡ asOriginal starts ends range
   unfolding asOriginal
   asOriginal-own is = rw is
 
@@ -77,15 +77,15 @@ unfolding got
 got-missing s (Found range) only = found-or-missing (readable s (startOf range) (endOf range)) range
 got-missing s (Refused k) only = only
 
-asNormalized-missing : (n : Note) (range : Range) → MissingOnly (asNormalized n range)
+pub asNormalized-missing : (starts ends : List ℕ) (range : Range) → MissingOnly (asNormalized starts ends range)
 unfolding asNormalized
-asNormalized-missing n (Original a b) = converted-missing (n .starts) (n .ends) (Original a b)
-asNormalized-missing n (Normalized a b) = refl
+asNormalized-missing starts ends (Original a b) = converted-missing starts ends (Original a b)
+asNormalized-missing starts ends (Normalized a b) = refl
 
-asOriginal-missing : (n : Note) (range : Range) → MissingOnly (asOriginal n range)
+pub asOriginal-missing : (starts ends : List ℕ) (range : Range) → MissingOnly (asOriginal starts ends range)
 unfolding asOriginal
-asOriginal-missing n (Original a b) = refl
-asOriginal-missing n (Normalized a b) = converted-missing (n .starts) (n .ends) (Normalized a b)
+asOriginal-missing starts ends (Original a b) = refl
+asOriginal-missing starts ends (Normalized a b) = converted-missing starts ends (Normalized a b)
 
 -- the two calls, by what the check of the note says
 module _ (most : ℕ) (n : Note) (range : Range) {v : Verdict} (e : v ≡ verdict (noteFaults most n)) where
@@ -98,14 +98,14 @@ module _ (most : ℕ) (n : Note) (range : Range) {v : Verdict} (e : v ≡ verdic
   getRangeOriginal-refused is = answered-refused most n _ e is
 
   module _ (ok : v ≡ Accepted) {answer r : Converted} where
-    pub getRange-got : answer ≡ asNormalized n range → r ≡ got (n .normalized) answer → r ≡ getRange most n range
+    pub getRange-got : answer ≡ asNormalized (n .starts) (n .ends) range → r ≡ got (n .normalized) answer → r ≡ getRange most n range
     unfolding getRange
     getRange-got is q =
         q ∙ ap (got (n .normalized)) is
-        ∙ answered-accepted most n (got (n .normalized) (asNormalized n range)) e ok (got-missing _ _ (asNormalized-missing n range))
+        ∙ answered-accepted most n (got (n .normalized) (asNormalized (n .starts) (n .ends) range)) e ok (got-missing _ _ (asNormalized-missing (n .starts) (n .ends) range))
 
-    pub getRangeOriginal-got : answer ≡ asOriginal n range → r ≡ got (n .original) answer → r ≡ getRangeOriginal most n range
+    pub getRangeOriginal-got : answer ≡ asOriginal (n .starts) (n .ends) range → r ≡ got (n .original) answer → r ≡ getRangeOriginal most n range
     unfolding getRangeOriginal
     getRangeOriginal-got is q =
         q ∙ ap (got (n .original)) is
-        ∙ answered-accepted most n (got (n .original) (asOriginal n range)) e ok (got-missing _ _ (asOriginal-missing n range))
+        ∙ answered-accepted most n (got (n .original) (asOriginal (n .starts) (n .ends) range)) e ok (got-missing _ _ (asOriginal-missing (n .starts) (n .ends) range))

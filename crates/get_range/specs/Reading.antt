@@ -28,20 +28,20 @@ got s (Found range) = cond (readable s (startOf range) (endOf range)) (Found ran
 got s (Refused k) = Refused k
 
 -- a range in the text that is read: converted where it is of the other
-unfoldable pub asNormalized : Note → Range → Converted
-asNormalized n (Original a b) = converted (n .starts) (n .ends) (Original a b)
-asNormalized n (Normalized a b) = Found (Normalized a b)
+unfoldable pub asNormalized : List ℕ → List ℕ → Range → Converted
+asNormalized starts ends (Original a b) = converted starts ends (Original a b)
+asNormalized starts ends (Normalized a b) = Found (Normalized a b)
 
-unfoldable pub asOriginal : Note → Range → Converted
-asOriginal n (Original a b) = Found (Original a b)
-asOriginal n (Normalized a b) = converted (n .starts) (n .ends) (Normalized a b)
+unfoldable pub asOriginal : List ℕ → List ℕ → Range → Converted
+asOriginal starts ends (Original a b) = Found (Original a b)
+asOriginal starts ends (Normalized a b) = converted starts ends (Normalized a b)
 
 -- RULES 5.2, 5.3: the two calls
 unfoldable pub getRange : ℕ → Note → Range → Converted
-getRange most n range = answered most n (got (n .normalized) (asNormalized n range))
+getRange most n range = answered most n (got (n .normalized) (asNormalized (n .starts) (n .ends) range))
 
 unfoldable pub getRangeOriginal : ℕ → Note → Range → Converted
-getRangeOriginal most n range = answered most n (got (n .original) (asOriginal n range))
+getRangeOriginal most n range = answered most n (got (n .original) (asOriginal (n .starts) (n .ends) range))
 
 -- RULES 5.6, of the added reader: both texts are judged, then the range in the one that it names
 abbrev pub textOf : List ℕ → List ℕ → Range → List ℕ

@@ -15,7 +15,9 @@ use utf8::is_char_boundary;
 ghost use mathlib.Core.Path.{_≡_};
 ghost use Rattle.note.specs.Notes.{lent, limit};
 ghost use Rattle.note.specs.Refusals.{verdict};
-ghost use Rattle.get_range.specs.Reading.{getRange, getRangeOriginal, got, partFaults, partOf, readable, textOf};
+ghost use Rattle.convert.specs.Blocks.{Columns};
+ghost use Rattle.get_range.specs.Reading.{asNormalized, asOriginal, getRange, getRangeOriginal, got};
+ghost use Rattle.get_range.specs.Reading.{partFaults, partOf, readable, textOf};
 
 // Whether Rust's `str::get` has a part at start..end.
 pub fn readable(s: &[u8], start: u32, end: u32) -> bool
@@ -25,6 +27,28 @@ pub fn readable(s: &[u8], start: u32, end: u32) -> bool
         return false;
     }
     is_char_boundary(s, start as usize) & is_char_boundary(s, end as usize)
+}
+
+// A range in the cleaned text, and one in the transcript: converted where it is of the other. Inner functions: they ask
+// for the columns that a check leaves.
+pub fn as_normalized(starts: &[Offset], ends: &[Offset], range: Range) -> Converted
+    requires { ⌜ Columns limit (now starts) (now ends) ⌝ }
+    ensures { λ r. ⌜ r ≡ asNormalized (now (starts .entry)) (now (ends .entry)) range ⌝ }
+{
+    match range {
+        Range::Original(_, _) => convert_checked(starts, ends, range),
+        Range::Normalized(_, _) => Converted::Found(range),
+    }
+}
+
+pub fn as_original(starts: &[Offset], ends: &[Offset], range: Range) -> Converted
+    requires { ⌜ Columns limit (now starts) (now ends) ⌝ }
+    ensures { λ r. ⌜ r ≡ asOriginal (now (starts .entry)) (now (ends .entry)) range ⌝ }
+{
+    match range {
+        Range::Original(_, _) => Converted::Found(range),
+        Range::Normalized(_, _) => convert_checked(starts, ends, range),
+    }
 }
 
 // What `str::get` makes of a converted range.
@@ -59,10 +83,7 @@ pub fn get_range(
     if let Verdict::Refused(k) = check_note(original, normalized, starts, ends, original_shift) {
         return Converted::Refused(k);
     }
-    match range {
-        Range::Original(_, _) => get(normalized, convert_checked(starts, ends, range)),
-        Range::Normalized(_, _) => get(normalized, Converted::Found(range)),
-    }
+    get(normalized, as_normalized(starts, ends, range))
 }
 
 // Rust: `get_range_original`: the range in the transcript. Refusals: those of a note, then `Missing`.
@@ -81,10 +102,7 @@ pub fn get_range_original(
     if let Verdict::Refused(k) = check_note(original, normalized, starts, ends, original_shift) {
         return Converted::Refused(k);
     }
-    match range {
-        Range::Original(_, _) => get(original, Converted::Found(range)),
-        Range::Normalized(_, _) => get(original, convert_checked(starts, ends, range)),
-    }
+    get(original, as_original(starts, ends, range))
 }
 
 // The text that a range names, of the two that are lent.

@@ -11,7 +11,7 @@ use Rattle.char_offsets.specs.declared.letters.LetterCount.the-variants.{Letter
 use Rattle.convert.specs.declared.OffsetReferential.{OffsetReferential}
 use Rattle.convert.specs.declared.OffsetReferential.the-variants.{Original, Normalized}
 use Rattle.convert.specs.declared.Converted.{Converted}
-use Rattle.convert_list.specs.ConvertList.{numberIn, startIn, endIn}
+use Rattle.convert.specs.Converting.{numberIn, startIn, endIn}
 use Rattle.find.specs.declared.Matches.{Matches}
 use Rattle.find.specs.declared.Matches.the-variants.{Written, Refused as Unlisted}
 use Rattle.replace.specs.declared.Publication.{Publication}

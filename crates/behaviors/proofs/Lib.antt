@@ -1,0 +1,4 @@
+-- Laws of the behaviours.
+pub mod Tests
+pub mod Gathered
+pub mod Runs

@@ -1,0 +1,80 @@
+-- Laws of the tests on one run: by the cases of the code.
+use Prim.Native.Nat.{ℕ, _+_, _-_}
+use mathlib.Core.Path.{_≡_, _∙_, refl, sym}
+use mathlib.Core.Bool.{Bool, true, false, cond, _&&_, not, Bool·beq}
+use mathlib.Core.List.{List, [], _∷_}
+use native.Mathlib.Omega.{arith}
+use lib.Dec.{eqb}
+use lib.ListN.{length}
+use Rattle.note.specs.declared.NormalizedByte.{NormalizedByte}
+use Rattle.pattern.specs.declared.Place.{Place}
+use Rattle.behaviors.specs.declared.SplitDelimiterBehavior.{SplitDelimiterBehavior}
+use Rattle.behaviors.specs.declared.SplitDelimiterBehavior.the-variants.{Removed, Isolated, MergedWithPrevious, MergedWithNext, Contiguous}
+use Rattle.behaviors.specs.declared.EmptyPieces.{EmptyPieces}
+use Rattle.behaviors.specs.declared.EmptyPieces.the-variants.{Kept, Dropped}
+use Rattle.behaviors.specs.declared.Sizes.{Sizes}
+use Rattle.behaviors.specs.Splits.{unremoved, goes}
+use Rattle.behaviors.specs.Joining.{joins, loses}
+use Rattle.behaviors.specs.Runs.{onward, stays, over, given, bytesOf, sizesWith}
+
+module _ (b : SplitDelimiterBehavior) (before now : Bool) where
+  pub joins-removed : b ≡ Removed → false ≡ joins b before now
+  unfolding joins
+  joins-removed e = rw e
+
+  pub joins-isolated : b ≡ Isolated → false ≡ joins b before now
+  unfolding joins
+  joins-isolated e = rw e
+
+  pub joins-previous : b ≡ MergedWithPrevious → (now && not before) ≡ joins b before now
+  unfolding joins
+  joins-previous e = rw e
+
+  pub joins-next : b ≡ MergedWithNext → (before && not now) ≡ joins b before now
+  unfolding joins
+  joins-next e = rw e
+
+  pub joins-same : b ≡ Contiguous → Bool·beq now before ≡ joins b before now
+  unfolding joins
+  joins-same e = rw e
+
+pub loses-as : (b c : SplitDelimiterBehavior) → b ≡ c → loses c ≡ loses b
+loses-as b c e = rw e
+
+pub goes-kept : (e : EmptyPieces) (run : Place) → e ≡ Kept → false ≡ goes e run
+unfolding goes
+goes-kept e run is = rw is
+
+pub goes-empty : (e : EmptyPieces) (run : Place) → e ≡ Dropped → eqb (run .start .0) (run .end .0) ≡ goes e run
+unfolding goes
+goes-empty e run is = rw is
+
+module _ (b : SplitDelimiterBehavior) (e : EmptyPieces) (run : Place) where
+  pub stays-by : {l g : Bool} → l ≡ loses b → g ≡ goes e run → (not (l && run .matched) && not g) ≡ stays b e run
+  unfolding stays
+  stays-by is at = rw (is, at)
+
+  pub over-by : (p : Place) {j s : Bool} → j ≡ joins b (run .matched) (p .matched) → s ≡ stays b e run → (not j && s) ≡ over b e run p
+  unfolding over
+  over-by p is at = rw (is, at)
+
+module _ (b : SplitDelimiterBehavior) (run p : Place) {j : Bool} (is : j ≡ joins b (run .matched) (p .matched)) where
+  pub onward-joined : j ≡ true → _≡_ {A = Place} (record { start = run .start; end = p .end; matched = p .matched }) (onward b run p)
+  unfolding onward
+  onward-joined t = rw (← is, t)
+
+  pub onward-anew : j ≡ false → p ≡ onward b run p
+  unfolding onward
+  onward-anew f = rw (← is, f)
+
+module _ (s : Sizes) (met : Bool) (run : Place) where
+  pub one-counted : met ≡ true → _≡_ {A = Sizes} (record { pieces = s .pieces + 1; bytes = s .bytes + (run .end .0 - run .start .0) }) (sizesWith s (given met run))
+  unfolding sizesWith bytesOf given unremoved
+  one-counted t = rw t (let z : s .bytes + (run .end .0 - run .start .0) ≡ s .bytes + (run .end .0 - run .start .0 + 0) = omega arith in λ i. record { pieces = s .pieces + 1; bytes = z i })
+
+  pub none-counted : met ≡ false → s ≡ sizesWith s (given met run)
+  unfolding sizesWith bytesOf given
+  none-counted f =
+      rw f
+      (let a : s .pieces ≡ s .pieces + 0 = omega arith in
+      let z : s .bytes ≡ s .bytes + 0 = omega arith in λ i. record { pieces = a i; bytes = z i })

@@ -1,0 +1,91 @@
+-- The working form of the pieces: places are gathered into a run, and a run that is over gives a piece or none.
+use Prim.Native.Nat.{ℕ, _+_, _-_, _^_, _≤_, _<_}
+use mathlib.Core.Path.{_≡_}
+use mathlib.Core.Bool.{Bool, true, cond, _&&_, not}
+use mathlib.Core.List.{List, [], _∷_, _++_}
+use lib.ListN.{length}
+use Rattle.buffers.specs.Splice.{splice, overlay}
+use Rattle.pattern.specs.declared.Place.{Place}
+use Rattle.pattern.specs.Entries.{placesOf}
+use Rattle.pattern.specs.Places.{coversFrom}
+use Rattle.behaviors.specs.declared.SplitDelimiterBehavior.{SplitDelimiterBehavior}
+use Rattle.behaviors.specs.declared.EmptyPieces.{EmptyPieces}
+use Rattle.behaviors.specs.declared.Sizes.{Sizes}
+use Rattle.behaviors.specs.Splits.{unremoved, goes, pieces}
+use Rattle.behaviors.specs.Joining.{joins, loses, startsOf, endsOf}
+
+-- a run is the place from its first place's start to its last one's end, with the flag of its last; it takes one more
+-- place, or a new one begins
+unfoldable pub onward : SplitDelimiterBehavior → Place → Place → Place
+onward behavior run p =
+    cond (joins behavior (run .matched) (p .matched))
+    (record { start = run .start; end = p .end; matched = p .matched }) p
+
+-- whether a run that is over gives a piece
+unfoldable pub stays : SplitDelimiterBehavior → EmptyPieces → Place → Bool
+stays behavior empty run = not (loses behavior && run .matched) && not (goes empty run)
+
+-- whether it is over at a place, and gives one
+unfoldable pub over : SplitDelimiterBehavior → EmptyPieces → Place → Place → Bool
+over behavior empty run p = not (joins behavior (run .matched) (p .matched)) && stays behavior empty run
+
+-- a piece, where there is one
+unfoldable pub given : Bool → Place → List Place
+given met run = cond met (unremoved run ∷ []) []
+
+-- the pieces of a run and of the places behind it
+unfoldable pub runsFrom : SplitDelimiterBehavior → EmptyPieces → Place → List Place → List Place
+runsFrom behavior empty run [] = given (stays behavior empty run) run
+runsFrom behavior empty run (p ∷ ps) =
+    given (over behavior empty run p) run ++ runsFrom behavior empty (onward behavior run p) ps
+
+-- how many bytes pieces have together
+unfoldable pub bytesOf : List Place → ℕ
+bytesOf [] = 0
+bytesOf (p ∷ ps) = (p .end .0 - p .start .0) + bytesOf ps
+
+-- the first of the places that a list has, and those behind it, which cover a text within a limit
+pub record Listed (most : ℕ) (list : List ℕ) : Type 0 where
+  pub text : List ℕ
+  pub short : length text ≤ most
+  pub covered : coversFrom text 0 (placesOf list) ≡ true
+
+-- the pieces of a list
+abbrev pub listPieces : SplitDelimiterBehavior → EmptyPieces → List ℕ → List Place
+listPieces behavior empty list = pieces behavior empty (placesOf list)
+
+-- what a run gives stands in the two columns from `at` on
+pub record RunLaid (met : Bool) (run : Place) (starts₀ ends₀ : List ℕ) (at r : ℕ) (starts ends : List ℕ) : Type 0 where
+  pub reach : r ≡ at + length (given met run)
+  pub starts-are : starts ≡ splice starts₀ at (startsOf (given met run))
+  pub ends-are : ends ≡ splice ends₀ at (endsOf (given met run))
+
+-- all pieces stand in front of the two columns
+pub record SpansLaid (ps : List Place) (starts₀ ends₀ : List ℕ) (r : ℕ) (starts ends : List ℕ) : Type 0 where
+  pub reach : r ≡ length ps
+  pub starts-are : starts ≡ overlay (startsOf ps) starts₀
+  pub ends-are : ends ≡ overlay (endsOf ps) ends₀
+
+-- sizes, and those of pieces with them
+unfoldable pub sizesWith : Sizes → List Place → Sizes
+sizesWith s ps = record { pieces = s .pieces + length ps; bytes = s .bytes + bytesOf ps }
+
+-- a run whose size can be added
+pub record Addable (s : Sizes) (run : Place) : Type 0 where
+  pub onward : run .start .0 ≤ run .end .0
+  pub few : s .pieces + 1 < 2 ^ 64
+  pub short : s .bytes + run .end .0 < 2 ^ 64
+
+-- a run inside a text, and room for it where it gives a piece
+pub record RunRoom (most : ℕ) (met : Bool) (run : Place) (starts ends : List ℕ) (at : ℕ) : Type 0 where
+  pub onward : run .start .0 ≤ run .end .0
+  pub inside : run .end .0 ≤ most
+  pub starts-room : at + length (given met run) ≤ length starts
+  pub ends-room : at + length (given met run) ≤ length ends
+
+-- a list, and room for its pieces
+pub record SpansRoom (most : ℕ) (list : List ℕ) (behavior : SplitDelimiterBehavior) (empty : EmptyPieces)
+    (starts ends : List ℕ) : Type 0 where
+  pub listed : Listed most list
+  pub starts-room : length (listPieces behavior empty list) ≤ length starts
+  pub ends-room : length (listPieces behavior empty list) ≤ length ends

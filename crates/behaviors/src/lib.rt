@@ -1,0 +1,197 @@
+// The behaviours of splitting (RULES 11; Rust: `SplitDelimiterBehavior`): which stretches of the cleaned text a match
+// list cuts out, measured and written. The two loops are inner functions: the list was judged before.
+use buffers::Offset;
+use pattern::Entry;
+use pattern::Place;
+use pattern::entry_at;
+ghost use mathlib.Core.Path.{_≡_};
+ghost use mathlib.Core.Bool.{true};
+ghost use Prim.Native.Nat.{_+_, _≤_};
+ghost use lib.ListN.{length};
+ghost use Rattle.note.specs.Notes.{limit};
+ghost use Rattle.behaviors.specs.Splits.{goes};
+ghost use Rattle.behaviors.specs.Joining.{joins, loses};
+ghost use Rattle.behaviors.specs.Runs.{bytesOf, given, listPieces, onward, over, stays};
+ghost use Rattle.behaviors.specs.Runs.{Addable, Listed, RunLaid, RunRoom, SpansLaid, SpansRoom, sizesWith};
+
+// What becomes of the delimiters, the matched places.
+pub enum SplitDelimiterBehavior {
+    Removed,
+    Isolated,
+    MergedWithPrevious,
+    MergedWithNext,
+    Contiguous,
+}
+
+// Whether pieces without a byte stay (Rust: `NormalizedString::split`) or go (`PreTokenizedString::split`).
+pub enum EmptyPieces {
+    Kept,
+    Dropped,
+}
+
+// How many pieces there are, and how many bytes they have together.
+pub struct Sizes {
+    pub pieces: usize,
+    pub bytes: usize,
+}
+
+// Whether a place belongs to one piece with the place before it.
+fn joins(behavior: SplitDelimiterBehavior, before: bool, now: bool) -> bool
+    ensures { λ r. ⌜ r ≡ joins behavior before now ⌝ }
+{
+    match behavior {
+        SplitDelimiterBehavior::Removed => false,
+        SplitDelimiterBehavior::Isolated => false,
+        SplitDelimiterBehavior::MergedWithPrevious => now & !before,
+        SplitDelimiterBehavior::MergedWithNext => before & !now,
+        SplitDelimiterBehavior::Contiguous => now == before,
+    }
+}
+
+// Whether matched places are lost.
+fn loses(behavior: SplitDelimiterBehavior) -> bool
+    ensures { λ r. ⌜ r ≡ loses behavior ⌝ }
+{
+    match behavior {
+        SplitDelimiterBehavior::Removed => true,
+        SplitDelimiterBehavior::Isolated => false,
+        SplitDelimiterBehavior::MergedWithPrevious => false,
+        SplitDelimiterBehavior::MergedWithNext => false,
+        SplitDelimiterBehavior::Contiguous => false,
+    }
+}
+
+// Whether a piece is dropped for having no byte.
+fn goes(empty: EmptyPieces, run: Place) -> bool
+    ensures { λ r. ⌜ r ≡ goes empty run ⌝ }
+{
+    match empty {
+        EmptyPieces::Kept => false,
+        EmptyPieces::Dropped => {
+            let start = run.start;
+            let end = run.end;
+            start.0 == end.0
+        }
+    }
+}
+
+// The run behind the next place: drawn out to it, or begun with it.
+fn onward(behavior: SplitDelimiterBehavior, run: Place, place: Place) -> Place
+    ensures { λ r. ⌜ r ≡ onward behavior run place ⌝ }
+{
+    if joins(behavior, run.matched, place.matched) {
+        let start = run.start;
+        let end = place.end;
+        return Place {
+            start,
+            end,
+            matched: place.matched,
+        };
+    }
+    place
+}
+
+// Whether a run that is over gives a piece.
+fn stays(behavior: SplitDelimiterBehavior, empty: EmptyPieces, run: Place) -> bool
+    ensures { λ r. ⌜ r ≡ stays behavior empty run ⌝ }
+{
+    !(loses(behavior) & run.matched) & !goes(empty, run)
+}
+
+// Whether a run is over at the next place, and gives a piece.
+fn over(behavior: SplitDelimiterBehavior, empty: EmptyPieces, run: Place, place: Place) -> bool
+    ensures { λ r. ⌜ r ≡ over behavior empty run place ⌝ }
+{
+    !joins(behavior, run.matched, place.matched) & stays(behavior, empty, run)
+}
+
+// The sizes with those of a piece, where there is one.
+fn counted(sizes: Sizes, met: bool, run: Place) -> Sizes
+    requires { ⌜ Addable sizes run ⌝ }
+    ensures { λ r. ⌜ r ≡ sizesWith sizes (given met run) ⌝ }
+{
+    if met {
+        let start = run.start;
+        let end = run.end;
+        return Sizes {
+            pieces: sizes.pieces + 1,
+            bytes: sizes.bytes + (end.0 - start.0) as usize,
+        };
+    }
+    sizes
+}
+
+// How many pieces a list gives, and how many bytes they have.
+pub fn measure(list: &[u8], behavior: SplitDelimiterBehavior, empty: EmptyPieces) -> Sizes
+    requires { ⌜ Listed limit (now list) ⌝ }
+    ensures { λ r. ⌜ r ≡ sizesWith (record { pieces = 0; bytes = 0 }) (listPieces behavior empty (now (list .entry))) ⌝ }
+{
+    let none = Sizes {
+        pieces: 0,
+        bytes: 0,
+    };
+    let Entry::At(first, second) = entry_at(list, 0) else {
+        return none;
+    };
+    let mut sizes = none;
+    let mut run = first;
+    let mut i = second;
+    while i < list.len() {
+        match entry_at(list, i) {
+            Entry::At(place, next) => {
+                sizes = counted(sizes, over(behavior, empty, run, place), run);
+                run = onward(behavior, run, place);
+                i = next;
+            }
+            Entry::Broken => break,
+        }
+    }
+    counted(sizes, stays(behavior, empty, run), run)
+}
+
+// A piece's two ends at `at`, where there is one; where the next piece stands.
+fn write_run(met: bool, run: Place, starts: &mut [Offset], ends: &mut [Offset], at: usize) -> usize
+    requires { ⌜ RunRoom limit met run (now starts) (now ends) at ⌝ }
+    ensures { λ r. ⌜ RunLaid met run (now (starts .entry)) (now (ends .entry)) at
+        r (now (starts .exit)) (now (ends .exit)) ⌝ }
+{
+    if met {
+        let start = run.start;
+        let end = run.end;
+        starts[at] = start.0 as Offset;
+        ends[at] = end.0 as Offset;
+        return at + 1;
+    }
+    at
+}
+
+// Where each piece of a list starts and where it ends, in front of two columns that have room for them; how many.
+pub fn write_spans(
+    list: &[u8],
+    behavior: SplitDelimiterBehavior,
+    empty: EmptyPieces,
+    starts: &mut [Offset],
+    ends: &mut [Offset],
+) -> usize
+    requires { ⌜ SpansRoom limit (now list) behavior empty (now starts) (now ends) ⌝ }
+    ensures { λ r. ⌜ SpansLaid (listPieces behavior empty (now (list .entry)))
+        (now (starts .entry)) (now (ends .entry)) r (now (starts .exit)) (now (ends .exit)) ⌝ }
+{
+    let Entry::At(first, second) = entry_at(list, 0) else {
+        return 0;
+    };
+    let mut run = first;
+    let mut i = second;
+    let mut at = 0;
+    while i < list.len() {
+        match entry_at(list, i) {
+            Entry::At(place, next) => {
+                at = write_run(over(behavior, empty, run, place), run, starts, ends, at);
+                run = onward(behavior, run, place);
+                i = next;
+            }
+            Entry::Broken => break,
+        }
+    }
+    write_run(stays(behavior, empty, run), run, starts, ends, at)
+}
