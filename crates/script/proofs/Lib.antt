@@ -1,0 +1,2 @@
+-- Laws of edit scripts.
+pub mod Scripts

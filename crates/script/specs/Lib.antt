@@ -1,0 +1,2 @@
+-- Edit scripts (RULES 7).
+pub mod Scripts

@@ -1,0 +1,80 @@
+-- RULES 7: what stands at a byte of an edit script. A command is its number (1 replace, 2 add, 3 replace and remove)
+-- and a code point in four little-endian bytes; 3 has in two more how many characters it removes behind the one it
+-- replaces.
+use Prim.Native.Nat.{ℕ, zero, suc, _+_, _-_, _≤_}
+use mathlib.Core.Path.{_≡_}
+use mathlib.Core.Bool.{Bool, true, false, cond, _&&_, _||_, not}
+use mathlib.Core.List.{List, [], _∷_}
+use lib.Dec.{leb, ltb, eqb}
+use lib.ListN.{length, getD}
+use Rattle.buffers.specs.Splice.{part}
+use Rattle.numbers.specs.LittleEndian.{valueOf}
+use Rattle.utf8.specs.Scalar.{scalar, bytesOf}
+use Rattle.note.specs.declared.Refusal.{Refusal}
+use Rattle.note.specs.declared.Refusal.the-variants.{BadScript}
+use Rattle.note.specs.Refusals.{none, meets}
+use Rattle.script.specs.declared.Command.{Command}
+use Rattle.script.specs.declared.Entry.{Entry}
+use Rattle.script.specs.declared.Entry.the-variants.{At, Broken}
+
+-- how many bytes a character has
+unfoldable pub sizeOf : ℕ → ℕ
+sizeOf c = length (bytesOf c)
+
+-- how many bytes a command has, by its number; 0 for an unknown one
+unfoldable pub widthOf : ℕ → ℕ
+widthOf b = cond (eqb b 1 || eqb b 2) 5 (cond (eqb b 3) 7 0)
+
+unfoldable pub characterAt : List ℕ → ℕ → ℕ
+characterAt l i = valueOf (part l (i + 1) (i + 5))
+
+unfoldable pub removedAt : List ℕ → ℕ → ℕ
+removedAt l i = valueOf (part l (i + 5) (i + 7))
+
+-- a removing command has to remove something
+unfoldable pub removalAt : List ℕ → ℕ → ℕ → Entry
+removalAt l i c =
+    cond (eqb (removedAt l i) 0) Broken (At (record { character = c; added = false; removed = removedAt l i }) (i + 7))
+
+-- a command, and where the next one begins; or an unknown command, a cut operand, a number that is no scalar value, a
+-- removal of 0
+unfoldable pub entryAt : List ℕ → ℕ → Entry
+entryAt l i =
+    cond (ltb 0 (widthOf (getD l i 0)) && leb (i + widthOf (getD l i 0)) (length l) && scalar (characterAt l i))
+    (cond (eqb (getD l i 0) 3) (removalAt l i (characterAt l i))
+    (At (record { character = characterAt l i; added = eqb (getD l i 0) 2; removed = 0 }) (i + 5)))
+    Broken
+
+abbrev pub isCommand : Entry → Bool
+isCommand (At c next) = true
+isCommand Broken = false
+
+abbrev pub nextOf : Entry → ℕ
+nextOf (At c next) = next
+nextOf Broken = 1
+
+abbrev pub listed : Entry → List Command → List Command
+listed (At c next) cs = c ∷ cs
+listed Broken cs = []
+
+-- the commands of a script, up to an entry that is none, from an entry on that is k bytes away
+unfoldable pub commandsFrom : ℕ → List ℕ → List Command
+commandsFrom k [] = []
+commandsFrom zero (b ∷ l) = listed (entryAt (b ∷ l) 0) (commandsFrom (nextOf (entryAt (b ∷ l) 0) - 1) l)
+commandsFrom (suc k) (b ∷ l) = commandsFrom k l
+
+unfoldable pub commandsOf : List ℕ → List Command
+commandsOf l = commandsFrom 0 l
+
+-- whether each entry of a script is a command
+unfoldable pub wholeFrom : ℕ → List ℕ → Bool
+wholeFrom k [] = true
+wholeFrom zero (b ∷ l) = isCommand (entryAt (b ∷ l) 0) && wholeFrom (nextOf (entryAt (b ∷ l) 0) - 1) l
+wholeFrom (suc k) (b ∷ l) = wholeFrom k l
+
+unfoldable pub whole : List ℕ → Bool
+whole l = wholeFrom 0 l
+
+-- which refusal condition a script meets
+abbrev pub scriptFaults : List ℕ → Refusal → Bool
+scriptFaults l = meets BadScript (not (whole l)) none

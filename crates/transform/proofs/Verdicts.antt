@@ -1,0 +1,268 @@
+-- Laws of `editFaults` and `transformFaults`: what an accepted edit tells, and what the calls answer by the checks that
+-- were made.
+use Prim.Native.Nat.{ℕ, _+_, _-_, _≤_, _<_, min}
+use mathlib.Core.Path.{_≡_, _∙_, ap, refl, sym}
+use mathlib.Core.Bool.{Bool, true, false, cond, _&&_, not}
+use mathlib.Mathlib.Data.Bool.Basic.{and-intro, and-elim-left, and-elim-right}
+use mathlib.Core.List.{List, []}
+use native.Mathlib.Omega.{arith}
+use lib.Dec.{leb}
+use lib.ListN.{length}
+use borrow.Author.Tests.{not-true, not-false, le-leb, lt-leb, leb-true}
+use Rattle.buffers.specs.Splice.{overlay}
+use Rattle.buffers.proofs.Cases.{true-or-false}
+use Rattle.buffers.proofs.Booleans.{and-false-l, and-false-r}
+use Rattle.utf8.specs.Formed.{wellFormed, boundary}
+use Rattle.utf8.specs.Lengths.{lengthTable}
+use Rattle.utf8.proofs.Boundaries.{boundary-most}
+use Rattle.note.specs.declared.OriginalByte.{OriginalByte}
+use Rattle.note.specs.declared.NormalizedByte.{NormalizedByte}
+use Rattle.note.specs.declared.Refusal.{Refusal}
+use Rattle.note.specs.declared.Refusal.the-variants.{TooLong, NotBoundary, BadScript, Exhausted, NoRoom}
+use Rattle.note.specs.declared.Verdict.{Verdict}
+use Rattle.note.specs.declared.Verdict.the-variants.{Accepted, Refused as Rejected}
+use Rattle.note.specs.Refusals.{least, also, verdict}
+use Rattle.note.specs.Notes.{Note, lent, fits, Sound}
+use Rattle.note.specs.Faults.{noteFaults}
+use Rattle.note.proofs.Verdicts.{accepted-meets, refused-then, accepted-then}
+use Rattle.note.proofs.Sound.{length-starts, length-ends, normalized-formed}
+use Rattle.note.proofs.Faults.{accepted-sound}
+use Rattle.convert.specs.declared.Range.{Range}
+use Rattle.convert.specs.declared.Range.the-variants.{Original, Normalized}
+use Rattle.convert.specs.declared.Converted.{Converted}
+use Rattle.convert.specs.declared.Converted.the-variants.{Found, Refused}
+use Rattle.convert.specs.Converting.{startOf, endOf, converted}
+use Rattle.convert.specs.Blocks.{Columns}
+use Rattle.convert.proofs.Answered.{accepted-columns}
+use Rattle.script.specs.declared.Command.{Command}
+use Rattle.script.specs.Scripts.{commandsFrom, commandsOf, whole, scriptFaults}
+use Rattle.transform.specs.declared.Editing.{Editing}
+use Rattle.transform.specs.declared.Editing.the-variants.{Edited, Refused as Refusing}
+use Rattle.transform.specs.declared.walking.Extent.{Extent}
+use Rattle.transform.specs.declared.walking.Extent.the-variants.{Size, Starved}
+use Rattle.transform.specs.Edits.{skipped, characters, carried, starved, Edit, placed, begins, relaid, edited, transformed, unchanging}
+use Rattle.transform.specs.Walking.{Standing, Tabled, sizes, measured}
+use Rattle.transform.specs.Laying.{Editable, EditRoom, EditLaid}
+use Rattle.transform.specs.Transforming.{target, editOf, editFaults, editing, Rewritten, scriptEdit, transformFaults}
+use Rattle.transform.proofs.Positions.{standing-skipped}
+use Rattle.transform.proofs.Measured.{measured-starved, measured-size}
+use Rattle.transform.proofs.Given.{characters-wide, length-relaid}
+
+-- a range that is placed
+module _ {s : List ℕ} (e : Edit) (formed : wellFormed s ≡ true) (p : placed s (e .from) (e .to) ≡ true) where
+  pub placed-from : Standing s (e .to) (e .from)
+  unfolding placed
+  placed-from =
+      let two : (leb (e .from) (e .to) && boundary s (e .from)) ≡ true = and-elim-left _ (boundary s (e .to)) p in
+      record {
+        formed = formed;
+        ends = and-elim-right (leb (e .from) (e .to) && boundary s (e .from)) _ p;
+        stands = and-elim-right (leb (e .from) (e .to)) _ two;
+        most = leb-true _ _ (and-elim-left _ (boundary s (e .from)) two);
+      }
+
+  pub placed-standing : Standing s (e .to) (begins s e)
+  unfolding begins
+  placed-standing = standing-skipped (e .skip) placed-from .0
+
+-- an edit that is accepted
+module _ (most : ℕ) (s : List ℕ) (e : Edit) (room : ℕ) (a : verdict (editFaults most s e room) ≡ Accepted) where
+  pub accepted-placed : placed s (e .from) (e .to) ≡ true
+  accepted-placed = not-false (placed s (e .from) (e .to)) (accepted-meets (editFaults most s e room) a NotBoundary)
+
+  pub accepted-fed : starved s (e .to) (begins s e) (e .commands) ≡ false
+  accepted-fed = accepted-meets (editFaults most s e room) a Exhausted
+
+  pub accepted-size : length (edited characters s e s) ≤ min most room
+  accepted-size = leb-true _ _ (not-false (leb (length (edited characters s e s)) (min most room)) (accepted-meets (editFaults most s e room) a NoRoom))
+
+-- the edit's part of the verdict, by what the code tests
+module _ (most : ℕ) (s : List ℕ) (e : Edit) (room : ℕ) where
+  pub off-place : placed s (e .from) (e .to) ≡ false → Rejected NotBoundary ≡ verdict (editFaults most s e room)
+  unfolding verdict
+  off-place p = rw p
+
+  pub starving : placed s (e .from) (e .to) ≡ true → starved s (e .to) (begins s e) (e .commands) ≡ true → Rejected Exhausted ≡ verdict (editFaults most s e room)
+  unfolding verdict
+  starving p f = rw (p, f)
+
+  module _ (p : placed s (e .from) (e .to) ≡ true) (f : starved s (e .to) (begins s e) (e .commands) ≡ false) where
+    pub too-large : min most room < length (edited characters s e s) → Rejected NoRoom ≡ verdict (editFaults most s e room)
+    unfolding verdict
+    too-large h = rw (p, f, lt-leb _ _ h)
+
+    pub small-enough : length (edited characters s e s) ≤ min most room → Accepted ≡ verdict (editFaults most s e room)
+    unfolding verdict
+    small-enough h = rw (p, f, le-leb _ _ h)
+
+-- what a verdict leaves
+pub refused-rewritten : {v : Verdict} {made : Note} {out starts ends : List ℕ} {k : Refusal} → Rejected k ≡ v → Rewritten v made out starts ends (Refusing k) out starts ends
+refused-rewritten {made = made} {out} {starts} {ends} e =
+    rw (← e) (record { answer = refl; text-is = refl; starts-are = refl; ends-are = refl })
+
+pub accepted-rewritten : {v : Verdict} {made : Note} {out₀ starts₀ ends₀ : List ℕ} {size : ℕ} {out starts ends : List ℕ} → Accepted ≡ v → size ≡ length (made .normalized) → out ≡ overlay (made .normalized) out₀ → starts ≡ overlay (made .starts) starts₀ → ends ≡ overlay (made .ends) ends₀ → Rewritten v made out₀ starts₀ ends₀ (Edited size) out starts ends
+accepted-rewritten e long o s t = rw (← e) (record { answer = ap Edited long; text-is = o; starts-are = s; ends-are = t })
+
+-- the range as the code judges it
+module _ (s : List ℕ) (a b : ℕ) where
+  pub placed-reversed : b < a → false ≡ placed s a b
+  unfolding placed
+  placed-reversed h = sym (and-false-l _ (boundary s b) (and-false-l _ (boundary s a) (lt-leb a b h)))
+
+  pub placed-inside : {t : Bool} → t ≡ boundary s a → not t ≡ true → false ≡ placed s a b
+  unfolding placed
+  placed-inside {t} is u = sym (and-false-l _ (boundary s b) (and-false-r (leb a b) _ (sym is ∙ not-true t u)))
+
+  pub placed-ends : {t r : Bool} → a ≤ b → t ≡ boundary s a → not t ≡ false → r ≡ boundary s b → r ≡ placed s a b
+  unfolding placed
+  placed-ends {t} h is u e = e ∙ rw (le-leb a b h, sym is ∙ not-false t u)
+
+pub target-normalized : (starts ends : List ℕ) {range : Range} {a b : NormalizedByte} → range ≡ Normalized a b → Found range ≡ target starts ends range
+target-normalized starts ends e = rw e
+
+pub target-original : (starts ends : List ℕ) {range : Range} {a b : OriginalByte} {r : Converted} → range ≡ Original a b → r ≡ converted starts ends range → r ≡ target starts ends range
+target-original starts ends e is = is ∙ rw e
+
+-- AN EDIT of an accepted note, as the code goes through it
+module _ (most : ℕ) {s starts ends : List ℕ} (ed : Editable s starts ends) (a b skip : ℕ) (l out₀ starts₀ ends₀ : List ℕ) {t : Bool} (is : t ≡ placed s a b) where
+  e : Edit
+  e = record { from = a; to = b; skip = skip; commands = commandsOf l }
+
+  rooms : ℕ
+  rooms = least (length out₀) (length starts₀) (length ends₀)
+
+  abbrev Made : Editing → List ℕ → List ℕ → List ℕ → Type 0
+  Made r out starts₁ ends₁ =
+      Rewritten (verdict (editFaults most s (record { from = a; to = b; skip = skip; commands = commandsOf l }) (least (length out₀) (length starts₀) (length ends₀))))
+      (transformed (lent [] s starts ends 0) (record { from = a; to = b; skip = skip; commands = commandsOf l }))
+      out₀ starts₀ ends₀ r out starts₁ ends₁
+
+  pub not-placed : not t ≡ true → Made (Refusing NotBoundary) out₀ starts₀ ends₀
+  unfolding e rooms
+  not-placed u = refused-rewritten (off-place most s e rooms (sym is ∙ not-true t u))
+
+  module _ (u : not t ≡ false) {table : List ℕ} (tab : table ≡ lengthTable) where
+    is-placed : placed s a b ≡ true
+    is-placed = sym is ∙ not-false t u
+
+    from-standing : Standing s b a
+    unfolding e
+    from-standing = placed-from e (ed .formed) is-placed
+
+    pub range-inside : (a ≤ b) × (b ≤ length s)
+    range-inside = (from-standing .most, boundary-most s b (from-standing .ends))
+
+    pub skip-ready : Tabled s b a table
+    skip-ready = record { standing = from-standing; lent = tab }
+
+    module _ {p : ℕ} (begun : p ≡ skipped s b skip a) where
+      pub measure-ready : Tabled s b p table
+      measure-ready = record { standing = rw begun (standing-skipped skip from-standing .0); lent = tab }
+
+      module _ {x : Extent} (m : x ≡ measured s b p (commandsOf l)) where
+        pub starved-refused : x ≡ Starved → Made (Refusing Exhausted) out₀ starts₀ ends₀
+        unfolding e rooms begins
+        starved-refused st =
+            refused-rewritten (starving most s e rooms is-placed (rw (← begun) (measured-starved s b p (commandsOf l) (sym m ∙ st))))
+
+        module _ {size : ℕ} (some : x ≡ Size size) {low room : ℕ} (lowest : low ≡ least (length out₀) (length starts₀) (length ends₀)) (r : room ≡ min most low) where
+          told : (starved s b p (commandsOf l) ≡ false) × (size ≡ sizes (commandsOf l))
+          told = measured-size s b p (commandsOf l) (sym m ∙ some)
+
+          inside : b ≤ length s
+          inside = boundary-most s b (from-standing .ends)
+
+          long : length (edited characters s e s) ≡ a + size + (length s - b)
+          unfolding e edited begins
+          long = rw (← begun, told .1) (length-relaid characters characters-wide s b a p (commandsOf l) s (omega (arith, inside, from-standing .most)))
+
+          here-fed : starved s b (begins s e) (commandsOf l) ≡ false
+          unfolding e begins
+          here-fed = rw (← begun) (told .0)
+
+          pub refused-kept : room < a + (length s - b) → Made (Refusing NoRoom) out₀ starts₀ ends₀
+          unfolding e rooms
+          refused-kept h = refused-rewritten (too-large most s e rooms is-placed here-fed (omega (arith, long, lowest, r)))
+
+          pub refused-size : a + (length s - b) ≤ room → room - (a + (length s - b)) < size → Made (Refusing NoRoom) out₀ starts₀ ends₀
+          unfolding e rooms
+          refused-size k h = refused-rewritten (too-large most s e rooms is-placed here-fed (omega (arith, long, lowest, r)))
+
+          module _ (k : a + (length s - b) ≤ room) (f : size ≤ room - (a + (length s - b))) where
+            pub edit-room : EditRoom s starts ends a b p l table out₀ starts₀ ends₀
+            edit-room =
+                record {
+                  one-start = ed .one-start;
+                  one-end = ed .one-end;
+                  tabled = measure-ready;
+                  forward = from-standing .most;
+                  inside = inside;
+                  feeds = told .0;
+                  text-room = omega (arith, told .1, lowest, r);
+                  starts-room = omega (arith, told .1, lowest, r);
+                  ends-room = omega (arith, told .1, lowest, r);
+                }
+
+            pub edit-made : {n : ℕ} {out starts₁ ends₁ : List ℕ} → EditLaid s starts ends a b p l out₀ starts₀ ends₀ n out starts₁ ends₁ → Made (Edited n) out starts₁ ends₁
+            unfolding e rooms transformed edited begins
+            edit-made {n} {out} {starts₁} {ends₁} d =
+                let fine = small-enough most s e rooms is-placed here-fed (omega (arith, long, lowest, r)) in
+                let laid : EditLaid s starts ends a b (skipped s b skip a) l out₀ starts₀ ends₀ n out starts₁ ends₁ = rw begun at d in
+                accepted-rewritten fine (laid .reached) (laid .text-is) (laid .starts-are) (laid .ends-are)
+
+-- THE CALL, as the code goes through it
+module _ (most : ℕ) (n : Note) (range : Range) (l : List ℕ) (skip : ℕ) (out₀ starts₀ ends₀ : List ℕ) {v : Verdict} (noted : v ≡ verdict (noteFaults most n)) where
+  rest : Refusal → Bool
+  rest = editFaults most (n .normalized) (scriptEdit n range l skip) (least (length out₀) (length starts₀) (length ends₀))
+
+  abbrev Called : Editing → List ℕ → List ℕ → List ℕ → Type 0
+  Called r out starts ends =
+      Rewritten (verdict (transformFaults most n range l skip (least (length out₀) (length starts₀) (length ends₀)))) (transformed n (scriptEdit n range l skip)) out₀ starts₀ ends₀ r out starts ends
+
+  refused-inputs : {k : Refusal} → Rejected k ≡ verdict (also (noteFaults most n) (scriptFaults l)) → Called (Refusing k) out₀ starts₀ ends₀
+  unfolding rest
+  refused-inputs e = refused-rewritten (refused-then 7 (also (noteFaults most n) (scriptFaults l)) rest refl refl e refl)
+
+  pub refused-note : {k : Refusal} → v ≡ Rejected k → Called (Refusing k) out₀ starts₀ ends₀
+  refused-note e = refused-inputs (refused-then 4 (noteFaults most n) (scriptFaults l) refl refl noted e)
+
+  module _ (ok : v ≡ Accepted) where
+    sound : Sound n
+    sound = accepted-sound most n (sym noted ∙ ok) .0
+
+    pub note-columns : Columns most (n .starts) (n .ends)
+    note-columns = accepted-columns most n (sym noted ∙ ok)
+
+    pub note-editable : Editable (n .normalized) (n .starts) (n .ends)
+    note-editable = record { formed = normalized-formed n sound; one-start = length-starts n sound; one-end = length-ends n sound }
+
+    module _ {t : Bool} (is : t ≡ whole l) where
+      script-verdict : verdict (scriptFaults l) ≡ cond t Accepted (Rejected BadScript)
+      unfolding verdict
+      script-verdict = rw (← is) (true-or-false t (λ y. rw y) (λ z. rw z))
+
+      pub refused-script : not t ≡ true → Called (Refusing BadScript) out₀ starts₀ ends₀
+      refused-script u = refused-inputs (accepted-then 4 (noteFaults most n) (scriptFaults l) refl refl noted ok (sym (script-verdict ∙ rw (not-true t u))))
+
+      pub edit-called : not t ≡ false → {d : Edit} → d ≡ scriptEdit n range l skip → {r : Editing} {out starts ends : List ℕ} → Rewritten (verdict (editFaults most (n .normalized) d (least (length out₀) (length starts₀) (length ends₀)))) (transformed (lent [] (n .normalized) (n .starts) (n .ends) 0) d) out₀ starts₀ ends₀ r out starts ends → Called r out starts ends
+      unfolding rest transformed
+      edit-called u same made =
+          let inputs : Accepted ≡ verdict (also (noteFaults most n) (scriptFaults l)) = accepted-then 4 (noteFaults most n) (scriptFaults l) refl refl noted ok (sym (script-verdict ∙ rw (not-false t u))) in
+          let all : verdict rest ≡ verdict (transformFaults most n range l skip (least (length out₀) (length starts₀) (length ends₀))) = accepted-then 7 (also (noteFaults most n) (scriptFaults l)) rest refl refl inputs refl refl in
+          let k = rw same at made in
+          rw (← all) (record { answer = k .answer; text-is = k .text-is; starts-are = k .starts-are; ends-are = k .ends-are })
+
+-- the edit that a target asks for
+pub edit-found : {x y : Converted} {r : Range} {a b : ℕ} (skip : ℕ) (cs : List Command) → x ≡ y → x ≡ Found r → a ≡ startOf r → b ≡ endOf r → record { from = a; to = b; skip = skip; commands = cs } ≡ editOf y skip cs
+edit-found skip cs is found from to = rw (sym is ∙ found, from, to)
+
+pub edit-none : {x y : Converted} {k : Refusal} (skip : ℕ) (cs : List Command) → x ≡ y → x ≡ Refused k → record { from = 0; to = 0; skip = 0; commands = commandsOf [] } ≡ editOf y skip cs
+unfolding commandsOf commandsFrom
+edit-none skip cs is none = rw (sym is ∙ none)
+
+-- a transcript over the limit
+pub refused-long : (most : ℕ) (n : Note) (range : Range) (l : List ℕ) (skip : ℕ) (out₀ starts₀ ends₀ : List ℕ) → most < length (n .original) → Rewritten (verdict (transformFaults most n range l skip (least (length out₀) (length starts₀) (length ends₀)))) (transformed n (scriptEdit n range l skip)) out₀ starts₀ ends₀ (Refusing TooLong) out₀ starts₀ ends₀
+unfolding verdict fits
+refused-long most n range l skip out₀ starts₀ ends₀ h =
+    refused-note most n range l skip out₀ starts₀ ends₀ refl
+    (rw (and-false-l _ (leb (n .original-shift + length (n .original)) most) (and-false-l _ (leb (length (n .normalized)) most) (lt-leb (length (n .original)) most h))))

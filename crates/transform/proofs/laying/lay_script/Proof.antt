@@ -1,0 +1,71 @@
+-- Each turn lays down one more command.
+use Prim.Native.Nat.{_-_, _^_, _<_}
+use lib.ListN.{length}
+use native.Mathlib.Omega.{arith}
+use borrow.Author.Needs.{needs}
+use Rattle.script.proofs.Scripts.{entry-step}
+use Rattle.transform.proofs.Given.{Going, none-going, command-room, counting, going-on, broken-gone, all-gone}
+use Rattle.transform.proofs.laying.lay_script.Statement.{statement}
+use Rattle.transform.proofs.laying.lay_script.Tie as tie
+
+abbrev Inv-loop : tie.InvT-loop
+Inv-loop text starts ends to position script table out₀ out-starts₀ out-ends₀ at progress₀ i₀ out out-starts out-ends progress i =
+    Going text starts ends to position script out₀ out-starts₀ out-ends₀ at progress i out out-starts out-ends
+
+abbrev μ-loop : tie.MeasureT-loop
+μ-loop text starts ends to position script table out₀ out-starts₀ out-ends₀ at progress₀ i₀ out out-starts out-ends progress i =
+    length script - i
+
+lay-command-requires : tie.Need-lay-command-requires Inv-loop μ-loop
+lay-command-requires c κs =
+    let there = c .before .before .before .before in
+    let read = there .before .before in
+    command-room (read .before .before .before .before .before .before .before .before .before .before .pre) (read .before .before .loop .inv) (read .entry-at .ensures) (there .command .given .1)
+
+step-requires : tie.Need-step-requires Inv-loop μ-loop
+step-requires c κs =
+    let there = c .before .before .before .before .before .before .before .before .before .before .before in
+    let read = there .before .before in
+    let entry = read .before .before .before .before .before .before .before .before .before .before in
+    let long : length (entry .args .out .now) < 2 ^ 64 = entry .good .1 .1 .1 .1 .1 .1 .1 .0 .0 in
+    counting (entry .pre) (read .before .before .loop .inv) (read .entry-at .ensures) (there .command .given .1) long
+
+loop-less : tie.Need-loop-less Inv-loop μ-loop
+loop-less c =
+    let there = c .before .before .before .before .before .before .before .before .before .before .before .before in
+    let step = entry-step _ (there .before .before .entry-at .ensures) (there .command .given .1) in
+    omega (arith, step .onward, step .most)
+
+loop-again : tie.Need-loop-again Inv-loop μ-loop
+loop-again c =
+    let there = c .before .before .before .before .before .before .before .before .before .before .before .before in
+    let read = there .before .before in
+    going-on (read .before .before .before .before .before .before .before .before .before .before .pre) (read .before .before .loop .inv) (read .entry-at .ensures) (there .command .given .1) (c .before .before .before .before .before .before .before .lay-command .ensures) (c .step .ensures)
+
+returns : tie.Need-returns Inv-loop μ-loop
+returns c =
+    let head = c .before .before .before .before in
+    broken-gone (head .before .before .before .before .before .before .before .before .pre) (head .loop .inv) (c .before .before .before .loop-test .taken) (c .before .before .entry-at .ensures) (c .enum-told .given .1)
+
+pub lay-script-spec : {M : Type 1} → statement M
+lay-script-spec =
+    tie.close
+    (tie.spec
+    Inv-loop
+    μ-loop
+    (λ c. none-going (c .before .before .before .before .before .before .before .pre))
+    (λ c κs. search needs)
+    (λ c. search needs)
+    lay-command-requires
+    step-requires
+    loop-less
+    loop-again
+    (λ c. search needs)
+    (λ c. c .before .before .before .before .loop .inv .text-laid .same)
+    (λ c. c .before .before .before .before .loop .inv .starts-laid .same)
+    (λ c. c .before .before .before .before .loop .inv .ends-laid .same)
+    returns
+    (λ c. c .before .loop .inv .text-laid .same)
+    (λ c. c .before .loop .inv .starts-laid .same)
+    (λ c. c .before .loop .inv .ends-laid .same)
+    (λ c. all-gone (c .before .before .before .before .before .before .before .before .before .pre) (c .before .loop .inv) (c .loop-test .left)))

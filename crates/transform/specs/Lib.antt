@@ -1,0 +1,5 @@
+-- Editing (RULES 7).
+pub mod Edits
+pub mod Transforming
+pub mod Walking
+pub mod Laying

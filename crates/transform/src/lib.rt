@@ -1,0 +1,237 @@
+// Editing (RULES 7; Rust: `transform_range`, `transform`): a script makes a range of the cleaned text anew.
+pub mod laying;
+pub mod walking;
+
+use buffers::Offset;
+use checks::check_note;
+use checks::least_of_two;
+use checks::least_room;
+use convert::Converted;
+use convert::Range;
+use convert::convert_checked;
+use convert::end_of;
+use convert::start_of;
+use laying::lay_edit;
+use note::LIMIT;
+use note::OriginalByte;
+use note::Refusal;
+use note::Verdict;
+use script::whole;
+use utf8::is_char_boundary;
+use utf8::lead::lengths;
+use walking::Extent;
+use walking::measure;
+use walking::skip;
+ghost use mathlib.Core.Path.{_≡_};
+ghost use mathlib.Core.List.{[]};
+ghost use lib.ListN.{length};
+ghost use Rattle.note.specs.Notes.{lent, limit};
+ghost use Rattle.note.specs.Refusals.{least, verdict};
+ghost use Rattle.convert.specs.Blocks.{Columns};
+ghost use Rattle.script.specs.Scripts.{commandsOf};
+ghost use Rattle.transform.specs.Edits.{placed, transformed};
+ghost use Rattle.transform.specs.Laying.{Editable};
+ghost use Rattle.transform.specs.Transforming.{editFaults, Rewritten, scriptEdit, target};
+ghost use Rattle.transform.specs.Transforming.{transformFaults, wholeTranscript};
+
+// How many bytes the cleaned text has after an edit; or why nothing is edited.
+pub enum Editing {
+    Edited(usize),
+    Refused(Refusal),
+}
+
+// Whether a range lies in a text, from a boundary to a boundary.
+fn placed(text: &[u8], from: usize, to: usize) -> bool
+    ensures { λ r. ⌜ r ≡ placed (now (text .entry)) from to ⌝ }
+{
+    if to < from {
+        return false;
+    }
+    if !is_char_boundary(text, from) {
+        return false;
+    }
+    is_char_boundary(text, to)
+}
+
+// The cleaned range that a range names; an inner function, for the columns of an accepted note.
+fn target(starts: &[Offset], ends: &[Offset], range: Range) -> Converted
+    requires { ⌜ Columns limit (now starts) (now ends) ⌝ }
+    ensures { λ r. ⌜ r ≡ target (now (starts .entry)) (now (ends .entry)) range ⌝ }
+{
+    match range {
+        Range::Normalized(_, _) => Converted::Found(range),
+        Range::Original(_, _) => convert_checked(starts, ends, range),
+    }
+}
+
+// A range of the cleaned text made anew by a script; an inner function, for an accepted note and a whole script.
+pub fn edit(
+    text: &[u8],
+    starts: &[Offset],
+    ends: &[Offset],
+    from: usize,
+    to: usize,
+    initial_offset: usize,
+    script: &[u8],
+    out: &mut [u8],
+    out_starts: &mut [Offset],
+    out_ends: &mut [Offset],
+) -> Editing
+    requires { ⌜ Editable (now text) (now starts) (now ends) ⌝ }
+    ensures { λ r. ⌜ Rewritten
+        (verdict (editFaults limit (now (text .entry))
+        (record { from = from; to = to; skip = «initial_offset»; commands = commandsOf (now (script .entry)) })
+        (least (length (now (out .entry))) (length (now («out_starts» .entry))) (length (now («out_ends» .entry))))))
+        (transformed (lent [] (now (text .entry)) (now (starts .entry)) (now (ends .entry)) 0)
+        (record { from = from; to = to; skip = «initial_offset»; commands = commandsOf (now (script .entry)) }))
+        (now (out .entry)) (now («out_starts» .entry)) (now («out_ends» .entry))
+        r (now (out .exit)) (now («out_starts» .exit)) (now («out_ends» .exit)) ⌝ }
+{
+    if !placed(text, from, to) {
+        return Editing::Refused(Refusal::NotBoundary);
+    }
+    let table = lengths();
+    let position = skip(text, to, initial_offset, from, &table);
+    match measure(text, to, position, script, &table) {
+        Extent::Starved => Editing::Refused(Refusal::Exhausted),
+        Extent::Size(size) => {
+            let room = least_of_two(
+                LIMIT,
+                least_room(out.len(), out_starts.len(), out_ends.len()),
+            );
+            let kept = from + (text.len() - to);
+            if room < kept {
+                return Editing::Refused(Refusal::NoRoom);
+            }
+            if room - kept < size {
+                return Editing::Refused(Refusal::NoRoom);
+            }
+            Editing::Edited(lay_edit(
+                text,
+                starts,
+                ends,
+                from,
+                to,
+                position,
+                script,
+                &table,
+                out,
+                out_starts,
+                out_ends,
+            ))
+        }
+    }
+}
+
+// Rust: `transform_range`. Refusals: those of a note, the script's, then the edit's.
+pub fn transform_range(
+    original: &[u8],
+    normalized: &[u8],
+    starts: &[Offset],
+    ends: &[Offset],
+    original_shift: u32,
+    range: Range,
+    script: &[u8],
+    initial_offset: u32,
+    out: &mut [u8],
+    out_starts: &mut [Offset],
+    out_ends: &mut [Offset],
+) -> Editing
+    ensures { λ r. ⌜ Rewritten
+        (verdict (transformFaults limit
+        (lent (now (original .entry)) (now (normalized .entry)) (now (starts .entry)) (now (ends .entry))
+        «original_shift»)
+        range (now (script .entry)) «initial_offset»
+        (least (length (now (out .entry))) (length (now («out_starts» .entry))) (length (now («out_ends» .entry))))))
+        (transformed
+        (lent (now (original .entry)) (now (normalized .entry)) (now (starts .entry)) (now (ends .entry))
+        «original_shift»)
+        (scriptEdit
+        (lent (now (original .entry)) (now (normalized .entry)) (now (starts .entry)) (now (ends .entry))
+        «original_shift»)
+        range (now (script .entry)) «initial_offset»))
+        (now (out .entry)) (now («out_starts» .entry)) (now («out_ends» .entry))
+        r (now (out .exit)) (now («out_starts» .exit)) (now («out_ends» .exit)) ⌝ }
+{
+    match check_note(original, normalized, starts, ends, original_shift) {
+        Verdict::Refused(k) => Editing::Refused(k),
+        Verdict::Accepted => {
+            if !whole(script) {
+                return Editing::Refused(Refusal::BadScript);
+            }
+            match target(starts, ends, range) {
+                Converted::Found(found) => edit(
+                    normalized,
+                    starts,
+                    ends,
+                    start_of(found) as usize,
+                    end_of(found) as usize,
+                    initial_offset as usize,
+                    script,
+                    out,
+                    out_starts,
+                    out_ends,
+                ),
+                Converted::Refused(_) => edit(
+                    normalized,
+                    starts,
+                    ends,
+                    0,
+                    0,
+                    0,
+                    &script[..0],
+                    out,
+                    out_starts,
+                    out_ends,
+                ),
+            }
+        }
+    }
+}
+
+// Rust: `transform`: the range is the whole transcript.
+pub fn transform(
+    original: &[u8],
+    normalized: &[u8],
+    starts: &[Offset],
+    ends: &[Offset],
+    original_shift: u32,
+    script: &[u8],
+    initial_offset: u32,
+    out: &mut [u8],
+    out_starts: &mut [Offset],
+    out_ends: &mut [Offset],
+) -> Editing
+    ensures { λ r. ⌜ Rewritten
+        (verdict (transformFaults limit
+        (lent (now (original .entry)) (now (normalized .entry)) (now (starts .entry)) (now (ends .entry))
+        «original_shift»)
+        (wholeTranscript (now (original .entry))) (now (script .entry)) «initial_offset»
+        (least (length (now (out .entry))) (length (now («out_starts» .entry))) (length (now («out_ends» .entry))))))
+        (transformed
+        (lent (now (original .entry)) (now (normalized .entry)) (now (starts .entry)) (now (ends .entry))
+        «original_shift»)
+        (scriptEdit
+        (lent (now (original .entry)) (now (normalized .entry)) (now (starts .entry)) (now (ends .entry))
+        «original_shift»)
+        (wholeTranscript (now (original .entry))) (now (script .entry)) «initial_offset»))
+        (now (out .entry)) (now («out_starts» .entry)) (now («out_ends» .entry))
+        r (now (out .exit)) (now («out_starts» .exit)) (now («out_ends» .exit)) ⌝ }
+{
+    if LIMIT < original.len() {
+        return Editing::Refused(Refusal::TooLong);
+    }
+    transform_range(
+        original,
+        normalized,
+        starts,
+        ends,
+        original_shift,
+        Range::Original(OriginalByte(0), OriginalByte(original.len() as u32)),
+        script,
+        initial_offset,
+        out,
+        out_starts,
+        out_ends,
+    )
+}
