@@ -33,10 +33,10 @@ use std::process::ExitCode;
 fn main() -> ExitCode {
     match std::env::args().nth(1).as_deref() {
         None => compare(),
-        Some("bench") => bench::measure(),
+        Some("bench") => bench::measure(std::env::args().nth(2).unwrap_or_default()),
         Some("list") => answers::write(),
         Some(_) => {
-            eprintln!("usage: compare/run [bench | list]");
+            eprintln!("usage: compare/run [bench [WORD] | list]");
             ExitCode::from(2)
         }
     }

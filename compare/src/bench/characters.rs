@@ -1,7 +1,7 @@
 //! Well-formedness, letters and character positions.
 
 use super::layouts::Marked;
-use super::{at_most, side, timed, Bench, Side, Table, NO_AIM};
+use super::{at_most, everywhere, side, timed, Bench, Side, Table, NO_AIM, RUST, SIMDUTF8};
 use crate::library::{self, Columns};
 use crate::lists::List;
 use crate::positions::shuffle;
@@ -11,27 +11,18 @@ use std::ops::Range;
 use std::str::from_utf8;
 use tokenizers::pre_tokenizer::Converter;
 
+/// Beside `core::str::from_utf8` and `simdutf8::basic::from_utf8`.
 const WELL_FORMED: Table =
-    Table::new("well_formed", &[("core::str::from_utf8", at_most(1.0)), ("simdutf8::basic::from_utf8", NO_AIM)]);
+    Table::new("`well_formed`", &[(RUST, at_most(1.0)), (SIMDUTF8, [Some(1.2), Some(1.2), Some(1.2), Some(2.2)])]);
 
-const LETTER_COUNT: Table = Table::new(
-    "letter_count, which checks the text",
-    &[
-        ("core::str::from_utf8 and chars().count()", NO_AIM),
-        ("simdutf8 and chars().count()", NO_AIM),
-        ("chars().count() alone", NO_AIM),
-    ],
-);
+/// Beside `core::str::from_utf8` or `simdutf8`, and `chars().count()`.
+const LETTER_COUNT: Table = Table::new("`letter_count`, which checks the text", &[(RUST, NO_AIM), (SIMDUTF8, NO_AIM)]);
 
-const CHAR_OFFSETS: Table = Table::new(
-    "char_offsets_all, 8,000 pairs in order",
-    &[("BytesToCharOffsetConverter built and asked 8,000 times", at_most(0.02))],
-);
+/// Beside `BytesToCharOffsetConverter` built and asked 8,000 times.
+const CHAR_OFFSETS: Table = Table::new("`char_offsets_all`, 8,000 pairs in order", &[(RUST, everywhere(0.01))]);
 
-const CHAR_OFFSETS_SHUFFLED: Table = Table::new(
-    "char_offsets_all, 8,000 pairs in random order, where ours is no longer one pass",
-    &[("BytesToCharOffsetConverter built and asked 8,000 times", NO_AIM)],
-);
+const CHAR_OFFSETS_SHUFFLED: Table =
+    Table::new("`char_offsets_all`, 8,000 pairs in random order, where ours is no longer one pass", &[(RUST, NO_AIM)]);
 
 pub fn bench(bench: &mut Bench) {
     bench.table(&WELL_FORMED, well_formed);
@@ -60,7 +51,6 @@ fn letter_count(texts: &[Marked]) -> Vec<Side<'_>> {
         side(move |i| timed(|| library::letter_count(bytes(i), 0, texts[i].text.len() as u32))),
         side(move |i| timed(|| from_utf8(bytes(i)).map(|text| text.chars().count()))),
         side(move |i| timed(|| simdutf8::basic::from_utf8(bytes(i)).map(|text| text.chars().count()))),
-        side(move |i| timed(|| black_box(texts[i].text.as_str()).chars().count())),
     ]
 }
 
@@ -70,7 +60,7 @@ pub fn list_of(ranges: &[Range<usize>]) -> List {
     List::of(&pairs)
 }
 
-/// Buffers for the answers to a list of 8,000.
+/// Buffers for the answers to a list of up to 8,000.
 #[derive(Default)]
 pub struct Answers {
     numbers: Vec<u8>,

@@ -2,7 +2,7 @@
 
 use super::characters::{list_of, Answers};
 use super::layouts::{self, Marked};
-use super::{at_most, side, timed, Bench, Side, Table, NO_AIM};
+use super::{at_most, everywhere, side, timed, Bench, Side, Table, NO_AIM, RUST};
 use crate::library;
 use crate::texts;
 use std::hint::black_box;
@@ -10,26 +10,22 @@ use tokenizers::normalizer::Range;
 use tokenizers::NormalizedString;
 
 const NEAR_THE_END: Table = Table::new(
-    "convert_offsets, 51 bytes near the original's end to normalized, check included",
-    &[("NormalizedString::convert_offsets", at_most(1.0))],
+    "`convert_offsets`, 51 bytes near the original's end to normalized, check included",
+    &[(RUST, at_most(1.0))],
 );
 
-const FROM_THE_BEGINNING: Table = Table::new(
-    "convert_offsets, from the original's beginning to near its end, check included",
-    &[("NormalizedString::convert_offsets", NO_AIM)],
-);
+const FROM_THE_BEGINNING: Table =
+    Table::new("`convert_offsets`, from the original's beginning to near its end, check included", &[(RUST, NO_AIM)]);
 
 const BEYOND_THE_CHECK: Table = Table::beyond(
-    "check_note",
-    "convert_offsets, 51 bytes near the original's end to normalized",
-    &[("NormalizedString::convert_offsets", NO_AIM)],
+    "`check_note`",
+    "`convert_offsets`, 51 bytes near the original's end to normalized",
+    &[(RUST, NO_AIM)],
 );
 
-const LISTS: Table = Table::beyond(
-    "check_note",
-    "convert_all, 8,000 ranges normalized to original",
-    &[("8,000 calls of NormalizedString::convert_offsets", at_most(1.0))],
-);
+/// Beside 8,000 calls of `NormalizedString::convert_offsets`.
+const LISTS: Table =
+    Table::beyond("`check_note`", "`convert_all`, 8,000 ranges normalized to original", &[(RUST, everywhere(0.5))]);
 
 pub fn bench(bench: &mut Bench) {
     bench.table(&NEAR_THE_END, |texts| walk(texts, |text| text.len() - 60));

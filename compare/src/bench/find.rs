@@ -1,30 +1,31 @@
 //! Finding a literal.
 
 use super::layouts::{any_list, LEN, LITERAL};
-use super::{side, timed, Bench, Other, Side, Table, NO_AIM};
+use super::{at_most, side, timed, Bench, Other, Side, Table, MEMMEM, NO_AIM, RUST, SIMDUTF8};
 use crate::library;
 use memchr::memmem;
 use std::hint::black_box;
 use tokenizers::pattern::Pattern;
 
-const OTHERS: &[Other] =
-    &[("find_matches of a &str", NO_AIM), ("simdutf8 and memchr::memmem", NO_AIM), ("memchr::memmem alone", NO_AIM)];
+/// Beside `find_matches` of a `&str`, `simdutf8` and `memchr::memmem`, and `memchr::memmem` alone.
+const OTHERS: &[Other] = &[(RUST, NO_AIM), (SIMDUTF8, NO_AIM), (MEMMEM, NO_AIM)];
 
-const EVERYWHERE: Table = Table::new("find_matches of a literal that stands every 45 bytes", OTHERS);
+const EVERYWHERE: Table = Table::new("`find_matches` of a literal that stands every 45 bytes", OTHERS);
 
-const NOWHERE: Table = Table::new("find_matches of a literal that is nowhere", OTHERS);
+const NOWHERE: Table = Table::new(
+    "`find_matches` of a literal that is nowhere",
+    &[(RUST, NO_AIM), (SIMDUTF8, at_most(1.3)), (MEMMEM, NO_AIM)],
+);
 
-const NEARLY: Table =
-    Table::new("find_matches of a literal of 2, 20 and 200 bytes that nearly matches at every byte", OTHERS);
+const NEARLY: Table = Table::new("`find_matches` of a literal that nearly matches at every byte", OTHERS);
 
 pub fn bench(bench: &mut Bench) {
     bench.table(&EVERYWHERE, |texts| find(|i| &texts[i].text, LITERAL));
     bench.table(&NOWHERE, |texts| find(|i| &texts[i].text, "QQQ"));
-    NEARLY.heading();
     let text = "a".repeat(LEN);
     for len in [2, 20, 200] {
         let literal = "a".repeat(len - 1) + "b";
-        bench.row(&NEARLY, &len.to_string(), find(|_| &text, &literal));
+        bench.row(&NEARLY, &format!("a..a, and {len} bytes a..ab"), find(|_| &text, &literal));
     }
 }
 

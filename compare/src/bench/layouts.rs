@@ -8,6 +8,7 @@ use std::ops::Range;
 use tokenizers::NormalizedString;
 
 pub const LEN: usize = 60_000;
+pub const SIZES: [usize; 4] = [LEN / 8, LEN / 4, LEN / 2, LEN];
 pub const LITERAL: &str = "Nest 12";
 pub const FILLER: &str = "*****";
 
@@ -27,21 +28,27 @@ pub fn texts() -> Vec<Texts> {
     let kinds = [("ASCII", Kind::Ascii), ("mixed", Kind::Mixed), ("CJK", Kind::Cjk), ("emoji", Kind::Emoji)];
     let mut random = Random::new(60);
     let of_kind = |(name, kind)| {
-        let regular = [marked(kind, &mut random, |_| 45 - LITERAL.len())];
-        let irregular = (0..12).map(|_| marked(kind, &mut random, |random| 13 + random.below(51))).collect();
+        let regular = [marked(kind, LEN, &mut random, |_| 45 - LITERAL.len())];
+        let irregular = (0..12).map(|_| marked(kind, LEN, &mut random, |random| 13 + random.below(51))).collect();
         Texts { name, regular, irregular }
     };
     kinds.map(of_kind).into()
 }
 
+/// A mixed text of each size.
+pub fn sizes() -> Vec<Marked> {
+    let mut random = Random::new(62);
+    SIZES.map(|size| marked(Kind::Mixed, size, &mut random, |_| 45 - LITERAL.len())).into()
+}
+
 /// Stretches of a text, each followed by `LITERAL`.
-fn marked(kind: Kind, random: &mut Random, stretch: impl Fn(&mut Random) -> usize) -> Marked {
-    let text = texts::text(kind, LEN, random);
-    let mut marked = Marked { text: String::with_capacity(LEN), places: vec![] };
+fn marked(kind: Kind, len: usize, random: &mut Random, stretch: impl Fn(&mut Random) -> usize) -> Marked {
+    let text = texts::text(kind, len, random);
+    let mut marked = Marked { text: String::with_capacity(len), places: vec![] };
     loop {
         let start = marked.text.len();
         let end = start + stretch(random);
-        if end + LITERAL.len() > LEN {
+        if end + LITERAL.len() > len {
             break;
         }
         let begin = (start..).find(|&at| text.is_char_boundary(at)).expect("the text's end is a boundary");
@@ -79,10 +86,11 @@ impl Marked {
         note
     }
 
-    /// 8,000 ranges of the text, in order and on boundaries, as a tokenizer leaves them.
+    /// 8,000 ranges of the longest text, fewer of a shorter one, in order and on boundaries, as a tokenizer leaves them.
     pub fn ranges(&self) -> Vec<Range<usize>> {
-        let cut = |i: usize| texts::boundary_before(&self.text, i * self.text.len() / 8_000);
-        (0..8_000).map(|i| cut(i)..cut(i + 1)).collect()
+        let count = (8_000 * self.text.len()).div_ceil(LEN);
+        let cut = |i: usize| texts::boundary_before(&self.text, i * self.text.len() / count);
+        (0..count).map(|i| cut(i)..cut(i + 1)).collect()
     }
 }
 

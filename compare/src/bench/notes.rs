@@ -1,21 +1,21 @@
 //! The starting note and the check of a note.
 
 use super::layouts::{self, Marked, LEN};
-use super::{at_most, side, timed, Bench, Side, Table, NO_AIM};
+use super::{at_most, side, timed, Bench, Side, Table, COPYING, NO_AIM, RUST};
 use crate::library;
 use crate::note::Note;
 use std::hint::black_box;
 use tokenizers::NormalizedString;
 
-const CHECK_FRESH: Table = Table::new("check_note of the starting note", &[("NormalizedString::from", at_most(0.20))]);
+/// Each beside `NormalizedString::from`.
+const CHECK_FRESH: Table = Table::new("`check_note` of the starting note", &[(RUST, at_most(0.20))]);
 
 const CHECK_EDITED: Table = Table::new(
-    "check_note of a note with each literal replaced, the general way",
-    &[("NormalizedString::from", NO_AIM)],
+    "`check_note` of a note with each literal replaced, the general way",
+    &[(RUST, [Some(0.20), Some(0.20), Some(0.35), None])],
 );
 
-const FROM_TEXT: Table =
-    Table::new("from_text", &[("NormalizedString::from", NO_AIM), ("copying the two columns", NO_AIM)]);
+const FROM_TEXT: Table = Table::new("`from_text`", &[(RUST, NO_AIM), (COPYING, NO_AIM)]);
 
 pub fn bench(bench: &mut Bench) {
     bench.table(&CHECK_FRESH, |texts| check(texts, texts.iter().map(Marked::fresh)));

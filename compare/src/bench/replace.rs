@@ -1,7 +1,7 @@
 //! Replacing, the three calls one after the other, and blanking in one call.
 
 use super::layouts::{self, any_list, Marked, FILLER, LITERAL};
-use super::{at_most, side, timed, Bench, Other, Side, Table, NO_AIM};
+use super::{at_most, everywhere, side, timed, Bench, Other, Side, Table, COPYING, NO_AIM, RUST};
 use crate::library::{self, Count, Publishing, Redacting};
 use crate::note::Note;
 use crate::places::Handed;
@@ -11,32 +11,36 @@ use std::time::Duration;
 use tokenizers::pattern::Pattern;
 use tokenizers::NormalizedString;
 
-const REPLACE: Table = Table::new(
-    "replace of a list on a ready note, which it checks",
-    &[("replace, which does not check", NO_AIM), ("copying the result's bytes and columns", NO_AIM)],
-);
+/// Beside `replace`, which does not check, and copying the result's bytes and columns.
+const REPLACE: Table = Table {
+    in_rotation: true,
+    ..Table::new(
+        "`replace` of a list on a ready note, which it checks",
+        &[(RUST, [Some(0.20), None, None, None]), (COPYING, NO_AIM)],
+    )
+};
 
-const FROM_TEXT_AND_REPLACE: Table = Table::new(
-    "from_text and replace of a list",
-    &[("from and replace of a list", NO_AIM), ("copying the result's bytes and columns", NO_AIM)],
-);
+const FROM_TEXT_AND_REPLACE: Table = Table::new("`from_text` and `replace` of a list", FROM_AND_REPLACE);
 
 const THREE_CALLS: Table =
-    Table::new("from_text, find_matches and replace, each with its own checks", FROM_AND_REPLACE);
+    Table::new("`from_text`, `find_matches` and `replace`, each with its own checks", FROM_AND_REPLACE);
 
-const REDACT: Table = Table::new(
-    "redact: finding, checks and alignments included",
-    &[("from and replace of a literal", at_most(0.20)), ("copying the result's bytes and columns", NO_AIM)],
-);
+const REDACT: Table = Table {
+    of_regular: Some(1.15),
+    ..Table::new(
+        "`redact`: finding, checks and alignments included",
+        &[(RUST, everywhere(0.10)), (COPYING, at_most(4.0))],
+    )
+};
 
-const FROM_AND_REPLACE: &[Other] =
-    &[("from and replace of a literal", NO_AIM), ("copying the result's bytes and columns", NO_AIM)];
+/// Beside `from` and `replace`, and copying the result's bytes and columns.
+const FROM_AND_REPLACE: &[Other] = &[(RUST, NO_AIM), (COPYING, NO_AIM)];
 
 /// Other literals and fillers than the bench's.
 const REDACTIONS: [(&str, &str, &str); 3] = [
-    ("redact by an empty filler", LITERAL, ""),
-    ("redact by a filler of 9 bytes, which is longer than the literal", LITERAL, "*********"),
-    ("redact of an empty literal, which is nowhere", "", FILLER),
+    ("`redact` by an empty filler", LITERAL, ""),
+    ("`redact` by a filler of 9 bytes, which is longer than the literal", LITERAL, "*********"),
+    ("`redact` of an empty literal, which is nowhere", "", FILLER),
 ];
 
 pub fn bench(bench: &mut Bench) {
@@ -45,7 +49,7 @@ pub fn bench(bench: &mut Bench) {
     bench.table(&THREE_CALLS, three_calls);
     bench.table(&REDACT, |texts| redact(texts, LITERAL, FILLER));
     for (name, literal, filler) in REDACTIONS {
-        bench.table(&Table { name, others: FROM_AND_REPLACE, beyond: None }, |texts| redact(texts, literal, filler));
+        bench.table(&Table::new(name, FROM_AND_REPLACE), |texts| redact(texts, literal, filler));
     }
 }
 

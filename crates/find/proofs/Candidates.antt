@@ -1,18 +1,20 @@
 -- Laws of `Candidate` and `Absent`: positions at which a literal does not stand, told by two of its bytes, one by one and 64 at once.
 use Prim.Native.Nat.{ℕ, _+_, _-_, _≤_, _<_, min}
-use mathlib.Core.Path.{_≡_, _∙_, sym}
-use mathlib.Core.Bool.{Bool, true, false, cond, _&&_}
+use mathlib.Core.Path.{_≡_, _∙_, refl, sym}
+use mathlib.Core.Bool.{Bool, true, false, cond, _&&_, _||_, not}
 use mathlib.Core.Logic.{inl, inr, ⊎-elim}
 use mathlib.Core.List.{List}
 use native.Mathlib.Omega.{arith}
 use lib.Dec.{eqb}
 use lib.ListN.{length, getD}
-use borrow.Author.Tests.{eq-eqb}
+use borrow.Author.Tests.{eq-eqb, not-true, not-false}
+use Rattle.buffers.specs.Every.{everyBelow}
 use Rattle.buffers.specs.Splice.{part}
 use Rattle.buffers.proofs.Cases.{le-or-lt, true-or-false, clash}
+use Rattle.buffers.proofs.Every.{every-suc, every-at}
 use Rattle.buffers.proofs.Splice.{part-index}
 use Rattle.find.specs.Matching.{occursAt, firstFrom}
-use Rattle.find.specs.Searching.{together, Candidate, Absent}
+use Rattle.find.specs.Searching.{together, apartBelow, Candidate, Absent}
 use Rattle.find.proofs.Occurs.{occurs-inside, occurs-byte}
 use Rattle.find.proofs.FirstFrom.{first-unique}
 
@@ -52,10 +54,35 @@ module _ {a b : List ℕ} {x y r j : ℕ} (c : Candidate a b x y j r) (h : j < 6
 pub all-indices : {a b : List ℕ} {x y r j : ℕ} → Candidate a b x y j r → j ≡ 64 → Candidate a b x y 64 r
 all-indices c full = rw full at c
 
+-- the loop that only tells whether there is one
+either-hit : (a t : Bool) → (not a || t) ≡ not (a && not t)
+either-hit true true = refl
+either-hit true false = refl
+either-hit false t = refl
+
+module _ (a b : List ℕ) (x y : ℕ) where
+  pub apart-none : false ≡ not (apartBelow a b x y 0)
+  unfolding apartBelow everyBelow
+  apart-none = refl
+
+  pub apart-more : (j : ℕ) {hit : Bool} → hit ≡ not (apartBelow a b x y j) → (hit || (eqb (getD a j 0) x && eqb (getD b j 0) y)) ≡ not (apartBelow a b x y (j + 1))
+  unfolding apartBelow together
+  apart-more j is = rw (is, every-suc j (λ (k : ℕ). not (together a b x y k))) (either-hit (everyBelow j (λ (k : ℕ). not (together a b x y k))) (together a b x y j))
+
+  pub apart-all : {j : ℕ} {hit : Bool} → hit ≡ not (apartBelow a b x y j) → j ≡ 64 → hit ≡ not (apartBelow a b x y 64)
+  apart-all is full = rw full at is
+
+  pub apart-candidate : {hit : Bool} → hit ≡ not (apartBelow a b x y 64) → hit ≡ false → Candidate a b x y 64 255
+  unfolding apartBelow
+  apart-candidate is f =
+      let apart : ℕ → Bool = λ k. not (together a b x y k) in
+      let all = not-false (everyBelow 64 apart) (sym is ∙ f) in
+      record { before = λ k h l. not-true (together a b x y k) (every-at 64 apart all k h); here = inl refl }
+
 pub absent-none : {text literal : List ℕ} {from : ℕ} → from ≤ length text → Absent text literal from from
 absent-none h = record { onward = omega arith; most = h; not-there = λ k a b. absurd (omega arith) }
 
-absent-on : {text literal : List ℕ} {from i to : ℕ} → Absent text literal from i → Absent text literal i to → Absent text literal from to
+pub absent-on : {text literal : List ℕ} {from i to : ℕ} → Absent text literal from i → Absent text literal i to → Absent text literal from to
 absent-on {i = i} p q =
     record {
       onward = omega (arith, p .onward, q .onward);

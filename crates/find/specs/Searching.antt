@@ -1,16 +1,21 @@
 -- What the contracts of the inner functions of searching are said with.
 use Prim.Native.Nat.{ℕ, _≤_, _<_}
 use mathlib.Core.Path.{_≡_}
-use mathlib.Core.Bool.{Bool, true, false, cond, _&&_}
+use mathlib.Core.Bool.{Bool, true, false, cond, _&&_, not}
 use mathlib.Core.Logic.{_⊎_}
 use mathlib.Core.List.{List}
 use lib.Dec.{eqb}
 use lib.ListN.{length, getD}
+use Rattle.buffers.specs.Every.{everyBelow}
 use Rattle.find.specs.Matching.{occursAt, firstFrom}
 
 -- `first` stands in a and `last` in b, at one index
 unfoldable pub together : List ℕ → List ℕ → ℕ → ℕ → ℕ → Bool
 together a b first last j = eqb (getD a j 0) first && eqb (getD b j 0) last
+
+-- they do at none of n indices
+unfoldable pub apartBelow : List ℕ → List ℕ → ℕ → ℕ → ℕ → Bool
+apartBelow a b first last n = everyBelow n (λ j. not (together a b first last j))
 
 -- r is the first of n indices at which they do, or 255 where they do at none
 pub record Candidate (a b : List ℕ) (first last n r : ℕ) : Type 0 where

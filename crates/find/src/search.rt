@@ -1,14 +1,14 @@
 // Where a literal stands next in a text. Of 64 positions at once the first is named at which its first byte and, as
-// far on as it is long, its last one stand together, and it is tried there; fewer than 64 are tried one by one. The
-// worst case is the text's length times the literal's, where they nearly match everywhere: a literal a..aba..a in a
+// far on as it is long, its last one stand together, and it is tried there; where there is none, blocks of 64 are
+// passed until there is one; fewer than 64 are tried one by one. The worst case is the text's length times the literal's, where they nearly match everywhere: a literal a..aba..a in a
 // text a..a.
 use buffers::equality::same_bytes;
 ghost use mathlib.Core.Path.{_≡_};
-ghost use mathlib.Core.Bool.{cond};
+ghost use mathlib.Core.Bool.{cond, not};
 ghost use Prim.Native.Nat.{_+_, _≤_, _<_, min};
 ghost use lib.ListN.{length};
 ghost use Rattle.find.specs.Matching.{occursAt, firstFrom};
-ghost use Rattle.find.specs.Searching.{Absent, Candidate, firstMatch};
+ghost use Rattle.find.specs.Searching.{Absent, Candidate, apartBelow, firstMatch};
 
 // Whether the literal stands in the text at `p`.
 fn occurs_at(text: &[u8], literal: &[u8], p: usize) -> bool
@@ -54,6 +54,40 @@ fn candidate(a: &[u8], b: &[u8], first: u8, last: u8) -> u8
     best
 }
 
+// Whether `first` stands in `a` and `last` in `b` at one of 64 indices: less work than to name the first.
+fn beside(a: &[u8], b: &[u8], first: u8, last: u8) -> bool
+    requires { ⌜ (64 ≤ length (now a)) × (64 ≤ length (now b)) ⌝ }
+    ensures { λ r. ⌜ r ≡ not (apartBelow (now (a .entry)) (now (b .entry)) first last 64) ⌝ }
+{
+    let mut hit = false;
+    let mut j = 0;
+    while j < 64 {
+        hit = hit | ((a[j] == first) & (b[j] == last));
+        j += 1;
+    }
+    hit
+}
+
+// The first of the blocks of 64 positions, from `from` on, that the literal's first and last byte do not shut out; or
+// where fewer than 64 are left.
+fn pass_blocks(text: &[u8], literal: &[u8], from: usize) -> usize
+    requires { ⌜ (0 < length (now literal)) × (from ≤ length (now text)) ⌝ }
+    ensures { λ r. ⌜ Absent (now (text .entry)) (now (literal .entry)) from r ⌝ }
+{
+    let width = literal.len() - 1;
+    let first = literal[0];
+    let last = literal[width];
+    let mut i = from;
+    while width + 64 <= text.len() - i {
+        let j = i + width;
+        if beside(&text[i..i + 64], &text[j..j + 64], first, last) {
+            return i;
+        }
+        i += 64;
+    }
+    i
+}
+
 // The next position to try the literal at: past all at which two of its bytes say that it does not stand, while 64
 // are left.
 fn next_candidate(text: &[u8], literal: &[u8], from: usize) -> usize
@@ -70,7 +104,7 @@ fn next_candidate(text: &[u8], literal: &[u8], from: usize) -> usize
         if k < 64 {
             return i + k as usize;
         }
-        i += 64;
+        i = pass_blocks(text, literal, i + 64);
     }
     i
 }

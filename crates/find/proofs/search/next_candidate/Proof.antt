@@ -4,7 +4,7 @@ use mathlib.Core.Path.{refl}
 use native.Mathlib.Omega.{arith}
 use lib.ListN.{length, length-take, length-drop}
 use Rattle.find.specs.Searching.{Absent}
-use Rattle.find.proofs.Candidates.{absent-none, absent-block}
+use Rattle.find.proofs.Candidates.{absent-none, absent-on, absent-block}
 use Rattle.find.proofs.search.next_candidate.Statement.{statement}
 use Rattle.find.proofs.search.next_candidate.Tie as tie
 
@@ -24,8 +24,11 @@ returns c =
 
 loop-again : tie.Need-loop-again Inv-loop μ-loop
 loop-again c =
-    let head = c .before .before .before .before .before in
-    absent-block _ _ _ (head .before .before .before .before .before .pre .0) refl refl _ (head .loop .inv) (c .before .candidate .ensures) (omega arith) (omega arith) (omega arith)
+    let test = c .before .before in
+    let head = test .before .before .before .before in
+    absent-on
+    (absent-block _ _ _ (head .before .before .before .before .before .pre .0) refl refl _ (head .loop .inv) (test .candidate .ensures) (omega arith) (omega arith) (omega arith))
+    (c .pass-blocks .ensures)
 
 pub next-candidate-spec : {M : Type 1} → statement M
 next-candidate-spec =
@@ -53,6 +56,7 @@ next-candidate-spec =
     (λ c. omega arith)
     returns
     (λ c. omega arith)
-    (λ c. omega arith)
+    (λ c κs. (omega arith, omega arith))
+    (λ c. omega (arith, c .pass-blocks .ensures .onward, c .pass-blocks .ensures .most))
     loop-again
     (λ c. c .before .loop .inv))
