@@ -48,6 +48,29 @@ no-ends s d p =
       most = omega arith;
     }
 
+-- one byte's range, walked to: its character begins where that of the byte at k does, or ends where the one before k does
+pub record StartBack (s : List ℕ) (i k : ℕ) : Type 0 where
+  pub here : charStart s i ≡ charStart s k
+  pub most : k ≤ i
+
+pub start-step : {s : List ℕ} {i k : ℕ} → StartBack s i k → continues (getD s k 0) ≡ true → StartBack s i (k - 1)
+start-step {s} {i} {k} w e = record { here = w .here ∙ start-carried s k e; most = omega (arith, w .most) }
+
+pub start-first : {s : List ℕ} {i k : ℕ} → StartBack s i k → k ≤ 0 → 0 ≡ charStart s i
+unfolding charStart
+start-first {k = k} w h = let none : k ≡ 0 = omega arith in sym (w .here ∙ rw none)
+
+pub record EndAhead (s : List ℕ) (i k : ℕ) : Type 0 where
+  pub here : charEnd s i ≡ charEnd s (k - 1)
+  pub past : i < k
+  pub most : k ≤ length s
+
+pub end-none : (s : List ℕ) (i : ℕ) → i < length s → EndAhead s i (i + 1)
+end-none s i h = let back : i + 1 - 1 ≡ i = omega arith in record { here = rw back; past = omega arith; most = omega arith }
+
+pub end-last : {s : List ℕ} {i k : ℕ} → wellFormed s ≡ true → EndAhead s i k → length s ≤ k → k ≡ charEnd s i
+end-last {s} {i} {k} p w h = let r : Ranged s (k - 1) = ranged s (k - 1) p (omega (arith, w .past, w .most)) in omega (arith, w .here, w .past, w .most, r .past, r .most)
+
 -- the end before a byte that begins a character, and before one that does not
 end-begun : (s : List ℕ) (i : ℕ) → wellFormed s ≡ true → i < length s → continues (getD s i 0) ≡ false → 0 < i → i ≡ charEnd s (i - 1)
 end-begun s zero p h new some = absurd (omega arith)
@@ -58,6 +81,14 @@ end-begun s (suc i) p h new some =
 end-carried : (s : List ℕ) (i : ℕ) → continues (getD s i 0) ≡ true → 0 < i → charEnd s i ≡ charEnd s (i - 1)
 end-carried s zero more some = absurd (omega arith)
 end-carried s (suc i) more some = let back : suc i - 1 ≡ i = omega arith in rw back (charEnd-continues s i more)
+
+pub end-step : {s : List ℕ} {i k : ℕ} → EndAhead s i k → k < length s → continues (getD s k 0) ≡ true → EndAhead s i (k + 1)
+end-step {s} {i} {k} w h e =
+    let back : k + 1 - 1 ≡ k = omega arith in
+    record { here = rw back (w .here ∙ sym (end-carried s k e (omega (arith, w .past)))); past = omega (arith, w .past); most = omega arith }
+
+pub end-found : {s : List ℕ} {i k : ℕ} → wellFormed s ≡ true → EndAhead s i k → k < length s → continues (getD s k 0) ≡ false → k ≡ charEnd s i
+end-found {s} {i} {k} p w h e = end-begun s k p h e (omega (arith, w .past)) ∙ sym (w .here)
 
 -- a byte's end is written, and the end before it becomes x
 module _ {s d₀ d : List ℕ} {end i : ℕ} (w : EndsFrom s d₀ d end i) (some : 0 < i) (room : length s ≤ length d₀) where

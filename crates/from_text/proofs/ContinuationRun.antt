@@ -1,6 +1,6 @@
 -- A byte's range counted from the bytes beside it, and the columns that are written by such counts.
 use Prim.Native.Nat.{ℕ, zero, suc, _+_, _-_, _≤_, _<_}
-use mathlib.Core.Path.{_≡_, refl}
+use mathlib.Core.Path.{_≡_, ap, refl}
 use mathlib.Core.Bool.{Bool, true, false, cond, _&&_}
 use mathlib.Core.List.{List}
 use native.Mathlib.Omega.{arith}
@@ -104,12 +104,12 @@ module _ (s : List ℕ) (i : ℕ) (p : wellFormed s ≡ true) (h : i < length s)
       }) in
       omega arith
 
--- one number of a column, by the count at its index less i
-pub back-at : (counts : List ℕ) (i k : ℕ) → i + k - getD counts k 0 ≡ i + k - getD counts (i + k - i) 0
-back-at counts i k = let here : i + k - i ≡ k = omega arith in rw here
+-- one number of a column, by the count at its index less `at`
+pub back-at : (counts : List ℕ) (i at k : ℕ) → i + k - getD counts k 0 ≡ i + (at + k - at) - getD counts (at + k - at) 0
+back-at counts i at k = let here : at + k - at ≡ k = omega arith in rw here
 
-pub ahead-at : (counts : List ℕ) (i k : ℕ) → i + k + 1 + getD counts k 0 ≡ i + k + 1 + getD counts (i + k - i) 0
-ahead-at counts i k = let here : i + k - i ≡ k = omega arith in rw here
+pub ahead-at : (counts : List ℕ) (i at k : ℕ) → i + k + 1 + getD counts k 0 ≡ i + (at + k - at) + 1 + getD counts (at + k - at) 0
+ahead-at counts i at k = let here : at + k - at ≡ k = omega arith in rw here
 
 -- the counts of a block, from three places on
 module _ (s : List ℕ) (a b c : ℕ) (z counts : List ℕ) (w : Filled (runAt s a b c) z 0 (length z) counts) where
@@ -122,20 +122,25 @@ module _ (s : List ℕ) (a b c : ℕ) (z counts : List ℕ) (w : Filled (runAt s
   counted : (k x y v : ℕ) → k < length z → a + k ≡ x → b + k ≡ y → c + k ≡ v → getD counts k 0 ≡ continuationRun (getD s x 0) (getD s y 0) (getD s v 0)
   counted k x y v h p q r = rw (← p, ← q, ← r) (w .within k (omega arith) h)
 
--- a block of starts, and one of ends
-pub block-starts : (s : List ℕ) (i n : ℕ) (z counts d₀ d : List ℕ) → wellFormed s ≡ true → 2 ≤ i → i + n ≤ length s → length z ≡ n → Filled (runAt s i (i - 1) (i - 2)) z 0 (length z) counts → Filled (λ k. k - getD counts (k - i) 0) d₀ i (i + length counts) d → Filled (charStart s) d₀ i (i + n) d
-block-starts s i n z counts d₀ d p low room long w made =
-    filled-as _ (charStart s) d₀ i (i + n) d (filled-at _ d₀ i (i + length counts) i (i + n) d made refl (omega (arith, w .same)))
+-- a block of starts, and one of ends, from `at` on
+pub block-starts : (s : List ℕ) (i n : ℕ) (z counts d₀ d : List ℕ) (at : ℕ) → wellFormed s ≡ true → 2 ≤ i → i + n ≤ length s → length z ≡ n → Filled (runAt s i (i - 1) (i - 2)) z 0 (length z) counts → Filled (λ k. i + (k - at) - getD counts (k - at) 0) d₀ at (at + length counts) d → Filled (λ k. charStart s (i + (k - at))) d₀ at (at + n) d
+block-starts s i n z counts d₀ d at p low room long w made =
+    filled-as _ (λ k. charStart s (i + (k - at))) d₀ at (at + n) d (filled-at _ d₀ at (at + length counts) at (at + n) d made refl (omega (arith, w .same)))
     (λ k from to.
-    let count = counted s i (i - 1) (i - 2) z counts w (k - i) k (k - 1) (k - 2) (omega arith) (omega arith) (omega arith) (omega arith) in
-    omega (arith, count, start-back s k p (omega arith) (omega arith)))
+    let count = counted s i (i - 1) (i - 2) z counts w (k - at) (i + (k - at)) (i + (k - at) - 1) (i + (k - at) - 2) (omega arith) (omega arith) (omega arith) (omega arith) in
+    omega (arith, count, start-back s (i + (k - at)) p (omega arith) (omega arith)))
 
-pub block-ends : (s : List ℕ) (i n : ℕ) (z counts d₀ d : List ℕ) → wellFormed s ≡ true → i + n ≤ length s → length z ≡ n → Filled (runAt s (i + 1) (i + 2) (i + 3)) z 0 (length z) counts → Filled (λ k. k + 1 + getD counts (k - i) 0) d₀ i (i + length counts) d → Filled (charEnd s) d₀ i (i + n) d
-block-ends s i n z counts d₀ d p room long w made =
-    filled-as _ (charEnd s) d₀ i (i + n) d (filled-at _ d₀ i (i + length counts) i (i + n) d made refl (omega (arith, w .same)))
+pub block-ends : (s : List ℕ) (i n : ℕ) (z counts d₀ d : List ℕ) (at : ℕ) → wellFormed s ≡ true → i + n ≤ length s → length z ≡ n → Filled (runAt s (i + 1) (i + 2) (i + 3)) z 0 (length z) counts → Filled (λ k. i + (k - at) + 1 + getD counts (k - at) 0) d₀ at (at + length counts) d → Filled (λ k. charEnd s (i + (k - at))) d₀ at (at + n) d
+block-ends s i n z counts d₀ d at p room long w made =
+    filled-as _ (λ k. charEnd s (i + (k - at))) d₀ at (at + n) d (filled-at _ d₀ at (at + length counts) at (at + n) d made refl (omega (arith, w .same)))
     (λ k from to.
-    let count = counted s (i + 1) (i + 2) (i + 3) z counts w (k - i) (k + 1) (k + 2) (k + 3) (omega arith) (omega arith) (omega arith) (omega arith) in
-    omega (arith, count, end-ahead s k p (omega arith)))
+    let count = counted s (i + 1) (i + 2) (i + 3) z counts w (k - at) (i + (k - at) + 1) (i + (k - at) + 2) (i + (k - at) + 3) (omega arith) (omega arith) (omega arith) (omega arith) in
+    omega (arith, count, end-ahead s (i + (k - at)) p (omega arith)))
+
+-- a block that stands where its bytes do
+pub block-here : (f : ℕ → ℕ) (d₀ : List ℕ) (i n : ℕ) (d : List ℕ) → Filled (λ k. f (i + (k - i))) d₀ i n d → Filled f d₀ i n d
+block-here f d₀ i n d w =
+    filled-as _ f d₀ i n d w (λ k from to. let here : i + (k - i) ≡ k = omega arith in ap f here)
 
 -- the blocks from the text's end down to i, and the starts before i; the blocks up to i, and the ends from there on
 pub all-starts : (s d₀ d d₁ : List ℕ) (i : ℕ) → length s ≤ length d₀ → Filled (charStart s) d₀ i (length s) d → Filled (charStart s) d 0 i d₁ → d₁ ≡ overlay (starting s .starts) d₀

@@ -6,7 +6,7 @@ use buffers::Offset;
 use utf8::continues;
 ghost use mathlib.Core.Path.{_≡_};
 ghost use mathlib.Core.Bool.{true};
-ghost use Prim.Native.Nat.{ℕ, _+_, _-_, _≤_};
+ghost use Prim.Native.Nat.{ℕ, _+_, _-_, _≤_, _<_};
 ghost use lib.ListN.{length, getD};
 ghost use Rattle.buffers.specs.Columns.{Filled};
 ghost use Rattle.buffers.specs.Splice.{overlay};
@@ -39,54 +39,85 @@ fn count_runs(text: &[u8], a: usize, b: usize, c: usize, counts: &mut [u8])
     }
 }
 
-// From `i` on, each index less its count.
-fn step_back(i: usize, counts: &[u8], starts: &mut [Offset])
-    requires { ⌜ (i + length (now counts) ≤ length (now starts)) × (i + length (now counts) ≤ limit) ⌝ }
+// From `i` on, each index less its count, in `starts` from `at` on.
+fn step_back(i: usize, counts: &[u8], starts: &mut [Offset], at: usize)
+    requires { ⌜ (at + length (now counts) ≤ length (now starts)) × (i + length (now counts) ≤ limit) ⌝ }
     requires { ⌜ ((k : ℕ) → getD (now counts) k 0 ≤ i) ⌝ }
-    ensures { λ _. ⌜ Filled (λ k. k - getD (now (counts .entry)) (k - i) 0) (now (starts .entry)) i
-        (i + length (now (counts .entry))) (now (starts .exit)) ⌝ }
+    ensures { λ _. ⌜ Filled (λ k. i + (k - at) - getD (now (counts .entry)) (k - at) 0) (now (starts .entry)) at
+        (at + length (now (counts .entry))) (now (starts .exit)) ⌝ }
 {
     let mut k = 0;
     while k < counts.len() {
-        starts[i + k] = (i + k) as Offset - counts[k] as Offset;
+        starts[at + k] = (i + k) as Offset - counts[k] as Offset;
         k += 1;
     }
 }
 
-// From `i` on, the index after each one and its count.
-fn step_ahead(i: usize, counts: &[u8], ends: &mut [Offset])
-    requires { ⌜ (i + length (now counts) ≤ length (now ends)) × (i + length (now counts) + 3 ≤ limit) ⌝ }
+// From `i` on, the index after each one and its count, in `ends` from `at` on.
+fn step_ahead(i: usize, counts: &[u8], ends: &mut [Offset], at: usize)
+    requires { ⌜ (at + length (now counts) ≤ length (now ends)) × (i + length (now counts) + 3 ≤ limit) ⌝ }
     requires { ⌜ ((k : ℕ) → getD (now counts) k 0 ≤ 3) ⌝ }
-    ensures { λ _. ⌜ Filled (λ k. k + 1 + getD (now (counts .entry)) (k - i) 0) (now (ends .entry)) i
-        (i + length (now (counts .entry))) (now (ends .exit)) ⌝ }
+    ensures { λ _. ⌜ Filled (λ k. i + (k - at) + 1 + getD (now (counts .entry)) (k - at) 0) (now (ends .entry)) at
+        (at + length (now (counts .entry))) (now (ends .exit)) ⌝ }
 {
     let mut k = 0;
     while k < counts.len() {
-        ends[i + k] = (i + k + 1) as Offset + counts[k] as Offset;
+        ends[at + k] = (i + k + 1) as Offset + counts[k] as Offset;
         k += 1;
     }
 }
 
-// The starts of the 64 bytes from `i` on.
-fn starts_block(text: &[u8], i: usize, starts: &mut [Offset])
+// The starts of the 64 bytes from `i` on, in `starts` from `at` on.
+pub fn starts_block(text: &[u8], i: usize, starts: &mut [Offset], at: usize)
     requires { ⌜ (wellFormed (now text) ≡ true) × (length (now text) ≤ limit) ⌝ }
-    requires { ⌜ (3 ≤ i) × ((i + 64 ≤ length (now text)) × (length (now text) ≤ length (now starts))) ⌝ }
-    ensures { λ _. ⌜ Filled (charStart (now (text .entry))) (now (starts .entry)) i (i + 64) (now (starts .exit)) ⌝ }
+    requires { ⌜ (3 ≤ i) × ((i + 64 ≤ length (now text)) × (at + 64 ≤ length (now starts))) ⌝ }
+    ensures { λ _. ⌜ Filled (λ k. charStart (now (text .entry)) (i + (k - at))) (now (starts .entry)) at (at + 64)
+        (now (starts .exit)) ⌝ }
 {
     let mut counts = [0u8; 64];
     count_runs(text, i, i - 1, i - 2, &mut counts);
-    step_back(i, &counts, starts);
+    step_back(i, &counts, starts, at);
 }
 
-// The ends of the 64 bytes from `i` on.
-fn ends_block(text: &[u8], i: usize, ends: &mut [Offset])
+// The ends of the 64 bytes from `i` on, in `ends` from `at` on.
+pub fn ends_block(text: &[u8], i: usize, ends: &mut [Offset], at: usize)
     requires { ⌜ (wellFormed (now text) ≡ true) × (length (now text) ≤ limit) ⌝ }
-    requires { ⌜ (i + 67 ≤ length (now text)) × (length (now text) ≤ length (now ends)) ⌝ }
-    ensures { λ _. ⌜ Filled (charEnd (now (text .entry))) (now (ends .entry)) i (i + 64) (now (ends .exit)) ⌝ }
+    requires { ⌜ (i + 67 ≤ length (now text)) × (at + 64 ≤ length (now ends)) ⌝ }
+    ensures { λ _. ⌜ Filled (λ k. charEnd (now (text .entry)) (i + (k - at))) (now (ends .entry)) at (at + 64)
+        (now (ends .exit)) ⌝ }
 {
     let mut counts = [0u8; 64];
     count_runs(text, i + 1, i + 2, i + 3, &mut counts);
-    step_ahead(i, &counts, ends);
+    step_ahead(i, &counts, ends, at);
+}
+
+// Where the character of the byte at `i` begins, and where it ends.
+pub fn char_start(text: &[u8], i: usize) -> usize
+    requires { ⌜ i < length (now text) ⌝ }
+    ensures { λ r. ⌜ r ≡ charStart (now (text .entry)) i ⌝ }
+{
+    let mut k = i;
+    while 0 < k {
+        if !continues(text[k]) {
+            return k;
+        }
+        k -= 1;
+    }
+    0
+}
+
+pub fn char_end(text: &[u8], i: usize) -> usize
+    requires { ⌜ (wellFormed (now text) ≡ true) × (i < length (now text)) ⌝ }
+    ensures { λ r. ⌜ r ≡ charEnd (now (text .entry)) i ⌝ }
+{
+    let mut k = i + 1;
+    while k < text.len() {
+        if !continues(text[k]) {
+            return k;
+        }
+        k += 1;
+    }
+    k
 }
 
 // The starts of the bytes before `to`, carried forwards: a byte that continues a character begins where the one before
@@ -134,7 +165,7 @@ pub fn write_starts(text: &[u8], starts: &mut [Offset])
     let mut i = text.len();
     while 67 <= i {
         i -= 64;
-        starts_block(text, i, starts);
+        starts_block(text, i, starts, i);
     }
     carry_starts(text, i, starts);
 }
@@ -147,7 +178,7 @@ pub fn write_ends(text: &[u8], ends: &mut [Offset])
 {
     let mut i = 0;
     while 67 <= text.len() - i {
-        ends_block(text, i, ends);
+        ends_block(text, i, ends, i);
         i += 64;
     }
     carry_ends(text, i, ends);

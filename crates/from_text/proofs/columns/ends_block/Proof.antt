@@ -19,7 +19,7 @@ step-ahead-requires c κs =
 returns : tie.Need-returns
 returns c =
     let counts = c .before .before .before .before .before .before in
-    block-ends _ _ _ _ _ _ _ (counts .before .before .before .before .pre .0 .0) (omega arith) refl (counts .count-runs .ensures) (c .before .before .step-ahead .ensures)
+    block-ends _ _ _ _ _ _ _ _ (counts .before .before .before .before .pre .0 .0) (omega arith) refl (counts .count-runs .ensures) (c .before .before .step-ahead .ensures)
 
 pub ends-block-spec : {M : Type 1} → statement M
 ends-block-spec =

@@ -19,7 +19,7 @@ step-back-requires c κs =
 returns : tie.Need-returns
 returns c =
     let counts = c .before .before .before .before .before .before in
-    block-starts _ _ _ _ _ _ _ (counts .before .before .before .before .pre .0 .0) (omega arith) (omega arith) refl (counts .count-runs .ensures) (c .before .before .step-back .ensures)
+    block-starts _ _ _ _ _ _ _ _ (counts .before .before .before .before .pre .0 .0) (omega arith) (omega arith) refl (counts .count-runs .ensures) (c .before .before .step-back .ensures)
 
 pub starts-block-spec : {M : Type 1} → statement M
 starts-block-spec =

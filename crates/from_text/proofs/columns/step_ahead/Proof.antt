@@ -9,13 +9,13 @@ use Rattle.from_text.proofs.columns.step_ahead.Statement.{statement}
 use Rattle.from_text.proofs.columns.step_ahead.Tie as tie
 
 abbrev Inv-loop : tie.InvT-loop
-Inv-loop i counts ends₀ k₀ ends k = (k ≤ length counts) × Filled (λ m. m + 1 + getD counts (m - i) 0) ends₀ i (i + k) ends
+Inv-loop i counts ends₀ at k₀ ends k = (k ≤ length counts) × Filled (λ m. i + (m - at) + 1 + getD counts (m - at) 0) ends₀ at (at + k) ends
 
 abbrev μ-loop : tie.MeasureT-loop
-μ-loop i counts ends₀ k₀ ends k = length counts - k
+μ-loop i counts ends₀ at k₀ ends k = length counts - k
 
 loop-again : tie.Need-loop-again Inv-loop μ-loop
-loop-again c = (omega arith, filled-at _ _ _ _ _ _ _ (filled-up _ _ _ _ _ _ (c .before .before .loop .inv .1) (omega arith) (ahead-at (c .before .before .before .args .counts .now) (c .before .before .before .args .i) (c .before .before .loop .k))) (omega arith) (omega arith))
+loop-again c = (omega arith, filled-at _ _ _ _ _ _ _ (filled-up _ _ _ _ _ _ (c .before .before .loop .inv .1) (omega arith) (ahead-at (c .before .before .before .args .counts .now) (c .before .before .before .args .i) (c .before .before .before .args .at) (c .before .before .loop .k))) (omega arith) (omega arith))
 
 pub step-ahead-spec : {M : Type 1} → statement M
 step-ahead-spec =
@@ -23,7 +23,7 @@ step-ahead-spec =
     (tie.spec
     Inv-loop
     μ-loop
-    (λ c. (omega arith, filled-at _ _ _ _ _ _ _ (none-filled _ _ (c .args .i)) (omega arith) (omega arith)))
+    (λ c. (omega arith, filled-at _ _ _ _ _ _ _ (none-filled _ _ (c .args .at)) (omega arith) (omega arith)))
     (λ c. omega arith)
     (λ c. omega arith)
     (λ c. omega arith)

@@ -9,13 +9,13 @@ use Rattle.from_text.proofs.columns.step_back.Statement.{statement}
 use Rattle.from_text.proofs.columns.step_back.Tie as tie
 
 abbrev Inv-loop : tie.InvT-loop
-Inv-loop i counts starts₀ k₀ starts k = (k ≤ length counts) × Filled (λ m. m - getD counts (m - i) 0) starts₀ i (i + k) starts
+Inv-loop i counts starts₀ at k₀ starts k = (k ≤ length counts) × Filled (λ m. i + (m - at) - getD counts (m - at) 0) starts₀ at (at + k) starts
 
 abbrev μ-loop : tie.MeasureT-loop
-μ-loop i counts starts₀ k₀ starts k = length counts - k
+μ-loop i counts starts₀ at k₀ starts k = length counts - k
 
 loop-again : tie.Need-loop-again Inv-loop μ-loop
-loop-again c = (omega arith, filled-at _ _ _ _ _ _ _ (filled-up _ _ _ _ _ _ (c .before .before .loop .inv .1) (omega arith) (back-at (c .before .before .before .args .counts .now) (c .before .before .before .args .i) (c .before .before .loop .k))) (omega arith) (omega arith))
+loop-again c = (omega arith, filled-at _ _ _ _ _ _ _ (filled-up _ _ _ _ _ _ (c .before .before .loop .inv .1) (omega arith) (back-at (c .before .before .before .args .counts .now) (c .before .before .before .args .i) (c .before .before .before .args .at) (c .before .before .loop .k))) (omega arith) (omega arith))
 
 pub step-back-spec : {M : Type 1} → statement M
 step-back-spec =
@@ -23,7 +23,7 @@ step-back-spec =
     (tie.spec
     Inv-loop
     μ-loop
-    (λ c. (omega arith, filled-at _ _ _ _ _ _ _ (none-filled _ _ (c .args .i)) (omega arith) (omega arith)))
+    (λ c. (omega arith, filled-at _ _ _ _ _ _ _ (none-filled _ _ (c .args .at)) (omega arith) (omega arith)))
     (λ c. omega arith)
     (λ c. omega arith)
     (λ c. omega arith)

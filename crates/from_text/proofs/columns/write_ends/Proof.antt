@@ -6,7 +6,7 @@ use lib.ListN.{length}
 use Rattle.buffers.specs.Columns.{Filled}
 use Rattle.buffers.proofs.Columns.{none-filled, filled-after}
 use Rattle.note.specs.Starting.{charEnd}
-use Rattle.from_text.proofs.ContinuationRun.{all-ends}
+use Rattle.from_text.proofs.ContinuationRun.{block-here, all-ends}
 use Rattle.from_text.proofs.columns.write_ends.Statement.{statement}
 use Rattle.from_text.proofs.columns.write_ends.Tie as tie
 
@@ -18,7 +18,7 @@ abbrev μ-loop : tie.MeasureT-loop
 
 loop-again : tie.Need-loop-again Inv-loop μ-loop
 loop-again c =
-    (omega arith, filled-after _ _ _ _ _ _ _ (c .before .before .before .before .before .loop .inv .1) (c .before .before .ends-block .ensures))
+    (omega arith, filled-after _ _ _ _ _ _ _ (c .before .before .before .before .before .loop .inv .1) (block-here _ _ _ _ _ (c .before .before .ends-block .ensures)))
 
 returns : tie.Need-returns Inv-loop μ-loop
 returns c = all-ends _ _ _ _ _ (c .before .before .before .before .before .before .before .before .pre .1) (c .before .before .before .before .before .loop .inv .1) (c .before .before .carry-ends .ensures)

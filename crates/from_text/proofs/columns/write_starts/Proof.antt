@@ -5,7 +5,7 @@ use lib.ListN.{length}
 use Rattle.buffers.specs.Columns.{Filled}
 use Rattle.buffers.proofs.Columns.{none-filled, filled-at, filled-before}
 use Rattle.note.specs.Starting.{charStart}
-use Rattle.from_text.proofs.ContinuationRun.{all-starts}
+use Rattle.from_text.proofs.ContinuationRun.{block-here, all-starts}
 use Rattle.from_text.proofs.columns.write_starts.Statement.{statement}
 use Rattle.from_text.proofs.columns.write_starts.Tie as tie
 
@@ -20,7 +20,7 @@ starts-block-requires c κs = ((c .before .before .before .before .before .pre .
 
 loop-again : tie.Need-loop-again Inv-loop μ-loop
 loop-again c =
-    filled-before _ _ _ _ _ _ _ (c .before .before .before .before .before .loop .inv) (filled-at _ _ _ _ _ _ _ (c .before .before .starts-block .ensures) refl (omega arith))
+    filled-before _ _ _ _ _ _ _ (c .before .before .before .before .before .loop .inv) (filled-at _ _ _ _ _ _ _ (block-here _ _ _ _ _ (c .before .before .starts-block .ensures)) refl (omega arith))
 
 returns : tie.Need-returns Inv-loop μ-loop
 returns c = all-starts _ _ _ _ _ (c .before .before .before .before .before .before .before .before .pre .1) (c .before .before .before .before .before .loop .inv) (c .before .before .carry-starts .ensures)
