@@ -1,0 +1,107 @@
+-- Laws of the pieces of places that cover a text: each lies between boundaries, they have no more bytes than the text,
+-- and there are no more of them than places.
+use Prim.Native.Nat.{ℕ, zero, suc, _+_, _-_, _≤_, _<_}
+use mathlib.Core.Path.{_≡_, _∙_, ap, refl, sym}
+use mathlib.Core.Bool.{Bool, true, false, cond, _&&_}
+use mathlib.Core.List.{List, [], _∷_, _++_, map}
+use mathlib.Mathlib.Data.Bool.Basic.{and-elim-left, and-elim-right}
+use native.Mathlib.Omega.{arith}
+use lib.Dec.{leb, eqb}
+use lib.ListN.{length, getD, length-append, length-map}
+use borrow.Author.Tests.{eqb-true, leb-true}
+use Rattle.buffers.proofs.Cases.{true-or-false}
+use Rattle.utf8.specs.Formed.{boundary}
+use Rattle.utf8.proofs.Boundaries.{boundary-most}
+use Rattle.pattern.specs.declared.Place.{Place}
+use Rattle.pattern.specs.Places.{fitsAt, coversFrom}
+use Rattle.behaviors.specs.declared.SplitDelimiterBehavior.{SplitDelimiterBehavior}
+use Rattle.behaviors.specs.declared.EmptyPieces.{EmptyPieces}
+use Rattle.behaviors.specs.Splits.{isPiece, remaining, splits, pieces}
+use Rattle.behaviors.specs.Joining.{startsOf, endsOf}
+use Rattle.behaviors.specs.Runs.{onward, over, given, runsFrom, bytesOf}
+use Rattle.behaviors.proofs.Gathered.{splits-cover, runs-pieces, pieces-none}
+use Rattle.piece_lines.specs.Spans.{Spans}
+
+-- a place of a text, from boundary to boundary
+pub record Lies (text : List ℕ) (p : Place) : Type 0 where
+  pub from : boundary text (p .start .0) ≡ true
+  pub to : boundary text (p .end .0) ≡ true
+  pub onward : p .start .0 ≤ p .end .0
+
+abbrev pub AllLie : List ℕ → List Place → Type 0
+AllLie text [] = Unit {0}
+AllLie text (p ∷ ps) = Lies text p × AllLie text ps
+
+-- the first of places that cover a text
+fits-lies : (text : List ℕ) (at : ℕ) (p : Place) → boundary text at ≡ true → fitsAt text at p ≡ true → (p .start .0 ≡ at) × Lies text p
+unfolding fitsAt
+fits-lies text at p h e =
+    let both = and-elim-left (eqb (p .start .0) at && leb (p .start .0) (p .end .0)) _ e in
+    let here : p .start .0 ≡ at = eqb-true _ _ (and-elim-left (eqb (p .start .0) at) _ both) in (
+      here,
+      record {
+        from = rw here h;
+        to = and-elim-right (eqb (p .start .0) at && leb (p .start .0) (p .end .0)) _ e;
+        onward = leb-true _ _ (and-elim-right (eqb (p .start .0) at) _ both);
+      },
+    )
+
+covers-cons : (text : List ℕ) (at : ℕ) (p : Place) (ps : List Place) → coversFrom text at (p ∷ ps) ≡ true → (fitsAt text at p ≡ true) × (coversFrom text (p .end .0) ps ≡ true)
+unfolding coversFrom
+covers-cons text at p ps e = (and-elim-left (fitsAt text at p) _ e, and-elim-right (fitsAt text at p) _ e)
+
+covers-nil : (text : List ℕ) (at : ℕ) → coversFrom text at [] ≡ true → at ≡ length text
+unfolding coversFrom
+covers-nil text at e = eqb-true at (length text) e
+
+pub remaining-lie : (text : List ℕ) (at : ℕ) (empty : EmptyPieces) (ps : List Place) → boundary text at ≡ true → coversFrom text at ps ≡ true → AllLie text (remaining empty ps) × (at + bytesOf (remaining empty ps) ≤ length text)
+unfolding remaining bytesOf
+remaining-lie text at empty [] h e = (tt, omega (arith, covers-nil text at e))
+remaining-lie text at empty (p ∷ ps) h e =
+    let parts = covers-cons text at p ps e in
+    let first = fits-lies text at p h (parts .0) in
+    let rest = remaining-lie text (p .end .0) empty ps (first .1 .to) (parts .1) in
+    true-or-false (isPiece empty p)
+    (λ t. rw t ((first .1, rest .0), omega (arith, first .0, first .1 .onward, rest .1)))
+    (λ f. rw f (rest .0, omega (arith, first .0, first .1 .onward, rest .1)))
+
+-- all pieces
+module _ (text : List ℕ) (behavior : SplitDelimiterBehavior) (empty : EmptyPieces) (ps : List Place) (h : boundary text 0 ≡ true) (e : coversFrom text 0 ps ≡ true) where
+  pub pieces-lie : AllLie text (pieces behavior empty ps) × (bytesOf (pieces behavior empty ps) ≤ length text)
+  unfolding pieces
+  pieces-lie =
+      let both = remaining-lie text 0 empty (splits behavior ps) h (splits-cover text 0 behavior ps e) in
+      (both .0, omega (arith, both .1))
+
+-- how many there are
+given-few : (met : Bool) (run : Place) → length (given met run) ≤ 1
+unfolding given
+given-few true run = omega arith
+given-few false run = omega arith
+
+runs-few : (behavior : SplitDelimiterBehavior) (empty : EmptyPieces) (run : Place) (ps : List Place) → length (runsFrom behavior empty run ps) ≤ length ps + 1
+unfolding runsFrom
+runs-few behavior empty run [] = given-few _ run
+runs-few behavior empty run (p ∷ ps) =
+    let next = onward behavior run p in
+    let first = given (over behavior empty run p) run in
+    omega (arith, length-append first (runsFrom behavior empty next ps), given-few (over behavior empty run p) run, runs-few behavior empty next ps)
+
+pub pieces-few : (behavior : SplitDelimiterBehavior) (empty : EmptyPieces) (ps : List Place) → length (pieces behavior empty ps) ≤ length ps
+pieces-few behavior empty [] = rw (pieces-none behavior empty) (omega arith)
+pieces-few behavior empty (p ∷ ps) = rw (← runs-pieces behavior empty p ps) (omega (arith, runs-few behavior empty p ps))
+
+-- in two columns
+ordered : (text : List ℕ) (ps : List Place) → AllLie text ps → (i : ℕ) → i < length (startsOf ps) → getD (startsOf ps) i 0 ≤ getD (endsOf ps) i 0
+ordered text [] l i h = absurd (omega arith)
+ordered text (p ∷ ps) l zero h = l .0 .onward
+ordered text (p ∷ ps) l (suc i) h = ordered text ps (l .1) i (omega arith)
+
+inside : (text : List ℕ) (ps : List Place) → AllLie text ps → (i : ℕ) → i < length (startsOf ps) → getD (endsOf ps) i 0 ≤ length text
+inside text [] l i h = absurd (omega arith)
+inside text (p ∷ ps) l zero h = boundary-most text (p .end .0) (l .0 .to)
+inside text (p ∷ ps) l (suc i) h = inside text ps (l .1) i (omega arith)
+
+pub spans-lie : (text : List ℕ) (ps : List Place) → AllLie text ps → Spans text (startsOf ps) (endsOf ps)
+spans-lie text ps l =
+    record { alike = length-map ps _ ∙ sym (length-map ps _); ordered = ordered text ps l; inside = inside text ps l }
