@@ -7,6 +7,7 @@ mod find;
 mod layouts;
 mod notes;
 mod replace;
+mod slice;
 
 use crate::tally::Report;
 use layouts::{Marked, Texts};
@@ -32,6 +33,7 @@ pub fn measure() -> ExitCode {
     heap::keep_what_is_freed();
     println!("\nFrom here on what is freed stays with the process: theirs takes no fresh pages from the system.");
     replace::bench(&mut bench);
+    slice::bench(&mut bench);
     println!();
     bench.report.finish()
 }
