@@ -1,9 +1,10 @@
 //! The answers that crates/replay replays (`compare/run list`): what the Rust original and `core::str` answer, and,
 //! where they refuse nothing, the second check. The same in every run. `list.rs` has the layout; a new call is one
-//! function here or in `answers/calls.rs`, and one in crates/replay, which reads the fields in the order in which
+//! function here or below `answers`, and one in crates/replay, which reads the fields in the order in which
 //! they are written here.
 
 mod calls;
+mod slicing;
 
 use crate::characters::{self, sequences};
 use crate::every;
@@ -22,8 +23,8 @@ use tokenizers::NormalizedString;
 const FOLDER: &str = "crates/replay/data";
 
 pub fn write() -> ExitCode {
-    let lists = [well_formed(), letter_counts(), starting_notes(), checked_notes()].into_iter().chain(calls::answers());
-    for answers in lists {
+    let lists = [well_formed(), letter_counts(), starting_notes(), checked_notes()];
+    for answers in lists.into_iter().chain(calls::answers()).chain([slicing::slices()]) {
         let path = format!("{FOLDER}/{}", answers.name);
         std::fs::write(&path, answers.file()).unwrap_or_else(|error| panic!("{path}: {error}"));
         println!("{answers}");

@@ -7,6 +7,7 @@ mod find;
 mod layouts;
 mod notes;
 mod replace;
+mod slice;
 
 use crate::tally::Report;
 use layouts::{Marked, Texts};
@@ -33,6 +34,7 @@ pub fn measure(word: String) -> ExitCode {
     find::bench(&mut bench);
     heap::keep_what_is_freed();
     replace::bench(&mut bench);
+    slice::bench(&mut bench);
     println!(
         "\n| Growth, mixed text: µs at {} bytes | | | | | of linear, at most {LINEAR} |\n|---|--:|--:|--:|--:|--:|",
         layouts::SIZES.map(|size| size.to_string()).join(", ")

@@ -6,6 +6,7 @@ mod limits;
 mod office;
 mod positions;
 mod replacing;
+mod slicing;
 
 use crate::library::{self, Offsets, Publishing};
 use crate::note::Note;
@@ -26,6 +27,7 @@ pub fn compare(report: &mut Report) {
         converting::compare(tally);
         positions::compare(tally);
         replacing::compare(tally);
+        slicing::compare(tally);
     });
     report.call("limits that the original does not have", "its code", limits::compare);
     report.call("docs/OFFICE.md", "this library", office::compare);
@@ -78,6 +80,24 @@ fn replaced_here(note: &Note, places: &[Place], content: &str) -> Result<Note, u
     starts.truncate(count);
     ends.truncate(count);
     Ok(Note { normalized: text, starts, ends, ..note.clone() })
+}
+
+/// The slice that this library cuts, as a note of its own, or its refusal.
+fn sliced_here(note: &Note, range: Range<ops::Range<usize>>) -> Result<Note, u32> {
+    let (of_original, asked) = (matches!(range, Range::Original(_)), range.unwrap());
+    let (mut starts, mut ends) = (vec![0; LIMIT], vec![0; LIMIT]);
+    let answer = library::slice(note, of_original, (asked.start as u32, asked.end as u32), &mut starts, &mut ends);
+    if answer.refusal > 0 {
+        return Err(answer.refusal);
+    }
+    let part = |text: &[u8], (start, end): (u32, u32)| match start == end {
+        true => vec![],
+        false => text[start as usize..end as usize].to_vec(),
+    };
+    let (original, normalized) = (part(&note.original, answer.original()), part(&note.normalized, answer.normalized()));
+    starts.truncate(normalized.len());
+    ends.truncate(normalized.len());
+    Ok(Note { original, normalized, starts, ends, original_shift: answer.original_shift })
 }
 
 fn lengths(tally: &mut Tally) {

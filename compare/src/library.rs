@@ -79,6 +79,7 @@ calls! {
         read u8, read u8, read u8, write u16, write u16, write u8, write u8, write u16, write u16
     ) -> Count;
     fn zulmyren_published_alike(note, note, read u8, read u8) -> Comparison;
+    fn zulmyren_slice(note, plain bool, plain u32, plain u32, write u16, write u16) -> Sliced;
 }
 
 #[repr(C)]
@@ -116,6 +117,38 @@ impl Offsets {
             Some((start, end)) => Offsets { refusal: 0, start: narrow(start), end: narrow(end) },
             None => Offsets::refused(MISSING),
         }
+    }
+}
+
+/// A slice: which bytes of the transcript and which of the cleaned text it has, and its shift; or a refusal beside 0.
+#[repr(C)]
+#[derive(Clone, Copy, Debug, PartialEq, Eq)]
+pub struct Sliced {
+    pub refusal: u32,
+    pub original_start: u32,
+    pub original_end: u32,
+    pub normalized_start: u32,
+    pub normalized_end: u32,
+    pub original_shift: u32,
+}
+
+impl Sliced {
+    pub fn refused(refusal: u32) -> Self {
+        Sliced { refusal, ..Sliced::accepted([0; 5]) }
+    }
+
+    pub fn accepted(
+        [original_start, original_end, normalized_start, normalized_end, original_shift]: [u32; 5],
+    ) -> Self {
+        Sliced { refusal: 0, original_start, original_end, normalized_start, normalized_end, original_shift }
+    }
+
+    pub fn original(&self) -> (u32, u32) {
+        (self.original_start, self.original_end)
+    }
+
+    pub fn normalized(&self) -> (u32, u32) {
+        (self.normalized_start, self.normalized_end)
     }
 }
 
@@ -220,4 +253,8 @@ pub fn redact(text: &[u8], literal: &[u8], filler: &[u8], lent: Redacting) -> Co
 
 pub fn published_alike(one: &Note, other: &Note, list: &[u8], filler: &[u8]) -> Comparison {
     unsafe { lend!(zulmyren_published_alike; note one, note other, read list, read filler) }
+}
+
+pub fn slice(note: &Note, of_original: bool, (start, end): (u32, u32), starts: &mut [u16], ends: &mut [u16]) -> Sliced {
+    unsafe { lend!(zulmyren_slice; note note, plain of_original, plain start, plain end, write starts, write ends) }
 }

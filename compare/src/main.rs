@@ -25,6 +25,7 @@ mod redact;
 mod refusals;
 mod replace;
 mod samples;
+mod slice;
 mod tally;
 mod texts;
 
@@ -52,6 +53,7 @@ fn compare() -> ExitCode {
     replace::compare(&mut report);
     blanking::compare(&mut report);
     redact::compare(&mut report);
+    slice::compare(&mut report);
     program::compare(&mut report);
     comments::compare(&mut report);
     report.finish()

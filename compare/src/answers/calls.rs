@@ -33,8 +33,13 @@ pub fn answers() -> [Answers; 11] {
     ]
 }
 
+/// The starting note.
+pub fn fresh(text: &str) -> Note {
+    Note::from(&NormalizedString::from(text))
+}
+
 /// `aéb` as it was, with `12` replaced, with a character of no width before it, and with letters dropped.
-fn notes() -> [Note; 4] {
+pub fn notes() -> [Note; 4] {
     let edits: [fn(&mut NormalizedString); 4] = [
         |_| (),
         |note| note.replace("é", "12").expect("a literal is a regular expression"),
@@ -49,9 +54,9 @@ fn notes() -> [Note; 4] {
 }
 
 /// `aéb` with each fault of a note.
-fn faulty_notes() -> impl Iterator<Item = Note> {
+pub fn faulty_notes() -> impl Iterator<Item = Note> {
     FAULTS.into_iter().map(|fault| {
-        let mut note = Note::from(&NormalizedString::from("aéb"));
+        let mut note = fresh("aéb");
         fault(&mut note);
         note
     })
@@ -256,10 +261,10 @@ fn replaced() -> Answers {
     let digits: &[Place] = &[((0, 5), false), ((5, 7), true)];
     let before: &[Place] = &[((0, 0), true), ((0, 2), false)];
     for (text, places, filler) in [(nest[0], digits, "**"), (nest[1], digits, "**"), (ab, before, "x")] {
-        let note = Note::from(&NormalizedString::from(text));
+        let note = fresh(text);
         replace(&mut answers, &note, &places::bytes(places), filler.as_bytes(), |len| [len, len + 1, len + 2]);
     }
-    let note = Note::from(&NormalizedString::from("aé"));
+    let note = fresh("aé");
     for places in places::every("aé", 0) {
         for filler in ["", "漢x"] {
             replace(&mut answers, &note, &places::bytes(&places), filler.as_bytes(), |len| [len + 1, len, len]);
@@ -289,7 +294,7 @@ fn replaced() -> Answers {
 /// Two notes, a list, a filler; the refusal, 1 where what is published of both is alike.
 fn alike() -> Answers {
     let mut answers = Answers::new("published_alike");
-    let notes = ["n12", "n47", "n4", "né", "m12"].map(|text| Note::from(&NormalizedString::from(text)));
+    let notes = ["n12", "n47", "n4", "né", "m12"].map(fresh);
     let lists = [vec![((0, 1), false), ((1, 3), true)], vec![((0, 1), true), ((1, 3), false), ((3, 3), true)]];
     let mut answer = |one: &Note, other: &Note, list: &[u8], filler: &[u8]| {
         let expected = blanking::expected_alike(one, other, list, filler);
@@ -305,7 +310,7 @@ fn alike() -> Answers {
         answer(&notes[0], &notes[0], &list[..9], b"");
     }
     let list = places::bytes(&[((0, 4), true)]);
-    let fresh = Note::from(&NormalizedString::from("aéb"));
+    let fresh = fresh("aéb");
     for note in faulty_notes() {
         answer(&note, &fresh, &list, b"x");
         answer(&fresh, &note, &list, b"x");

@@ -5,6 +5,7 @@ mod matches;
 mod notes;
 mod pairs;
 mod ranges;
+mod slices;
 mod texts;
 mod told;
 
@@ -102,9 +103,14 @@ fn replay_matches() {
     replay(14, b"redact");
 }
 
+fn replay_slices() {
+    replay(15, b"slice");
+}
+
 fn main() {
     replay_texts();
     replay_notes();
     replay_ranges();
     replay_matches();
+    replay_slices();
 }

@@ -5,6 +5,7 @@ use crate::pairs::on_pairs;
 use crate::ranges::convert_offsets;
 use crate::ranges::get_range;
 use crate::ranges::get_range_original;
+use crate::slices::slice;
 use crate::told::are_columns;
 use buffers::Offset;
 use stored_answers::columns::offsets;
@@ -46,6 +47,7 @@ fn called(call: u8, case: &[u8], starts: &[Offset], ends: &[Offset]) -> bool {
         9 => on_pairs(call, case, 6, starts, ends),
         10 => replace(case, starts, ends),
         11 => published_alike(case, starts, ends),
+        15 => slice(case, starts, ends),
         _ => false,
     }
 }

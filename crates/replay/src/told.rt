@@ -8,6 +8,7 @@ use stored_answers::fields::value;
 use zulmyren::answers::Count;
 use zulmyren::answers::Listed;
 use zulmyren::answers::Offsets;
+use zulmyren::answers::Slice;
 ghost use mathlib.Core.Path.{_≡_};
 ghost use mathlib.Core.Bool.{_&&_};
 ghost use Prim.Native.Nat.{_+_, _<_};
@@ -26,6 +27,18 @@ pub fn is_range(case: &[u8], index: usize, answer: Offsets) -> bool
     is_number(case, index, answer.refusal)
         & is_number(case, index + 1, answer.start)
         & is_number(case, index + 2, answer.end)
+}
+
+// The refusal, the two ranges of a slice, its shift.
+pub fn is_slice(case: &[u8], index: usize, answer: Slice) -> bool
+    requires { ⌜ index < 100 ⌝ }
+{
+    is_number(case, index, answer.refusal)
+        & is_number(case, index + 1, answer.original_start)
+        & is_number(case, index + 2, answer.original_end)
+        & is_number(case, index + 3, answer.normalized_start)
+        & is_number(case, index + 4, answer.normalized_end)
+        & is_number(case, index + 5, answer.original_shift)
 }
 
 // The refusal, the list's size, the list.

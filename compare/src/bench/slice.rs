@@ -1,0 +1,43 @@
+//! Slicing.
+
+use super::layouts::{self, Marked, LEN};
+use super::{at_most, side, timed, Bench, Side, Table};
+use crate::library;
+use crate::texts;
+use std::hint::black_box;
+use tokenizers::normalizer::Range;
+use tokenizers::NormalizedString;
+
+const SLICE: Table =
+    Table::new("slice, half of the cleaned text, check included", &[("NormalizedString::slice", at_most(0.5))]);
+
+const SLICE_ORIGINAL: Table =
+    Table::new("slice, half of the transcript, check included", &[("NormalizedString::slice", at_most(0.5))]);
+
+pub fn bench(bench: &mut Bench) {
+    bench.table(&SLICE, |texts| slice(texts, false));
+    bench.table(&SLICE_ORIGINAL, |texts| slice(texts, true));
+}
+
+fn slice(texts: &[Marked], of_original: bool) -> Vec<Side<'_>> {
+    let theirs: Vec<NormalizedString> = texts.iter().map(Marked::fresh).collect();
+    let notes = layouts::lent(&theirs);
+    let half = |i: usize| {
+        let text: &str = &texts[i].text;
+        let cut = |at| texts::boundary_before(text, at);
+        black_box(cut(text.len() / 4)..cut(text.len() * 3 / 4))
+    };
+    let (mut starts, mut ends) = (vec![0; LEN], vec![0; LEN]);
+    let mut ours = move |i: usize| {
+        let asked = (half(i).start as u32, half(i).end as u32);
+        library::slice(black_box(&notes[i]), of_original, asked, &mut starts, &mut ends)
+    };
+    assert!((0..texts.len()).all(|i| ours(i).refusal == 0));
+    vec![
+        side(move |i| timed(|| ours(i))),
+        side(move |i| {
+            let range = if of_original { Range::Original(half(i)) } else { Range::Normalized(half(i)) };
+            timed(|| black_box(&theirs[i]).slice(range))
+        }),
+    ]
+}
