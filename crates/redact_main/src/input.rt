@@ -27,9 +27,9 @@ pub fn read_note(buf: &mut [u8]) -> Input
     Input::Bytes(done)
 }
 
-// Whether the third argument is `alignments`.
-pub fn asks_alignments() -> bool {
+// Whether the last argument is `alignments`.
+pub fn asks_alignments(last: usize) -> bool {
     let mut word = io::buffer();
-    let n = os::arg(3, &mut word);
+    let n = os::arg(last, &mut word);
     same_bytes(&word[..n], b"alignments")
 }
