@@ -1,33 +1,110 @@
-// redact LITERAL FILLER [alignments] < note (RULES 14.1 and 14.2): blanks every match of the literal in a note and
-// publishes the text, or the alignments, to standard output. A refusal publishes nothing and says on standard error
-// what to do.
+// redact LITERAL FILLER [LITERAL FILLER]... [alignments] < note (RULES 14.1 and 14.2): blanks every match of each
+// literal in a note, one literal after the other, and publishes the text, or the alignments, to standard output. A
+// refusal publishes nothing and says on standard error what to do.
+mod in_place;
 mod lines;
-mod refusals;
+mod messages;
+mod shown;
 
+use buffers::Offset;
+use buffers::copy_bytes;
 use buffers::equality::same_bytes;
+use from_text::from_text;
+use in_place::column_buffer;
+use in_place::redact_in_place;
+use in_place::text_buffer;
 use lines::write_alignments;
-use note::LIMIT;
-use pattern::MOST;
-use redact::redact;
-use refusals::refuse;
-use refusals::say;
-use replace::Publication;
+use messages::refuse_literal;
+use messages::refuse_long_filler;
+use messages::refuse_long_literal;
+use messages::refuse_note;
+use messages::tell;
+use messages::usage;
+use note::Verdict;
+use redact_note::Redaction;
 use standard_input::Input;
 use standard_input::fill;
+ghost use Prim.Native.Nat.{_≤_};
+ghost use Rattle.redact_main.specs.InPlace.{Held, Left};
 
-// Room for the list of any literal's matches: one place for each, one before each, and one behind the last (RULES 9.6).
-const LIST: usize = MOST * (2 * LIMIT + 1);
+// What became of the note: so many bytes are left to publish, or it was refused, and that was said.
+enum Outcome {
+    Left(usize),
+    Refused,
+}
 
-fn usage() {
-    say(
-        b"usage: redact LITERAL FILLER < NOTE               the note with every LITERAL blanked by FILLER\n",
-    );
-    say(
-        b"       redact LITERAL FILLER alignments < NOTE    its alignments, one line for each run of bytes:\n",
-    );
-    say(
-        b"                                                  first byte, count, transcript start, transcript end\n",
-    );
+// The literal of argument `filler - 1` blanked by the filler of the next one, and how often said.
+fn blank_literal(
+    original: &[u8],
+    size: usize,
+    filler: usize,
+    text: &mut [u8],
+    starts: &mut [Offset],
+    ends: &mut [Offset],
+) -> Outcome
+    requires { ⌜ Held size (now text) (now starts) (now ends) × (1 ≤ filler) ⌝ }
+    ensures { λ r. ⌜ Left r (now (text .exit)) (now (starts .exit)) (now (ends .exit)) ⌝ }
+{
+    let number = filler / 2;
+    let mut literal = io::buffer();
+    let literal_size = os::arg(filler - 1, &mut literal);
+    if os::errno() != 0 {
+        refuse_long_literal(number);
+        return Outcome::Refused;
+    }
+    let mut content = io::buffer();
+    let content_size = os::arg(filler, &mut content);
+    if os::errno() != 0 {
+        refuse_long_filler(number);
+        return Outcome::Refused;
+    }
+    match redact_in_place(
+        original,
+        size,
+        &literal[..literal_size],
+        &content[..content_size],
+        text,
+        starts,
+        ends,
+    ) {
+        Redaction::Published(n, count) => {
+            tell(count, number, &literal[..literal_size]);
+            Outcome::Left(n)
+        }
+        Redaction::Refused(k) => {
+            refuse_literal(
+                k,
+                number,
+                &literal[..literal_size],
+                &content[..content_size],
+            );
+            Outcome::Refused
+        }
+    }
+}
+
+// Each literal in what the one before left, for a program that was started with `count` words.
+fn blank_all(
+    original: &[u8],
+    size: usize,
+    count: usize,
+    text: &mut [u8],
+    starts: &mut [Offset],
+    ends: &mut [Offset],
+) -> Outcome
+    requires { ⌜ Held size (now text) (now starts) (now ends) × (1 ≤ count) ⌝ }
+    ensures { λ r. ⌜ Left r (now (text .exit)) (now (starts .exit)) (now (ends .exit)) ⌝ }
+{
+    let mut size = size;
+    let mut at = 1;
+    while 2 <= count - at {
+        match blank_literal(original, size, at + 1, text, starts, ends) {
+            Outcome::Left(n) => size = n,
+            Outcome::Refused => return Outcome::Refused,
+        }
+        at += 2;
+    }
+    Outcome::Left(size)
 }
 
 fn judge_written(written: bool) {
@@ -36,77 +113,65 @@ fn judge_written(written: bool) {
     }
 }
 
-// The note in `text`, blanked and published.
-fn publish(text: &[u8], literal: &[u8], content: &[u8], alignments: bool) {
-    let mut starts = [0; LIMIT];
-    let mut ends = [0; LIMIT];
-    let mut list = [0u8; LIST];
-    let mut out = [0u8; LIMIT];
-    let mut out_starts = [0; LIMIT];
-    let mut out_ends = [0; LIMIT];
-    match redact(
-        text,
-        literal,
-        content,
+// The note in `original`, blanked and published.
+fn publish(original: &[u8], count: usize, alignments: bool)
+    requires { ⌜ 1 ≤ count ⌝ }
+{
+    let mut text = text_buffer();
+    let mut starts = column_buffer();
+    let mut ends = column_buffer();
+    if let Verdict::Refused(k) = from_text(original, &mut starts, &mut ends) {
+        refuse_note(k, original);
+        return;
+    }
+    copy_bytes(original, &mut text, 0);
+    match blank_all(
+        original,
+        original.len(),
+        count,
+        &mut text,
         &mut starts,
         &mut ends,
-        &mut list,
-        &mut out,
-        &mut out_starts,
-        &mut out_ends,
     ) {
-        Publication::Published(n) => {
+        Outcome::Left(n) => {
             if alignments {
-                judge_written(write_alignments(&out_starts[..n], &out_ends[..n]));
+                judge_written(write_alignments(&starts[..n], &ends[..n]));
             } else {
-                judge_written(io::write_all(libc::STDOUT_FILENO, &out[..n]));
+                judge_written(io::write_all(libc::STDOUT_FILENO, &text[..n]));
             }
         }
-        Publication::Refused(k) => refuse(k, text, literal),
+        Outcome::Refused => return,
     }
 }
 
-// Whether the third argument is `alignments`.
-fn asks_alignments() -> bool {
-    let mut word = io::buffer();
-    let n = os::arg(3, &mut word);
-    same_bytes(&word[..n], b"alignments")
-}
-
-fn run(literal: &[u8], content: &[u8], alignments: bool) {
+fn run(count: usize, alignments: bool)
+    requires { ⌜ 1 ≤ count ⌝ }
+{
     let mut text = io::large_buffer();
     match fill(&mut text) {
-        Input::Bytes(n) => publish(&text[..n], literal, content, alignments),
+        Input::Bytes(n) => publish(&text[..n], count, alignments),
         Input::Unread => os::fail(b"redact: standard input"),
     }
 }
 
+// Whether the last argument is `alignments`.
+fn asks_alignments(last: usize) -> bool {
+    let mut word = io::buffer();
+    let n = os::arg(last, &mut word);
+    same_bytes(&word[..n], b"alignments")
+}
+
+// An argument that is left over where the others are taken two by two can only be `alignments`.
 fn main() {
     let count = os::arg_count();
-    if count < 3 || 4 < count {
+    if count < 3 {
         usage();
         return;
     }
-    let alignments = count == 4;
-    if alignments && !asks_alignments() {
+    let alignments = count % 2 == 0;
+    if alignments && !asks_alignments(count - 1) {
         usage();
         return;
     }
-    let mut literal = io::buffer();
-    let literal_size = os::arg(1, &mut literal);
-    if os::errno() != 0 {
-        say(b"redact: the literal has more than 4,096 bytes; blank a shorter part of it\n");
-        return;
-    }
-    let mut content = io::buffer();
-    let filler_size = os::arg(2, &mut content);
-    if os::errno() != 0 {
-        say(b"redact: the filler has more than 4,096 bytes; take a shorter one\n");
-        return;
-    }
-    run(
-        &literal[..literal_size],
-        &content[..filler_size],
-        alignments,
-    );
+    run(count, alignments);
 }

@@ -1,4 +1,5 @@
 -- Laws of blanking in a note, and of chains.
 pub mod MatchCount
 pub mod Redacting
+pub mod Moved
 pub mod Chain

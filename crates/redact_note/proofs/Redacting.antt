@@ -196,7 +196,7 @@ module _ (n : Note) (literal content list₀ out₀ starts₀ ends₀ : List ℕ
         }
 
 -- a call that has published
-says-published : (v : Verdict) (size count m k : ℕ) → Published size count ≡ redaction v m k → (v ≡ Accepted) × (size ≡ m)
+pub says-published : (v : Verdict) (size count m k : ℕ) → Published size count ≡ redaction v m k → (v ≡ Accepted) × (size ≡ m)
 says-published Accepted size count m k e = (refl, cc)
 says-published (Rejected j) size count m k e = let z : _≡_ {A = ℕ} 0 1 = cc in absurd (omega arith)
 

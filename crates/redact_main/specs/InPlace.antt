@@ -1,0 +1,35 @@
+-- A literal blanked in place: what `redact_note` publishes stands in front of the buffers that the note was in.
+use Prim.Native.Nat.{ℕ, _≤_}
+use mathlib.Core.Path.{_≡_}
+use mathlib.Core.List.{List}
+use lib.ListN.{length, take}
+use Rattle.note.specs.Notes.{Note, lent, limit}
+use Rattle.redact_note.specs.declared.Redaction.{Redaction}
+use Rattle.redact_note.specs.Redacting.{NoteRedacted}
+use Rattle.redact_main.specs.declared.Outcome.{Outcome}
+use Rattle.redact_main.specs.declared.Outcome.the-variants.{Left as Kept, Refused}
+
+-- three buffers of the limit's length, and a note of `size` bytes in front of them
+pub record Held (size : ℕ) (text starts ends : List ℕ) : Type 0 where
+  pub size-most : size ≤ limit
+  pub text-long : length text ≡ limit
+  pub starts-long : length starts ≡ limit
+  pub ends-long : length ends ≡ limit
+
+-- the note that is held
+abbrev pub held : List ℕ → ℕ → List ℕ → List ℕ → List ℕ → Note
+held original size text starts ends = lent original (take size text) (take size starts) (take size ends) 0
+
+-- a call of `redact_note` on the note that is held, into the buffers that hold it
+pub record InPlace (original : List ℕ) (size : ℕ) (literal content text₀ starts₀ ends₀ : List ℕ) (r : Redaction)
+    (text starts ends : List ℕ) : Type 0 where
+  pub list₀ : List ℕ
+  pub list : List ℕ
+  pub call :
+      NoteRedacted limit (held original size text₀ starts₀ ends₀) literal content list₀ text₀ starts₀ ends₀ r
+      list text starts ends
+
+-- what is left to publish is held
+abbrev pub Left : Outcome → List ℕ → List ℕ → List ℕ → Type 0
+Left (Kept size) text starts ends = Held size text starts ends
+Left Refused text starts ends = Unit {0}

@@ -1,0 +1,71 @@
+// Blanking in place, so that literals are blanked one after the other: each in what the one before left.
+use buffers::Offset;
+use buffers::copy_bytes;
+use buffers::copy_offsets;
+use note::LIMIT;
+use pattern::MOST;
+use redact_note::Redaction;
+use redact_note::redact_note;
+ghost use mathlib.Core.Path.{_≡_};
+ghost use lib.ListN.{length};
+ghost use Rattle.note.specs.Notes.{limit};
+ghost use Rattle.redact_main.specs.InPlace.{Held, InPlace};
+
+// Room for the list of any literal's matches: one place for each, one before each, and one behind the last (RULES 9.6).
+const LIST: usize = MOST * (2 * LIMIT + 1);
+
+// Zeros for the longest text, and for one of its columns.
+pub fn text_buffer() -> [u8; LIMIT]
+    ensures { λ r. ⌜ limit ≡ length r ⌝ }
+{
+    [0; LIMIT]
+}
+
+pub fn column_buffer() -> [Offset; LIMIT]
+    ensures { λ r. ⌜ limit ≡ length r ⌝ }
+{
+    [0; LIMIT]
+}
+
+// Blanks every match of the literal in the note of the first `size` bytes of `text` and alignments of `starts` and
+// `ends`: what is published stands there afterwards. A refusal leaves all three.
+pub fn redact_in_place(
+    original: &[u8],
+    size: usize,
+    literal: &[u8],
+    content: &[u8],
+    text: &mut [u8],
+    starts: &mut [Offset],
+    ends: &mut [Offset],
+) -> Redaction
+    requires { ⌜ Held size (now text) (now starts) (now ends) ⌝ }
+    ensures { λ r. ⌜ InPlace (now (original .entry)) size (now (literal .entry)) (now (content .entry))
+        (now (text .entry)) (now (starts .entry)) (now (ends .entry))
+        r (now (text .exit)) (now (starts .exit)) (now (ends .exit)) ⌝ }
+{
+    let mut list = [0u8; LIST];
+    let mut out = text_buffer();
+    let mut out_starts = column_buffer();
+    let mut out_ends = column_buffer();
+    match redact_note(
+        original,
+        &text[..size],
+        &starts[..size],
+        &ends[..size],
+        0,
+        literal,
+        content,
+        &mut list,
+        &mut out,
+        &mut out_starts,
+        &mut out_ends,
+    ) {
+        Redaction::Published(n, count) => {
+            copy_bytes(&out[..n], text, 0);
+            copy_offsets(&out_starts[..n], starts, 0);
+            copy_offsets(&out_ends[..n], ends, 0);
+            Redaction::Published(n, count)
+        }
+        Redaction::Refused(k) => Redaction::Refused(k),
+    }
+}
