@@ -15,14 +15,12 @@ use Rattle.utf8.specs.Encoding.{EncodedAs}
 use Rattle.utf8.proofs.Boundaries.{boundary-most}
 use Rattle.note.specs.Notes.{beforeEnd}
 use Rattle.script.specs.declared.Command.{Command}
-use Rattle.script.specs.declared.Entry.{Entry}
-use Rattle.script.specs.declared.Entry.the-variants.{At, Broken}
-use Rattle.script.specs.Scripts.{sizeOf, entryAt, commandsOf}
-use Rattle.script.proofs.Scripts.{size-most, Stepped, entry-step, entry-broken, entries-end}
+use Rattle.script.specs.Scripts.{sizeOf}
+use Rattle.script.proofs.Scripts.{size-most}
 use Rattle.transform.specs.declared.walking.Progress.{Progress}
 use Rattle.transform.specs.Edits.{starves, moved, starved, carries, characters, carried, given, relaid}
 use Rattle.transform.specs.Walking.{Standing, Tabled, Counting, sizes, stepped}
-use Rattle.transform.specs.Laying.{KeepRoom, Kept, Reached, Room, CommandLaid, ScriptRoom, ScriptLaid, EditRoom, EditLaid}
+use Rattle.transform.specs.Laying.{KeepRoom, Kept, Reached, Room, CommandLaid, CommandsRoom, CommandsLaid, EditRoom, EditLaid}
 use Rattle.transform.proofs.Positions.{feeds, standing-moved, stepped-fed}
 
 -- one character
@@ -103,113 +101,101 @@ reached {s} {xs} {b} {p} {c} same at f =
       found = λ u. omega (arith, feeds b p c f u, boundary-most s b (at .ends));
     }
 
--- what a column has given into d up to the command at i
-abbrev Column : (ℕ → Command → List ℕ) → List ℕ → ℕ → ℕ → List ℕ → ℕ → Progress → ℕ → List ℕ → List ℕ → Type 0
-Column piece s b p l at g i d₀ d =
-    Laying (take at d₀ ++ given piece s b p (commandsOf l)) (given piece s b (g .position) (commandsOf (drop i l))) d₀ (g .written) d
+-- what a column has given into d, up to the commands that are left
+abbrev Column : (ℕ → Command → List ℕ) → List ℕ → ℕ → ℕ → List Command → ℕ → Progress → List Command → List ℕ → List ℕ → Type 0
+Column piece s b p all at g rest d₀ d =
+    Laying (take at d₀ ++ given piece s b p all) (given piece s b (g .position) rest) d₀ (g .written) d
 
-module _ (piece : ℕ → Command → List ℕ) (wide : (p : ℕ) (c : Command) → length (piece p c) ≡ sizeOf (c .character)) (s : List ℕ) (b p : ℕ) (l : List ℕ) (at : ℕ) where
-  column-none : {d₀ : List ℕ} → at + sizes (commandsOf l) ≤ length d₀ → Column piece s b p l at (record { position = p; written = at }) 0 d₀ d₀
-  column-none h = record { so-far = refl; beyond = refl; room = omega (arith, length-given piece wide s b p (commandsOf l)); same = refl }
+module _ (piece : ℕ → Command → List ℕ) (wide : (p : ℕ) (c : Command) → length (piece p c) ≡ sizeOf (c .character)) (s : List ℕ) (b p : ℕ) (all : List Command) (at : ℕ) where
+  column-none : {d₀ : List ℕ} → at + sizes all ≤ length d₀ → Column piece s b p all at (record { position = p; written = at }) all d₀ d₀
+  column-none h = record { so-far = refl; beyond = refl; room = omega (arith, length-given piece wide s b p all); same = refl }
 
-  module _ (g : Progress) (i : ℕ) {d₀ d : List ℕ} (k : Column piece s b p l at g i d₀ d) where
-    module _ {c : Command} {next : ℕ} (step : Stepped l i c next) where
+  module _ (g : Progress) (rest : List Command) {d₀ d : List ℕ} (k : Column piece s b p all at g rest d₀ d) where
+    module _ {c : Command} {others : List Command} (next : rest ≡ c ∷ others) where
       column-room : g .written + sizeOf (c .character) ≤ length d
       unfolding given
       column-room =
-          let room : g .written + length (piece (g .position) c ++ given piece s b (moved s b (g .position) c) (commandsOf (drop next l))) ≤ length d = rw (step .commands) at (k .room) in
-          omega (arith, length-append (piece (g .position) c) (given piece s b (moved s b (g .position) c) (commandsOf (drop next l))), wide (g .position) c)
+          let room : g .written + length (piece (g .position) c ++ given piece s b (moved s b (g .position) c) others) ≤ length d = rw next at (k .room) in
+          omega (arith, length-append (piece (g .position) c) (given piece s b (moved s b (g .position) c) others), wide (g .position) c)
 
-      column-next : {d₁ : List ℕ} → d₁ ≡ splice d (g .written) (piece (g .position) c) → Column piece s b p l at (record { position = moved s b (g .position) c; written = g .written + sizeOf (c .character) }) next d₀ d₁
+      column-next : {d₁ : List ℕ} → d₁ ≡ splice d (g .written) (piece (g .position) c) → Column piece s b p all at (record { position = moved s b (g .position) c; written = g .written + sizeOf (c .character) }) others d₀ d₁
       unfolding given
       column-next {d₁} is =
-          piece-laid (take at d₀ ++ given piece s b p (commandsOf l)) (piece (g .position) c) (given piece s b (moved s b (g .position) c) (commandsOf (drop next l))) d₀ (g .written) d (rw (step .commands) at k) (g .written + sizeOf (c .character)) d₁
+          piece-laid (take at d₀ ++ given piece s b p all) (piece (g .position) c) (given piece s b (moved s b (g .position) c) others) d₀ (g .written) d (rw next at k) (g .written + sizeOf (c .character)) d₁
           (rw (wide (g .position) c)) is
 
-    column-done : commandsOf (drop i l) ≡ [] → at ≤ length d₀ → (g .written ≡ at + sizes (commandsOf l)) × (d ≡ splice d₀ at (given piece s b p (commandsOf l)))
+    column-done : rest ≡ [] → at ≤ length d₀ → (g .written ≡ at + sizes all) × (d ≡ splice d₀ at (given piece s b p all))
     unfolding given splice overlay
     column-done none h =
-        let made : List ℕ = given piece s b p (commandsOf l) in
+        let made : List ℕ = given piece s b p all in
         let done : Laying (take at d₀ ++ made) [] d₀ (g .written) d = rw none at k in
         let long : length (take at d₀ ++ made) ≡ at + length made = length-append (take at d₀) made ∙ rw (length-take-le at d₀ h) in (
-          omega (arith, laying-size (take at d₀ ++ made) [] d₀ (g .written) d done, long, length-given piece wide s b p (commandsOf l)),
+          omega (arith, laying-size (take at d₀ ++ made) [] d₀ (g .written) d done, long, length-given piece wide s b p all),
           all-laid (take at d₀ ++ made) d₀ (g .written) d done ∙ rw long,
         )
 
--- the commands before i are laid down
-pub record Going (s starts ends : List ℕ) (b p : ℕ) (l out₀ starts₀ ends₀ : List ℕ) (at : ℕ) (g : Progress) (i : ℕ) (out starts₁ ends₁ : List ℕ) : Type 0 where
+-- some commands are laid down
+pub record Going (s starts ends : List ℕ) (b p : ℕ) (all : List Command) (out₀ starts₀ ends₀ : List ℕ) (at : ℕ) (g : Progress) (rest : List Command) (out starts₁ ends₁ : List ℕ) : Type 0 where
   pub standing : Standing s b (g .position)
-  pub feeding : starved s b (g .position) (commandsOf (drop i l)) ≡ false
-  pub inside : i ≤ length l
-  pub text-laid : Column characters s b p l at g i out₀ out
-  pub starts-laid : Column (carried starts) s b p l at g i starts₀ starts₁
-  pub ends-laid : Column (carried ends) s b p l at g i ends₀ ends₁
+  pub feeding : starved s b (g .position) rest ≡ false
+  pub text-laid : Column characters s b p all at g rest out₀ out
+  pub starts-laid : Column (carried starts) s b p all at g rest starts₀ starts₁
+  pub ends-laid : Column (carried ends) s b p all at g rest ends₀ ends₁
 
-module _ {s starts ends : List ℕ} {b p : ℕ} {l table out₀ starts₀ ends₀ : List ℕ} {at : ℕ} (r : ScriptRoom s starts ends b p l table out₀ starts₀ ends₀ at) where
-  pub none-going : Going s starts ends b p l out₀ starts₀ ends₀ at (record { position = p; written = at }) 0 out₀ starts₀ ends₀
+module _ {s starts ends : List ℕ} {b p : ℕ} {all : List Command} {table out₀ starts₀ ends₀ : List ℕ} {at : ℕ} (r : CommandsRoom s starts ends b p all table out₀ starts₀ ends₀ at) where
+  pub none-going : Going s starts ends b p all out₀ starts₀ ends₀ at (record { position = p; written = at }) all out₀ starts₀ ends₀
   none-going =
       record {
         standing = r .tabled .standing;
         feeding = r .feeds;
-        inside = omega arith;
-        text-laid = column-none characters characters-wide s b p l at (r .text-room);
-        starts-laid = column-none (carried starts) (carried-wide starts) s b p l at (r .starts-room);
-        ends-laid = column-none (carried ends) (carried-wide ends) s b p l at (r .ends-room);
+        text-laid = column-none characters characters-wide s b p all at (r .text-room);
+        starts-laid = column-none (carried starts) (carried-wide starts) s b p all at (r .starts-room);
+        ends-laid = column-none (carried ends) (carried-wide ends) s b p all at (r .ends-room);
       }
 
-  module _ {g : Progress} {i : ℕ} {out starts₁ ends₁ : List ℕ} (k : Going s starts ends b p l out₀ starts₀ ends₀ at g i out starts₁ ends₁) where
-    module _ {entry : Entry} {c : Command} {next : ℕ} (is : entry ≡ entryAt l i) (there : entry ≡ At c next) where
-      step : Stepped l i c next
-      step = entry-step l is there
-
-      both-fed : (starves b (g .position) c ≡ false) × (starved s b (moved s b (g .position) c) (commandsOf (drop next l)) ≡ false)
-      both-fed = fed s b (g .position) c (commandsOf (drop next l)) (rw (step .commands) at (k .feeding))
+  module _ {g : Progress} {rest : List Command} {out starts₁ ends₁ : List ℕ} (k : Going s starts ends b p all out₀ starts₀ ends₀ at g rest out starts₁ ends₁) where
+    module _ {c : Command} {others : List Command} (next : rest ≡ c ∷ others) where
+      both-fed : (starves b (g .position) c ≡ false) × (starved s b (moved s b (g .position) c) others ≡ false)
+      both-fed = fed s b (g .position) c others (rw next at (k .feeding))
 
       pub command-room : Room starts ends g c out starts₁ ends₁
       command-room =
           record {
             in-starts = reached (r .one-start) (k .standing) (both-fed .0);
             in-ends = reached (r .one-end) (k .standing) (both-fed .0);
-            text-room = column-room characters characters-wide s b p l at g i (k .text-laid) step;
-            starts-room = column-room (carried starts) (carried-wide starts) s b p l at g i (k .starts-laid) step;
-            ends-room = column-room (carried ends) (carried-wide ends) s b p l at g i (k .ends-laid) step;
+            text-room = column-room characters characters-wide s b p all at g rest (k .text-laid) next;
+            starts-room = column-room (carried starts) (carried-wide starts) s b p all at g rest (k .starts-laid) next;
+            ends-room = column-room (carried ends) (carried-wide ends) s b p all at g rest (k .ends-laid) next;
           }
 
       pub counting : length out₀ < 2 ^ 64 → Counting s b g c table
       counting long =
           record {
             tabled = record { standing = k .standing; lent = r .tabled .lent };
-            counts = omega (arith, column-room characters characters-wide s b p l at g i (k .text-laid) step, k .text-laid .same);
+            counts = omega (arith, column-room characters characters-wide s b p all at g rest (k .text-laid) next, k .text-laid .same);
           }
 
-      pub going-on : {h : Progress} {out₂ starts₂ ends₂ : List ℕ} → CommandLaid starts ends g c out starts₁ ends₁ out₂ starts₂ ends₂ → h ≡ stepped s b g c → Going s starts ends b p l out₀ starts₀ ends₀ at h next out₂ starts₂ ends₂
+      pub going-on : {h : Progress} {out₂ starts₂ ends₂ : List ℕ} → CommandLaid starts ends g c out starts₁ ends₁ out₂ starts₂ ends₂ → h ≡ stepped s b g c → Going s starts ends b p all out₀ starts₀ ends₀ at h others out₂ starts₂ ends₂
       going-on {h} m on =
           let now : h ≡ record { position = moved s b (g .position) c; written = g .written + sizeOf (c .character) } = on ∙ stepped-fed s b g c (sym (both-fed .0)) refl in
           rw now
           (record {
             standing = standing-moved c (k .standing) .0;
             feeding = both-fed .1;
-            inside = step .most;
-            text-laid = column-next characters characters-wide s b p l at g i (k .text-laid) step (m .text-is);
-            starts-laid = column-next (carried starts) (carried-wide starts) s b p l at g i (k .starts-laid) step (m .starts-are);
-            ends-laid = column-next (carried ends) (carried-wide ends) s b p l at g i (k .ends-laid) step (m .ends-are);
+            text-laid = column-next characters characters-wide s b p all at g rest (k .text-laid) next (m .text-is);
+            starts-laid = column-next (carried starts) (carried-wide starts) s b p all at g rest (k .starts-laid) next (m .starts-are);
+            ends-laid = column-next (carried ends) (carried-wide ends) s b p all at g rest (k .ends-laid) next (m .ends-are);
           })
 
-    gone : commandsOf (drop i l) ≡ [] → ScriptLaid s starts ends b p l out₀ starts₀ ends₀ at (g .written) out starts₁ ends₁
+    pub gone : rest ≡ [] → CommandsLaid s starts ends b p all out₀ starts₀ ends₀ at (g .written) out starts₁ ends₁
     gone none =
-        let text = column-done characters characters-wide s b p l at g i (k .text-laid) none (omega (arith, r .text-room)) in
+        let text = column-done characters characters-wide s b p all at g rest (k .text-laid) none (omega (arith, r .text-room)) in
         record {
           reached = text .0;
           text-is = text .1;
-          starts-are = column-done (carried starts) (carried-wide starts) s b p l at g i (k .starts-laid) none (omega (arith, r .starts-room)) .1;
-          ends-are = column-done (carried ends) (carried-wide ends) s b p l at g i (k .ends-laid) none (omega (arith, r .ends-room)) .1;
+          starts-are = column-done (carried starts) (carried-wide starts) s b p all at g rest (k .starts-laid) none (omega (arith, r .starts-room)) .1;
+          ends-are = column-done (carried ends) (carried-wide ends) s b p all at g rest (k .ends-laid) none (omega (arith, r .ends-room)) .1;
         }
-
-    pub broken-gone : {entry : Entry} → i < length l → entry ≡ entryAt l i → entry ≡ Broken → ScriptLaid s starts ends b p l out₀ starts₀ ends₀ at (g .written) out starts₁ ends₁
-    broken-gone h is e = gone (entry-broken l h is e .0)
-
-    pub all-gone : length l ≤ i → ScriptLaid s starts ends b p l out₀ starts₀ ends₀ at (g .written) out starts₁ ends₁
-    all-gone h = gone (entries-end l h .0)
 
 -- a list in three pieces: what stands before the range, what the commands give, what stands behind
 module _ (piece : ℕ → Command → List ℕ) (wide : (p : ℕ) (c : Command) → length (piece p c) ≡ sizeOf (c .character)) (s xs : List ℕ) (a b p m : ℕ) (cs : List Command) (d₀ : List ℕ) (long : length xs ≡ m) (forward : a ≤ b) (inside : b ≤ m) where
@@ -238,7 +224,7 @@ module _ (piece : ℕ → Command → List ℕ) (wide : (p : ℕ) (c : Command) 
       third ∙ rw (two, reach, back, all, same) (splice-overlay d₀ (take a xs ++ (made ++ drop b xs)))
 
 -- the whole edit
-module _ {s starts ends : List ℕ} {a b p : ℕ} {l table out₀ starts₀ ends₀ : List ℕ} (r : EditRoom s starts ends a b p l table out₀ starts₀ ends₀) where
+module _ {s starts ends : List ℕ} {a b p : ℕ} {cs : List Command} {table out₀ starts₀ ends₀ : List ℕ} (r : EditRoom s starts ends a b p cs table out₀ starts₀ ends₀) where
   pub front-room : KeepRoom s starts ends 0 a out₀ starts₀ ends₀ 0
   front-room =
       record {
@@ -252,11 +238,11 @@ module _ {s starts ends : List ℕ} {a b p : ℕ} {l table out₀ starts₀ ends
       }
 
   module _ {out₁ starts₁ ends₁ : List ℕ} (k : Kept s starts ends 0 a out₀ starts₀ ends₀ 0 out₁ starts₁ ends₁) where
-    pub middle-room : ScriptRoom s starts ends b p l table out₁ starts₁ ends₁ a
+    pub middle-room : CommandsRoom s starts ends b p cs table out₁ starts₁ ends₁ a
     middle-room =
-        let text = pieces-room characters characters-wide s s a b p (length s) (commandsOf l) out₀ refl (r .forward) (r .inside) (r .text-room) (k .text-is) refl in
-        let first = pieces-room (carried starts) (carried-wide starts) s starts a b p (length s) (commandsOf l) starts₀ (r .one-start) (r .forward) (r .inside) (r .starts-room) (k .starts-are) refl in
-        let last = pieces-room (carried ends) (carried-wide ends) s ends a b p (length s) (commandsOf l) ends₀ (r .one-end) (r .forward) (r .inside) (r .ends-room) (k .ends-are) refl in
+        let text = pieces-room characters characters-wide s s a b p (length s) cs out₀ refl (r .forward) (r .inside) (r .text-room) (k .text-is) refl in
+        let first = pieces-room (carried starts) (carried-wide starts) s starts a b p (length s) cs starts₀ (r .one-start) (r .forward) (r .inside) (r .starts-room) (k .starts-are) refl in
+        let last = pieces-room (carried ends) (carried-wide ends) s ends a b p (length s) cs ends₀ (r .one-end) (r .forward) (r .inside) (r .ends-room) (k .ends-are) refl in
         record {
           one-start = r .one-start;
           one-end = r .one-end;
@@ -267,12 +253,12 @@ module _ {s starts ends : List ℕ} {a b p : ℕ} {l table out₀ starts₀ ends
           ends-room = omega (arith, last .0, r .ends-room);
         }
 
-    module _ {at : ℕ} {out₂ starts₂ ends₂ : List ℕ} (m : ScriptLaid s starts ends b p l out₁ starts₁ ends₁ a at out₂ starts₂ ends₂) where
+    module _ {at : ℕ} {out₂ starts₂ ends₂ : List ℕ} (m : CommandsLaid s starts ends b p cs out₁ starts₁ ends₁ a at out₂ starts₂ ends₂) where
       pub back-room : KeepRoom s starts ends b (length s) out₂ starts₂ ends₂ at
       back-room =
-          let text = pieces-room characters characters-wide s s a b p (length s) (commandsOf l) out₀ refl (r .forward) (r .inside) (r .text-room) (k .text-is) (m .text-is) in
-          let first = pieces-room (carried starts) (carried-wide starts) s starts a b p (length s) (commandsOf l) starts₀ (r .one-start) (r .forward) (r .inside) (r .starts-room) (k .starts-are) (m .starts-are) in
-          let last = pieces-room (carried ends) (carried-wide ends) s ends a b p (length s) (commandsOf l) ends₀ (r .one-end) (r .forward) (r .inside) (r .ends-room) (k .ends-are) (m .ends-are) in
+          let text = pieces-room characters characters-wide s s a b p (length s) cs out₀ refl (r .forward) (r .inside) (r .text-room) (k .text-is) (m .text-is) in
+          let first = pieces-room (carried starts) (carried-wide starts) s starts a b p (length s) cs starts₀ (r .one-start) (r .forward) (r .inside) (r .starts-room) (k .starts-are) (m .starts-are) in
+          let last = pieces-room (carried ends) (carried-wide ends) s ends a b p (length s) cs ends₀ (r .one-end) (r .forward) (r .inside) (r .ends-room) (k .ends-are) (m .ends-are) in
           record {
             onward = r .inside;
             in-text = omega arith;
@@ -283,11 +269,11 @@ module _ {s starts ends : List ℕ} {a b p : ℕ} {l table out₀ starts₀ ends
             ends-room = omega (arith, last .1, r .ends-room, m .reached);
           }
 
-      pub edit-laid : {out₃ starts₃ ends₃ : List ℕ} → Kept s starts ends b (length s) out₂ starts₂ ends₂ at out₃ starts₃ ends₃ → EditLaid s starts ends a b p l out₀ starts₀ ends₀ (at + (length s - b)) out₃ starts₃ ends₃
+      pub edit-laid : {out₃ starts₃ ends₃ : List ℕ} → Kept s starts ends b (length s) out₂ starts₂ ends₂ at out₃ starts₃ ends₃ → EditLaid s starts ends a b p cs out₀ starts₀ ends₀ (at + (length s - b)) out₃ starts₃ ends₃
       edit-laid j =
           record {
-            reached = omega (arith, length-relaid characters characters-wide s b a p (commandsOf l) s (omega (arith, r .forward, r .inside)), m .reached);
-            text-is = pieces-laid characters characters-wide s s a b p (length s) (commandsOf l) out₀ refl (r .forward) (r .inside) (k .text-is) (m .text-is) (m .reached) (j .text-is);
-            starts-are = pieces-laid (carried starts) (carried-wide starts) s starts a b p (length s) (commandsOf l) starts₀ (r .one-start) (r .forward) (r .inside) (k .starts-are) (m .starts-are) (m .reached) (j .starts-are);
-            ends-are = pieces-laid (carried ends) (carried-wide ends) s ends a b p (length s) (commandsOf l) ends₀ (r .one-end) (r .forward) (r .inside) (k .ends-are) (m .ends-are) (m .reached) (j .ends-are);
+            reached = omega (arith, length-relaid characters characters-wide s b a p cs s (omega (arith, r .forward, r .inside)), m .reached);
+            text-is = pieces-laid characters characters-wide s s a b p (length s) cs out₀ refl (r .forward) (r .inside) (k .text-is) (m .text-is) (m .reached) (j .text-is);
+            starts-are = pieces-laid (carried starts) (carried-wide starts) s starts a b p (length s) cs starts₀ (r .one-start) (r .forward) (r .inside) (k .starts-are) (m .starts-are) (m .reached) (j .starts-are);
+            ends-are = pieces-laid (carried ends) (carried-wide ends) s ends a b p (length s) cs ends₀ (r .one-end) (r .forward) (r .inside) (k .ends-are) (m .ends-are) (m .reached) (j .ends-are);
           }

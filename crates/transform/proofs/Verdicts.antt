@@ -7,7 +7,7 @@ use mathlib.Mathlib.Data.Bool.Basic.{and-intro, and-elim-left, and-elim-right}
 use mathlib.Core.List.{List, []}
 use native.Mathlib.Omega.{arith}
 use lib.Dec.{leb}
-use lib.ListN.{length}
+use lib.ListN.{length, drop}
 use borrow.Author.Tests.{not-true, not-false, le-leb, lt-leb, leb-true}
 use Rattle.buffers.specs.Splice.{overlay}
 use Rattle.buffers.proofs.Cases.{true-or-false}
@@ -21,10 +21,10 @@ use Rattle.note.specs.declared.Refusal.{Refusal}
 use Rattle.note.specs.declared.Refusal.the-variants.{TooLong, NotBoundary, BadScript, Exhausted, NoRoom}
 use Rattle.note.specs.declared.Verdict.{Verdict}
 use Rattle.note.specs.declared.Verdict.the-variants.{Accepted, Refused as Rejected}
-use Rattle.note.specs.Refusals.{least, also, verdict}
+use Rattle.note.specs.Refusals.{order, least, also, verdict}
 use Rattle.note.specs.Notes.{Note, lent, fits, Sound}
 use Rattle.note.specs.Faults.{noteFaults}
-use Rattle.note.proofs.Verdicts.{accepted-meets, refused-then, accepted-then}
+use Rattle.note.proofs.Verdicts.{accepted-meets, unmet, refused-then, accepted-then}
 use Rattle.note.proofs.Sound.{length-starts, length-ends, normalized-formed}
 use Rattle.note.proofs.Faults.{accepted-sound}
 use Rattle.convert.specs.declared.Range.{Range}
@@ -124,17 +124,17 @@ pub target-original : (starts ends : List ℕ) {range : Range} {a b : OriginalBy
 target-original starts ends e is = is ∙ rw e
 
 -- AN EDIT of an accepted note, as the code goes through it
-module _ (most : ℕ) {s starts ends : List ℕ} (ed : Editable s starts ends) (a b skip : ℕ) (l out₀ starts₀ ends₀ : List ℕ) {t : Bool} (is : t ≡ placed s a b) where
+module _ (most : ℕ) {s starts ends : List ℕ} (ed : Editable s starts ends) (a b skip : ℕ) (cs : List Command) (out₀ starts₀ ends₀ : List ℕ) {t : Bool} (is : t ≡ placed s a b) where
   e : Edit
-  e = record { from = a; to = b; skip = skip; commands = commandsOf l }
+  e = record { from = a; to = b; skip = skip; commands = cs }
 
   rooms : ℕ
   rooms = least (length out₀) (length starts₀) (length ends₀)
 
   abbrev Made : Editing → List ℕ → List ℕ → List ℕ → Type 0
   Made r out starts₁ ends₁ =
-      Rewritten (verdict (editFaults most s (record { from = a; to = b; skip = skip; commands = commandsOf l }) (least (length out₀) (length starts₀) (length ends₀))))
-      (transformed (lent [] s starts ends 0) (record { from = a; to = b; skip = skip; commands = commandsOf l }))
+      Rewritten (verdict (editFaults most s (record { from = a; to = b; skip = skip; commands = cs }) (least (length out₀) (length starts₀) (length ends₀))))
+      (transformed (lent [] s starts ends 0) (record { from = a; to = b; skip = skip; commands = cs }))
       out₀ starts₀ ends₀ r out starts₁ ends₁
 
   pub not-placed : not t ≡ true → Made (Refusing NotBoundary) out₀ starts₀ ends₀
@@ -159,24 +159,24 @@ module _ (most : ℕ) {s starts ends : List ℕ} (ed : Editable s starts ends) (
       pub measure-ready : Tabled s b p table
       measure-ready = record { standing = rw begun (standing-skipped skip from-standing .0); lent = tab }
 
-      module _ {x : Extent} (m : x ≡ measured s b p (commandsOf l)) where
+      module _ {x : Extent} (m : x ≡ measured s b p cs) where
         pub starved-refused : x ≡ Starved → Made (Refusing Exhausted) out₀ starts₀ ends₀
         unfolding e rooms begins
         starved-refused st =
-            refused-rewritten (starving most s e rooms is-placed (rw (← begun) (measured-starved s b p (commandsOf l) (sym m ∙ st))))
+            refused-rewritten (starving most s e rooms is-placed (rw (← begun) (measured-starved s b p cs (sym m ∙ st))))
 
         module _ {size : ℕ} (some : x ≡ Size size) {low room : ℕ} (lowest : low ≡ least (length out₀) (length starts₀) (length ends₀)) (r : room ≡ min most low) where
-          told : (starved s b p (commandsOf l) ≡ false) × (size ≡ sizes (commandsOf l))
-          told = measured-size s b p (commandsOf l) (sym m ∙ some)
+          told : (starved s b p cs ≡ false) × (size ≡ sizes cs)
+          told = measured-size s b p cs (sym m ∙ some)
 
           inside : b ≤ length s
           inside = boundary-most s b (from-standing .ends)
 
           long : length (edited characters s e s) ≡ a + size + (length s - b)
           unfolding e edited begins
-          long = rw (← begun, told .1) (length-relaid characters characters-wide s b a p (commandsOf l) s (omega (arith, inside, from-standing .most)))
+          long = rw (← begun, told .1) (length-relaid characters characters-wide s b a p cs s (omega (arith, inside, from-standing .most)))
 
-          here-fed : starved s b (begins s e) (commandsOf l) ≡ false
+          here-fed : starved s b (begins s e) cs ≡ false
           unfolding e begins
           here-fed = rw (← begun) (told .0)
 
@@ -189,7 +189,7 @@ module _ (most : ℕ) {s starts ends : List ℕ} (ed : Editable s starts ends) (
           refused-size k h = refused-rewritten (too-large most s e rooms is-placed here-fed (omega (arith, long, lowest, r)))
 
           module _ (k : a + (length s - b) ≤ room) (f : size ≤ room - (a + (length s - b))) where
-            pub edit-room : EditRoom s starts ends a b p l table out₀ starts₀ ends₀
+            pub edit-room : EditRoom s starts ends a b p cs table out₀ starts₀ ends₀
             edit-room =
                 record {
                   one-start = ed .one-start;
@@ -203,54 +203,58 @@ module _ (most : ℕ) {s starts ends : List ℕ} (ed : Editable s starts ends) (
                   ends-room = omega (arith, told .1, lowest, r);
                 }
 
-            pub edit-made : {n : ℕ} {out starts₁ ends₁ : List ℕ} → EditLaid s starts ends a b p l out₀ starts₀ ends₀ n out starts₁ ends₁ → Made (Edited n) out starts₁ ends₁
+            pub edit-made : {n : ℕ} {out starts₁ ends₁ : List ℕ} → EditLaid s starts ends a b p cs out₀ starts₀ ends₀ n out starts₁ ends₁ → Made (Edited n) out starts₁ ends₁
             unfolding e rooms transformed edited begins
             edit-made {n} {out} {starts₁} {ends₁} d =
                 let fine = small-enough most s e rooms is-placed here-fed (omega (arith, long, lowest, r)) in
-                let laid : EditLaid s starts ends a b (skipped s b skip a) l out₀ starts₀ ends₀ n out starts₁ ends₁ = rw begun at d in
+                let laid : EditLaid s starts ends a b (skipped s b skip a) cs out₀ starts₀ ends₀ n out starts₁ ends₁ = rw begun at d in
                 accepted-rewritten fine (laid .reached) (laid .text-is) (laid .starts-are) (laid .ends-are)
 
--- THE CALL, as the code goes through it
-module _ (most : ℕ) (n : Note) (range : Range) (l : List ℕ) (skip : ℕ) (out₀ starts₀ ends₀ : List ℕ) {v : Verdict} (noted : v ≡ verdict (noteFaults most n)) where
+-- an edit behind other inputs, all of whose conditions rank before its own
+module _ (most : ℕ) (n : Note) (inputs : Refusal → Bool) (low : unmet (drop 7 order) inputs ≡ true) (e : Edit) (out₀ starts₀ ends₀ : List ℕ) {v : Verdict} (judged : v ≡ verdict inputs) where
   rest : Refusal → Bool
-  rest = editFaults most (n .normalized) (scriptEdit n range l skip) (least (length out₀) (length starts₀) (length ends₀))
+  rest = editFaults most (n .normalized) e (least (length out₀) (length starts₀) (length ends₀))
 
-  abbrev Called : Editing → List ℕ → List ℕ → List ℕ → Type 0
-  Called r out starts ends =
-      Rewritten (verdict (transformFaults most n range l skip (least (length out₀) (length starts₀) (length ends₀)))) (transformed n (scriptEdit n range l skip)) out₀ starts₀ ends₀ r out starts ends
+  abbrev Behind : Editing → List ℕ → List ℕ → List ℕ → Type 0
+  Behind r out starts ends =
+      Rewritten (verdict (also inputs (editFaults most (n .normalized) e (least (length out₀) (length starts₀) (length ends₀))))) (transformed n e) out₀ starts₀ ends₀ r out starts ends
 
-  refused-inputs : {k : Refusal} → Rejected k ≡ verdict (also (noteFaults most n) (scriptFaults l)) → Called (Refusing k) out₀ starts₀ ends₀
+  pub inputs-refused : {k : Refusal} → v ≡ Rejected k → Behind (Refusing k) out₀ starts₀ ends₀
   unfolding rest
-  refused-inputs e = refused-rewritten (refused-then 7 (also (noteFaults most n) (scriptFaults l)) rest refl refl e refl)
+  inputs-refused is = refused-rewritten (refused-then 7 inputs rest low refl judged is)
 
-  pub refused-note : {k : Refusal} → v ≡ Rejected k → Called (Refusing k) out₀ starts₀ ends₀
-  refused-note e = refused-inputs (refused-then 4 (noteFaults most n) (scriptFaults l) refl refl noted e)
+  pub inputs-accepted : v ≡ Accepted → {d : Edit} → d ≡ e → {r : Editing} {out starts ends : List ℕ} → Rewritten (verdict (editFaults most (n .normalized) d (least (length out₀) (length starts₀) (length ends₀)))) (transformed (lent [] (n .normalized) (n .starts) (n .ends) 0) d) out₀ starts₀ ends₀ r out starts ends → Behind r out starts ends
+  unfolding rest transformed
+  inputs-accepted ok same made =
+      let all : verdict rest ≡ verdict (also inputs rest) = accepted-then 7 inputs rest low refl judged ok refl in
+      let k = rw same at made in
+      rw (← all) (record { answer = k .answer; text-is = k .text-is; starts-are = k .starts-are; ends-are = k .ends-are })
 
-  module _ (ok : v ≡ Accepted) where
-    sound : Sound n
-    sound = accepted-sound most n (sym noted ∙ ok) .0
+-- what an accepted note gives
+module _ (most : ℕ) (n : Note) {v : Verdict} (noted : v ≡ verdict (noteFaults most n)) (ok : v ≡ Accepted) where
+  pub note-columns : Columns most (n .starts) (n .ends)
+  note-columns = accepted-columns most n (sym noted ∙ ok)
 
-    pub note-columns : Columns most (n .starts) (n .ends)
-    note-columns = accepted-columns most n (sym noted ∙ ok)
+  pub note-editable : Editable (n .normalized) (n .starts) (n .ends)
+  note-editable =
+      let sound : Sound n = accepted-sound most n (sym noted ∙ ok) .0 in
+      record { formed = normalized-formed n sound; one-start = length-starts n sound; one-end = length-ends n sound }
 
-    pub note-editable : Editable (n .normalized) (n .starts) (n .ends)
-    note-editable = record { formed = normalized-formed n sound; one-start = length-starts n sound; one-end = length-ends n sound }
+-- THE CALL, as the code goes through it: note and script
+module _ (most : ℕ) (n : Note) (l : List ℕ) {v : Verdict} (noted : v ≡ verdict (noteFaults most n)) where
+  pub note-refused : {k : Refusal} → v ≡ Rejected k → Rejected k ≡ verdict (also (noteFaults most n) (scriptFaults l))
+  note-refused e = refused-then 4 (noteFaults most n) (scriptFaults l) refl refl noted e
 
-    module _ {t : Bool} (is : t ≡ whole l) where
-      script-verdict : verdict (scriptFaults l) ≡ cond t Accepted (Rejected BadScript)
-      unfolding verdict
-      script-verdict = rw (← is) (true-or-false t (λ y. rw y) (λ z. rw z))
+  module _ (ok : v ≡ Accepted) {t : Bool} (is : t ≡ whole l) where
+    script-verdict : verdict (scriptFaults l) ≡ cond t Accepted (Rejected BadScript)
+    unfolding verdict
+    script-verdict = rw (← is) (true-or-false t (λ y. rw y) (λ z. rw z))
 
-      pub refused-script : not t ≡ true → Called (Refusing BadScript) out₀ starts₀ ends₀
-      refused-script u = refused-inputs (accepted-then 4 (noteFaults most n) (scriptFaults l) refl refl noted ok (sym (script-verdict ∙ rw (not-true t u))))
+    pub script-refused : not t ≡ true → Rejected BadScript ≡ verdict (also (noteFaults most n) (scriptFaults l))
+    script-refused u = accepted-then 4 (noteFaults most n) (scriptFaults l) refl refl noted ok (sym (script-verdict ∙ rw (not-true t u)))
 
-      pub edit-called : not t ≡ false → {d : Edit} → d ≡ scriptEdit n range l skip → {r : Editing} {out starts ends : List ℕ} → Rewritten (verdict (editFaults most (n .normalized) d (least (length out₀) (length starts₀) (length ends₀)))) (transformed (lent [] (n .normalized) (n .starts) (n .ends) 0) d) out₀ starts₀ ends₀ r out starts ends → Called r out starts ends
-      unfolding rest transformed
-      edit-called u same made =
-          let inputs : Accepted ≡ verdict (also (noteFaults most n) (scriptFaults l)) = accepted-then 4 (noteFaults most n) (scriptFaults l) refl refl noted ok (sym (script-verdict ∙ rw (not-false t u))) in
-          let all : verdict rest ≡ verdict (transformFaults most n range l skip (least (length out₀) (length starts₀) (length ends₀))) = accepted-then 7 (also (noteFaults most n) (scriptFaults l)) rest refl refl inputs refl refl in
-          let k = rw same at made in
-          rw (← all) (record { answer = k .answer; text-is = k .text-is; starts-are = k .starts-are; ends-are = k .ends-are })
+    pub script-accepted : not t ≡ false → Accepted ≡ verdict (also (noteFaults most n) (scriptFaults l))
+    script-accepted u = accepted-then 4 (noteFaults most n) (scriptFaults l) refl refl noted ok (sym (script-verdict ∙ rw (not-false t u)))
 
 -- the edit that a target asks for
 pub edit-found : {x y : Converted} {r : Range} {a b : ℕ} (skip : ℕ) (cs : List Command) → x ≡ y → x ≡ Found r → a ≡ startOf r → b ≡ endOf r → record { from = a; to = b; skip = skip; commands = cs } ≡ editOf y skip cs
@@ -260,9 +264,13 @@ pub edit-none : {x y : Converted} {k : Refusal} (skip : ℕ) (cs : List Command)
 unfolding commandsOf commandsFrom
 edit-none skip cs is none = rw (sym is ∙ none)
 
--- a transcript over the limit
-pub refused-long : (most : ℕ) (n : Note) (range : Range) (l : List ℕ) (skip : ℕ) (out₀ starts₀ ends₀ : List ℕ) → most < length (n .original) → Rewritten (verdict (transformFaults most n range l skip (least (length out₀) (length starts₀) (length ends₀)))) (transformed n (scriptEdit n range l skip)) out₀ starts₀ ends₀ (Refusing TooLong) out₀ starts₀ ends₀
+-- a transcript or a cleaned text over the limit
+pub long-refused : (most : ℕ) (n : Note) → most < length (n .original) → verdict (noteFaults most n) ≡ Rejected TooLong
 unfolding verdict fits
-refused-long most n range l skip out₀ starts₀ ends₀ h =
-    refused-note most n range l skip out₀ starts₀ ends₀ refl
-    (rw (and-false-l _ (leb (n .original-shift + length (n .original)) most) (and-false-l _ (leb (length (n .normalized)) most) (lt-leb (length (n .original)) most h))))
+long-refused most n h =
+    rw (and-false-l _ (leb (n .original-shift + length (n .original)) most) (and-false-l _ (leb (length (n .normalized)) most) (lt-leb (length (n .original)) most h)))
+
+pub long-text-refused : (most : ℕ) (n : Note) → most < length (n .normalized) → verdict (noteFaults most n) ≡ Rejected TooLong
+unfolding verdict fits
+long-text-refused most n h =
+    rw (and-false-l _ (leb (n .original-shift + length (n .original)) most) (and-false-r (leb (length (n .original)) most) _ (lt-leb (length (n .normalized)) most h)))

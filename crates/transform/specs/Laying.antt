@@ -7,7 +7,7 @@ use lib.ListN.{length}
 use Rattle.buffers.specs.Splice.{part, splice, overlay}
 use Rattle.utf8.specs.Formed.{wellFormed}
 use Rattle.script.specs.declared.Command.{Command}
-use Rattle.script.specs.Scripts.{sizeOf, commandsOf}
+use Rattle.script.specs.Scripts.{sizeOf}
 use Rattle.transform.specs.declared.walking.Progress.{Progress}
 use Rattle.transform.specs.Edits.{starves, starved, characters, carried, given, relaid}
 use Rattle.transform.specs.Walking.{Standing, Tabled, sizes}
@@ -53,40 +53,41 @@ pub record CommandLaid (starts ends : List ℕ) (g : Progress) (c : Command) (ou
   pub starts-are : starts₁ ≡ splice starts₀ (g .written) (carried starts (g .position) c)
   pub ends-are : ends₁ ≡ splice ends₀ (g .written) (carried ends (g .position) c)
 
--- a script of which no command starves, and room for what it gives from `at` on
-pub record ScriptRoom (s starts ends : List ℕ) (b p : ℕ) (script table out starts₀ ends₀ : List ℕ) (at : ℕ)
-    : Type 0 where
+-- commands of which none starves, and room for what they give from `at` on
+pub record CommandsRoom (s starts ends : List ℕ) (b p : ℕ) (cs : List Command) (table out starts₀ ends₀ : List ℕ)
+    (at : ℕ) : Type 0 where
   pub one-start : length starts ≡ length s
   pub one-end : length ends ≡ length s
   pub tabled : Tabled s b p table
-  pub feeds : starved s b p (commandsOf script) ≡ false
-  pub text-room : at + sizes (commandsOf script) ≤ length out
-  pub starts-room : at + sizes (commandsOf script) ≤ length starts₀
-  pub ends-room : at + sizes (commandsOf script) ≤ length ends₀
+  pub feeds : starved s b p cs ≡ false
+  pub text-room : at + sizes cs ≤ length out
+  pub starts-room : at + sizes cs ≤ length starts₀
+  pub ends-room : at + sizes cs ≤ length ends₀
 
-pub record ScriptLaid (s starts ends : List ℕ) (b p : ℕ) (script out₀ starts₀ ends₀ : List ℕ) (at r : ℕ)
+pub record CommandsLaid (s starts ends : List ℕ) (b p : ℕ) (cs : List Command) (out₀ starts₀ ends₀ : List ℕ) (at r : ℕ)
     (out starts₁ ends₁ : List ℕ) : Type 0 where
-  pub reached : r ≡ at + sizes (commandsOf script)
-  pub text-is : out ≡ splice out₀ at (given characters s b p (commandsOf script))
-  pub starts-are : starts₁ ≡ splice starts₀ at (given (carried starts) s b p (commandsOf script))
-  pub ends-are : ends₁ ≡ splice ends₀ at (given (carried ends) s b p (commandsOf script))
+  pub reached : r ≡ at + sizes cs
+  pub text-is : out ≡ splice out₀ at (given characters s b p cs)
+  pub starts-are : starts₁ ≡ splice starts₀ at (given (carried starts) s b p cs)
+  pub ends-are : ends₁ ≡ splice ends₀ at (given (carried ends) s b p cs)
 
 -- the range a..b, and room for the whole result
-pub record EditRoom (s starts ends : List ℕ) (a b p : ℕ) (script table out starts₀ ends₀ : List ℕ) : Type 0 where
+pub record EditRoom (s starts ends : List ℕ) (a b p : ℕ) (cs : List Command) (table out starts₀ ends₀ : List ℕ)
+    : Type 0 where
   pub one-start : length starts ≡ length s
   pub one-end : length ends ≡ length s
   pub tabled : Tabled s b p table
   pub forward : a ≤ b
   pub inside : b ≤ length s
-  pub feeds : starved s b p (commandsOf script) ≡ false
-  pub text-room : a + sizes (commandsOf script) + (length s - b) ≤ length out
-  pub starts-room : a + sizes (commandsOf script) + (length s - b) ≤ length starts₀
-  pub ends-room : a + sizes (commandsOf script) + (length s - b) ≤ length ends₀
+  pub feeds : starved s b p cs ≡ false
+  pub text-room : a + sizes cs + (length s - b) ≤ length out
+  pub starts-room : a + sizes cs + (length s - b) ≤ length starts₀
+  pub ends-room : a + sizes cs + (length s - b) ≤ length ends₀
 
 -- the whole result stands in front
-pub record EditLaid (s starts ends : List ℕ) (a b p : ℕ) (script out₀ starts₀ ends₀ : List ℕ) (r : ℕ)
+pub record EditLaid (s starts ends : List ℕ) (a b p : ℕ) (cs : List Command) (out₀ starts₀ ends₀ : List ℕ) (r : ℕ)
     (out starts₁ ends₁ : List ℕ) : Type 0 where
-  pub reached : r ≡ length (relaid characters s a b p (commandsOf script) s)
-  pub text-is : out ≡ overlay (relaid characters s a b p (commandsOf script) s) out₀
-  pub starts-are : starts₁ ≡ overlay (relaid (carried starts) s a b p (commandsOf script) starts) starts₀
-  pub ends-are : ends₁ ≡ overlay (relaid (carried ends) s a b p (commandsOf script) ends) ends₀
+  pub reached : r ≡ length (relaid characters s a b p cs s)
+  pub text-is : out ≡ overlay (relaid characters s a b p cs s) out₀
+  pub starts-are : starts₁ ≡ overlay (relaid (carried starts) s a b p cs starts) starts₀
+  pub ends-are : ends₁ ≡ overlay (relaid (carried ends) s a b p cs ends) ends₀

@@ -16,13 +16,13 @@ ghost use Prim.Native.Nat.{_+_, _≤_};
 ghost use lib.ListN.{length};
 ghost use Rattle.buffers.specs.Splice.{Laid};
 ghost use Rattle.utf8.specs.Scalar.{bytesOf};
-ghost use Rattle.script.specs.Scripts.{sizeOf};
+ghost use Rattle.script.specs.Scripts.{commandsOf, sizeOf};
 ghost use Rattle.transform.specs.Edits.{carries};
 ghost use Rattle.transform.specs.Laying.{CommandLaid, EditLaid, EditRoom, Kept, KeepRoom, Reached, Room};
-ghost use Rattle.transform.specs.Laying.{ScriptLaid, ScriptRoom};
+ghost use Rattle.transform.specs.Laying.{CommandsLaid, CommandsRoom};
 
 // Bytes that stay, with their alignments, laid into the buffers from `at` on.
-fn keep(
+pub fn keep(
     text: &[u8],
     starts: &[Offset],
     ends: &[Offset],
@@ -68,7 +68,7 @@ fn carries(column: &[Offset], position: usize, command: Command) -> Offset
 }
 
 // One command's character, with what it carries.
-fn lay_command(
+pub fn lay_command(
     starts: &[Offset],
     ends: &[Offset],
     progress: Progress,
@@ -103,10 +103,10 @@ fn lay_script(
     out_ends: &mut [Offset],
     at: usize,
 ) -> usize
-    requires { ⌜ ScriptRoom (now text) (now starts) (now ends) to position (now script) (now table)
+    requires { ⌜ CommandsRoom (now text) (now starts) (now ends) to position (commandsOf (now script)) (now table)
         (now out) (now «out_starts») (now «out_ends») at ⌝ }
-    ensures { λ r. ⌜ ScriptLaid (now (text .entry)) (now (starts .entry)) (now (ends .entry)) to position
-        (now (script .entry)) (now (out .entry)) (now («out_starts» .entry)) (now («out_ends» .entry)) at
+    ensures { λ r. ⌜ CommandsLaid (now (text .entry)) (now (starts .entry)) (now (ends .entry)) to position
+        (commandsOf (now (script .entry))) (now (out .entry)) (now («out_starts» .entry)) (now («out_ends» .entry)) at
         r (now (out .exit)) (now («out_starts» .exit)) (now («out_ends» .exit)) ⌝ }
 {
     let mut progress = Progress {
@@ -141,10 +141,10 @@ pub fn lay_edit(
     out_starts: &mut [Offset],
     out_ends: &mut [Offset],
 ) -> usize
-    requires { ⌜ EditRoom (now text) (now starts) (now ends) from to position (now script) (now table)
+    requires { ⌜ EditRoom (now text) (now starts) (now ends) from to position (commandsOf (now script)) (now table)
         (now out) (now «out_starts») (now «out_ends») ⌝ }
     ensures { λ r. ⌜ EditLaid (now (text .entry)) (now (starts .entry)) (now (ends .entry)) from to position
-        (now (script .entry)) (now (out .entry)) (now («out_starts» .entry)) (now («out_ends» .entry))
+        (commandsOf (now (script .entry))) (now (out .entry)) (now («out_starts» .entry)) (now («out_ends» .entry))
         r (now (out .exit)) (now («out_starts» .exit)) (now («out_ends» .exit)) ⌝ }
 {
     keep(text, starts, ends, 0, from, out, out_starts, out_ends, 0);

@@ -41,7 +41,7 @@ pub enum Editing {
 }
 
 // Whether a range lies in a text, from a boundary to a boundary.
-fn placed(text: &[u8], from: usize, to: usize) -> bool
+pub fn placed(text: &[u8], from: usize, to: usize) -> bool
     ensures { λ r. ⌜ r ≡ placed (now (text .entry)) from to ⌝ }
 {
     if to < from {
@@ -54,7 +54,7 @@ fn placed(text: &[u8], from: usize, to: usize) -> bool
 }
 
 // The cleaned range that a range names; an inner function, for the columns of an accepted note.
-fn target(starts: &[Offset], ends: &[Offset], range: Range) -> Converted
+pub fn target(starts: &[Offset], ends: &[Offset], range: Range) -> Converted
     requires { ⌜ Columns limit (now starts) (now ends) ⌝ }
     ensures { λ r. ⌜ r ≡ target (now (starts .entry)) (now (ends .entry)) range ⌝ }
 {

@@ -4,7 +4,7 @@ use lib.ListN.{length}
 use native.Mathlib.Omega.{arith}
 use borrow.Author.Needs.{needs}
 use Rattle.script.proofs.Scripts.{entry-step}
-use Rattle.transform.proofs.Measured.{Measuring, none-measured, starves-here, counting, one-measured, broken-measured, all-measured}
+use Rattle.transform.proofs.Measured.{Measuring, none-measured, starves-there, counting, one-measured, broken-measured, all-measured}
 use Rattle.transform.proofs.walking.measure.Statement.{statement}
 use Rattle.transform.proofs.walking.measure.Tie as tie
 
@@ -18,7 +18,7 @@ returns : tie.Need-returns Inv-loop μ-loop
 returns c =
     let there = c .before .before .before in
     let read = there .before .before in
-    starves-here (read .before .before .loop .inv) (read .entry-at .ensures) (there .command .given .1) (c .before .starves .ensures) (c .if1 .taken)
+    starves-there (read .before .before .loop .inv) (read .entry-at .ensures) (there .command .given .1) (c .before .starves .ensures) (c .if1 .taken)
 
 step-requires : tie.Need-step-requires Inv-loop μ-loop
 step-requires c κs =
