@@ -121,7 +121,7 @@ fn publish(original: &[u8], count: usize, alignments: bool)
     let mut starts = column_buffer();
     let mut ends = column_buffer();
     if let Verdict::Refused(k) = from_text(original, &mut starts, &mut ends) {
-        refuse_note(k, original);
+        refuse_note(k);
         return;
     }
     copy_bytes(original, &mut text, 0);

@@ -82,9 +82,9 @@ fn say_refused(k: Refusal) {
 }
 
 // Why the note is not taken, and what to do: it is `IllFormed` or `TooLong`.
-pub fn refuse_note(k: Refusal, note: &[u8]) {
+pub fn refuse_note(k: Refusal) {
     say_refused(k);
-    if !well_formed(note) {
+    if let Refusal::IllFormed = k {
         say(b"the note is not UTF-8; save it as UTF-8\n");
         return;
     }
