@@ -10,7 +10,7 @@ use lib.ListN.{length}
 use borrow.Author.Tests.{lt-leb}
 use Rattle.buffers.proofs.Cases.{le-or-lt, true-or-false}
 use Rattle.pattern.specs.declared.Place.{Place}
-use Rattle.find.specs.Matching.{firstFrom, First, placeFrom, between, matchesFrom, foundPlaces}
+use Rattle.find.specs.Matching.{firstFrom, FirstMatch, placeFrom, between, matchesFrom, foundPlaces}
 use Rattle.find.specs.Searching.{firstMatch}
 use Rattle.find.proofs.FirstFrom.{first-of-none}
 use Rattle.find.proofs.MatchesFrom.{Searched, first-there, match-inside, searched-more, matches-more, matches-end}
@@ -117,7 +117,7 @@ module _ (text literal : List ℕ) where
   rest-whole : (n at p : ℕ) → length text - at < n → Searched text literal at p → Whole (matchesFrom text literal at) (length text - at)
   rest-whole zero at p h s = absurd (omega arith)
   rest-whole (suc n) at p h s =
-      let f : First text literal at p = first-there s in
+      let f : FirstMatch text literal at p = first-there s in
       le-or-lt (length text) p
       (λ k. let t = tally-end s k in rw (t .0, t .1) (omega (arith, f .most, k)))
       (λ k.

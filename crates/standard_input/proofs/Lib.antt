@@ -1,4 +1,2 @@
--- Laws of what is read, shown and held.
+-- Laws of what is read.
 pub mod Reading
-pub mod Seen
-pub mod Holding
