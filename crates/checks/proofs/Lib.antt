@@ -1,4 +1,5 @@
 -- Laws of the working forms.
 pub mod Monotone
+pub mod Spanning
 pub mod Unedited
 pub mod Lengths

@@ -19,5 +19,6 @@ pub record Judged (most : ℕ) (original normalized starts ends : List ℕ) (sam
   pub normalized-short : length normalized ≤ most
   pub starts-paired : length starts ≡ length normalized
   pub ends-paired : length ends ≡ length normalized
+  pub original-formed : wellFormed original ≡ true
   pub formed : wellFormed normalized ≡ true
   pub alike : same ≡ true → original ≡ normalized

@@ -2,3 +2,4 @@
 pub mod Lengths
 pub mod Monotone
 pub mod Unedited
+pub mod Spanning

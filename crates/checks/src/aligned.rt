@@ -1,4 +1,5 @@
 // Whether a note's alignments are sound, for a note whose texts and numbers of alignments were judged before.
+use crate::boundaries::uncut_all;
 use crate::fresh::unedited;
 use buffers::Offset;
 use utf8::continues;
@@ -7,7 +8,7 @@ ghost use mathlib.Core.Path.{_≡_};
 ghost use lib.ListN.{length};
 ghost use Rattle.note.specs.Notes.{aligned, lent, limit};
 ghost use Rattle.checks.specs.Lengths.{Judged};
-ghost use Rattle.checks.specs.Monotone.{follows, monotone, uncut, uncutBelow};
+ghost use Rattle.checks.specs.Monotone.{follows, monotone};
 
 // Whether the alignment (s1, e1) at the byte `b` can follow (s0, e0). It has no branch, so that a loop over it is
 // vectorised.
@@ -46,31 +47,6 @@ fn monotone(text: &[u8], starts: &[Offset], ends: &[Offset], size: Offset) -> bo
     ok
 }
 
-// Whether no character of the text is cut at `p`.
-fn uncut(original: &[u8], p: Offset) -> bool
-    ensures { λ r. ⌜ r ≡ uncut (now (original .entry)) p ⌝ }
-{
-    let i = p as usize;
-    if i < original.len() {
-        return !continues(original[i]);
-    }
-    true
-}
-
-fn all_uncut(original: &[u8], starts: &[Offset], ends: &[Offset]) -> bool
-    requires { ⌜ length (now ends) ≡ length (now starts) ⌝ }
-    ensures { λ r. ⌜ r ≡ uncutBelow (now (original .entry)) (now (starts .entry)) (now (ends .entry))
-        (length (now (starts .entry))) ⌝ }
-{
-    let mut ok = true;
-    let mut i = 0;
-    while i < starts.len() {
-        ok = ok & (uncut(original, starts[i]) & uncut(original, ends[i]));
-        i += 1;
-    }
-    ok
-}
-
 // Whether the alignments are sound. An inner call: limits, numbers of alignments and texts were judged before.
 pub fn aligned(
     original: &[u8],
@@ -94,5 +70,5 @@ pub fn aligned(
     if is_ascii(original) {
         return true;
     }
-    all_uncut(original, starts, ends)
+    uncut_all(original, normalized, starts, ends)
 }

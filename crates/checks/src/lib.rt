@@ -1,5 +1,6 @@
 // What every call on a lent note, a lent text or lent buffers judges first (RULES 2).
 pub mod aligned;
+pub mod boundaries;
 pub mod fresh;
 
 use aligned::aligned;

@@ -1,6 +1,6 @@
 -- Each way out is the first condition met.
 use mathlib.Core.Path.{sym, _∙_}
-use mathlib.Mathlib.Data.Bool.Basic.{and-elim-right}
+use mathlib.Mathlib.Data.Bool.Basic.{and-elim-left, and-elim-right}
 use borrow.Author.Needs.{needs}
 use borrow.Author.Tests.{not-false}
 use Rattle.buffers.proofs.Same.{same-equal}
@@ -21,6 +21,7 @@ aligned-requires c κs =
       normalized-short = fit-normalized _ _ _ _ fit;
       starts-paired = pair-starts _ _ _ pair;
       ends-paired = pair-ends _ _ _ pair;
+      original-formed = and-elim-left (wellFormed _) _ (sym (texts .texts-formed .ensures) ∙ not-false _ (c .if3 .left));
       formed = and-elim-right (wellFormed _) _ (sym (texts .texts-formed .ensures) ∙ not-false _ (c .if3 .left));
       alike = λ t. same-equal _ _ (sym (texts .before .same-bytes .ensures) ∙ t);
     }

@@ -1,6 +1,7 @@
 -- An untouched note is aligned; of another, the alignments one beside the other, then the transcript's boundaries.
 use mathlib.Core.Path.{sym, _∙_}
 use borrow.Author.Needs.{needs}
+use borrow.Author.Tests.{not-false}
 use Rattle.checks.proofs.Monotone.{not-monotone, monotone-ascii, monotone-uncut}
 use Rattle.checks.proofs.Unedited.{unedited-aligned}
 use Rattle.checks.proofs.aligned.aligned.Statement.{statement}
@@ -14,7 +15,13 @@ returns c =
 returns-4 : tie.Need-returns-4
 returns-4 c =
     let tested = c .before .before .before in
-    monotone-uncut _ _ _ _ (tested .before .monotone .ensures) (tested .if3 .left) (c .all-uncut .ensures) (tested .before .before .before .before .before .before .before .pre .starts-paired)
+    monotone-uncut _ _ _ _ (tested .before .monotone .ensures) (tested .if3 .left) (c .uncut-all .ensures) (tested .before .before .before .before .before .before .before .pre .starts-paired)
+
+uncut-all-requires : tie.Need-uncut-all-requires
+uncut-all-requires c κs =
+    let tested = c .before .before in
+    let known = tested .before .before .before .before .before .before .before .pre in
+    ((known .original-formed, known .starts-paired), (known .ends-paired, sym (tested .before .monotone .ensures) ∙ not-false _ (tested .if3 .left)))
 
 pub aligned-spec : {M : Type 1} → statement M
 aligned-spec =
@@ -27,5 +34,5 @@ aligned-spec =
     (λ c. not-monotone _ _ _ _ (c .before .monotone .ensures) (c .if3 .taken))
     (λ c κs. search needs)
     (λ c. monotone-ascii _ _ _ _ (c .before .before .before .monotone .ensures) (c .before .before .if3 .left) (sym (c .before .is-ascii .ensures) ∙ c .if4 .taken))
-    (λ c κs. search needs)
+    uncut-all-requires
     returns-4)

@@ -5,8 +5,8 @@ use lib.ListN.{length}
 use Rattle.checks.specs.Monotone.{uncutBelow}
 use Rattle.checks.proofs.Monotone.{uncut-none, uncut-more, at-end}
 use native.Mathlib.Omega.{arith}
-use Rattle.checks.proofs.aligned.all_uncut.Statement.{statement}
-use Rattle.checks.proofs.aligned.all_uncut.Tie as tie
+use Rattle.checks.proofs.boundaries.all_uncut.Statement.{statement}
+use Rattle.checks.proofs.boundaries.all_uncut.Tie as tie
 
 abbrev Inv-loop : tie.InvT-loop
 Inv-loop original starts ends ok₀ i₀ ok i = (i ≤ length starts) × (ok ≡ uncutBelow original starts ends i)

@@ -1,8 +1,8 @@
 -- Inside the text the byte tells, past it nothing is cut.
 use Rattle.checks.proofs.Monotone.{uncut-read, uncut-past}
 use borrow.Author.Needs.{needs}
-use Rattle.checks.proofs.aligned.uncut.Statement.{statement}
-use Rattle.checks.proofs.aligned.uncut.Tie as tie
+use Rattle.checks.proofs.boundaries.uncut.Statement.{statement}
+use Rattle.checks.proofs.boundaries.uncut.Tie as tie
 
 returns : tie.Need-returns
 returns c = uncut-read _ _ _ (c .continues .ensures)
