@@ -40,7 +40,8 @@
  *                        original_len; no start or end is inside a character of the transcript; all bytes of one
  *                        character of the cleaned text have the same alignment; starts[i] <= starts[i + 1] and
  *                        ends[i] <= ends[i + 1]
- *      5  off place      either end of a range is greater than the text's length or within a character, or start > end
+ *      5  off place      either end of a range is greater than the text's length or within a character;
+ *                        zulmyren_letter_count gives it for start > end too
  *      8  broken list    a match list (below) does not cover the cleaned text
  *      9  no room        a buffer is too small for the result, or the resulting text has more than 65,535 bytes
  *     10  nothing there  a range or a pair has no answer; each call says when
@@ -167,6 +168,38 @@ zulmyren_offsets zulmyren_get_range_original(
 uint32_t zulmyren_part_verdict(
     const uint8_t *original, size_t original_len, const uint8_t *normalized, size_t normalized_len,
     bool of_original, uint32_t start, uint32_t end);
+
+/* ---- Slices ---- */
+
+/* Which bytes of the two texts a slice has, and its shift; or a refusal and 0s. */
+typedef struct {
+    uint32_t refusal;
+    uint32_t original_start;
+    uint32_t original_end;
+    uint32_t normalized_start;
+    uint32_t normalized_end;
+    uint32_t original_shift;
+} zulmyren_sliced;
+
+/* Cuts a note out of a note (Rust: slice). start..end is a range of the transcript or of the cleaned text, as
+ * of_original says; in the other text it is what zulmyren_convert_offsets answers. The slice is a note of these parts:
+ * - its transcript is original_start..original_end of original, its cleaned text normalized_start..normalized_end of
+ *   normalized. The call writes no text: these bytes stand in the note;
+ * - its alignments are those of its cleaned bytes, each number less original_start. The first normalized_end -
+ *   normalized_start elements of out_starts and out_ends become these;
+ * - its shift is the note's plus original_start.
+ * An empty range gives an empty slice, at the same number in both texts: this number may be greater than a text's
+ * length, and there is no byte to take. So can the shift of an empty slice be more than 65,535, which every call that
+ * is lent this slice as a note refuses with 2. A slice can have bytes of the transcript and none of the cleaned text.
+ * Refusals: 2, 3, 1, 4, 5 (either end is greater than the length of the text that of_original names, or within a
+ * character of it), 10 (start > end; zulmyren_convert_offsets says 10; an empty range of the transcript with start >
+ * normalized_len), 9.
+ * Room, always enough: normalized_len elements in each of the two. */
+zulmyren_sliced zulmyren_slice(
+    const uint8_t *original, size_t original_len, const uint8_t *normalized, size_t normalized_len,
+    const uint16_t *starts, size_t starts_len, const uint16_t *ends, size_t ends_len, uint32_t original_shift,
+    bool of_original, uint32_t start, uint32_t end,
+    uint16_t *out_starts, size_t out_starts_len, uint16_t *out_ends, size_t out_ends_len);
 
 /* ---- Matches. A match list is bytes, five for each place: 11 (unmatched) or 12 (matched); then the place's start and
  * its end in the cleaned text, two bytes each, the lower byte first. It covers a text when the first place starts at

@@ -15,6 +15,10 @@ use Rattle.convert.specs.declared.Converted.the-variants.{Found, Refused as Not
 use Rattle.convert.specs.Converting.{rangeOf, startOf, endOf}
 use Rattle.get_range.specs.Reading.{partFaults}
 use Rattle.convert_list.specs.ConvertList.{ConvertedList}
+use Rattle.slice.specs.declared.NoteSlice.{NoteSlice}
+use Rattle.slice.specs.declared.Sliced.{Sliced}
+use Rattle.slice.specs.declared.Sliced.the-variants.{Cut, Refused as Uncut}
+use Rattle.slice.specs.Slicing.{Slicing}
 use Rattle.replace.specs.declared.Publication.{Publication}
 use Rattle.replace.specs.declared.Publication.the-variants.{Published, Refused}
 use Rattle.replace.specs.Replacing.{Replacing}
@@ -22,7 +26,8 @@ use Rattle.replace.proofs.Faults.{published-short}
 use Rattle.redact.specs.Redacting.{Redacted}
 use Rattle.redact.proofs.Redacting.{published-call}
 use Rattle.zulmyren.specs.declared.answers.Offsets.{Offsets}
-use Rattle.zulmyren.specs.Calls.{Told, offsetsOf, sideOf, PublishedShort}
+use Rattle.zulmyren.specs.declared.answers.Slice.{Slice}
+use Rattle.zulmyren.specs.Calls.{Told, offsetsOf, sliceNumbers, sideOf, PublishedShort}
 
 -- a range's call, through the side, the range and the answer's numbers
 pub range-call : (f : Range → Converted) (s : OffsetReferential) (a e : ℕ) {side : OffsetReferential} {range : Range} {answer : Converted} {r : Offsets} → side ≡ s → range ≡ rangeOf side a e → answer ≡ f range → r ≡ offsetsOf answer → r ≡ offsetsOf (f (rangeOf s a e))
@@ -56,3 +61,14 @@ published-within is short = rw is at short
 -- a list's call, through the side
 pub list-call : {n : Note} (b : Bool) {side : OffsetReferential} {from to numbers₀ starts₀ ends₀ : List ℕ} {v : Verdict} {numbers starts ends : List ℕ} {r : ℕ} → side ≡ sideOf b → ConvertedList limit n side from to numbers₀ starts₀ ends₀ v numbers starts ends → r ≡ answerOf v → Told answerOf (λ w. ConvertedList limit n (sideOf b) from to numbers₀ starts₀ ends₀ w numbers starts ends) r
 list-call b {v = v} p call e = record { answer = v; told = e; met = rw p at call }
+
+-- the numbers of a slice, and of none
+pub slice-cut : {v : Sliced} {s : NoteSlice} → v ≡ Cut s → sliceNumbers (Cut s) ≡ sliceNumbers v
+slice-cut e = ap sliceNumbers (sym e)
+
+pub slice-refused : {v : Sliced} {k : Refusal} {r : ℕ} → v ≡ Uncut k → r ≡ numberOf k → record { refusal = r; «original_start» = 0; «original_end» = 0; «normalized_start» = 0; «normalized_end» = 0; «original_shift» = 0 } ≡ sliceNumbers v
+slice-refused e q = rw (e, q)
+
+-- a slice's call, through the side and the range
+pub slice-call : {n : Note} (b : Bool) (a e : ℕ) {side : OffsetReferential} {range : Range} {starts₀ ends₀ : List ℕ} {v : Sliced} {starts ends : List ℕ} {r : Slice} → side ≡ sideOf b → range ≡ rangeOf side a e → Slicing limit n range starts₀ ends₀ v starts ends → r ≡ sliceNumbers v → Told sliceNumbers (λ w. Slicing limit n (rangeOf (sideOf b) a e) starts₀ ends₀ w starts ends) r
+slice-call b a e {v = v} p q call t = record { answer = v; told = t; met = rw (q, p) at call }

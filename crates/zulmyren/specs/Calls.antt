@@ -18,10 +18,14 @@ use Rattle.replace.specs.declared.Publication.{Publication}
 use Rattle.replace.specs.declared.Publication.the-variants.{Published, Refused as Unpublished}
 use Rattle.indistinguishable.specs.declared.Comparison.{Comparison as Answer}
 use Rattle.indistinguishable.specs.declared.Comparison.the-variants.{Compared, Refused as Uncompared}
+use Rattle.slice.specs.declared.Sliced.{Sliced}
+use Rattle.slice.specs.declared.Sliced.the-variants.{Cut, Refused as Uncut}
+use Rattle.slice.specs.Slicing.{originalStart, originalEnd, normalizedStart, normalizedEnd}
 use Rattle.zulmyren.specs.declared.answers.Count.{Count}
 use Rattle.zulmyren.specs.declared.answers.Offsets.{Offsets}
 use Rattle.zulmyren.specs.declared.answers.Listed.{Listed}
 use Rattle.zulmyren.specs.declared.answers.Comparison.{Comparison}
+use Rattle.zulmyren.specs.declared.answers.Slice.{Slice}
 
 -- r tells, in numbers, an answer with which the call below is met
 pub record Told {A N : Type 0} (tell : A → N) (call : A → Type 0) (r : N) : Type 0 where
@@ -51,6 +55,26 @@ listedOf (Unlisted k) = record { refusal = numberOf k; len = 0 }
 abbrev pub comparedOf : Answer → Comparison
 comparedOf (Compared alike) = record { refusal = 0; alike = alike }
 comparedOf (Uncompared k) = record { refusal = numberOf k; alike = false }
+
+abbrev pub sliceNumbers : Sliced → Slice
+sliceNumbers (Cut s) =
+    record {
+      refusal = 0;
+      «original_start» = originalStart s;
+      «original_end» = originalEnd s;
+      «normalized_start» = normalizedStart s;
+      «normalized_end» = normalizedEnd s;
+      «original_shift» = s .«original_shift»;
+    }
+sliceNumbers (Uncut k) =
+    record {
+      refusal = numberOf k;
+      «original_start» = 0;
+      «original_end» = 0;
+      «normalized_start» = 0;
+      «normalized_end» = 0;
+      «original_shift» = 0;
+    }
 
 -- the text that a range is in
 abbrev pub sideOf : Bool → OffsetReferential

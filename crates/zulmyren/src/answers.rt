@@ -7,9 +7,10 @@ use convert::start_of;
 use find::Matches;
 use note::answers::number;
 use replace::Publication;
+use slice::Sliced;
 ghost use mathlib.Core.Path.{_≡_};
 ghost use Rattle.zulmyren.specs.Calls.{PublishedShort, charsOf, comparedOf, lettersOf, listedOf};
-ghost use Rattle.zulmyren.specs.Calls.{offsetsOf, publishedOf};
+ghost use Rattle.zulmyren.specs.Calls.{offsetsOf, publishedOf, sliceNumbers};
 
 // A count, 0 where the call is refused.
 #[repr(C)]
@@ -38,6 +39,17 @@ pub struct Listed {
 pub struct Comparison {
     pub refusal: u32,
     pub alike: bool,
+}
+
+// The ranges of a slice in both texts, and its shift; 0 each where the call is refused.
+#[repr(C)]
+pub struct Slice {
+    pub refusal: u32,
+    pub original_start: u32,
+    pub original_end: u32,
+    pub normalized_start: u32,
+    pub normalized_end: u32,
+    pub original_shift: u32,
 }
 
 pub fn letters_told(answer: LetterCount) -> Count
@@ -123,6 +135,35 @@ pub fn comparison_told(answer: indistinguishable::Comparison) -> Comparison
         indistinguishable::Comparison::Refused(k) => Comparison {
             refusal: number(k),
             alike: false,
+        },
+    }
+}
+
+pub fn slice_told(answer: Sliced) -> Slice
+    ensures { λ r. ⌜ r ≡ sliceNumbers answer ⌝ }
+{
+    match answer {
+        Sliced::Cut(s) => {
+            let original_start = s.original_start;
+            let original_end = s.original_end;
+            let normalized_start = s.normalized_start;
+            let normalized_end = s.normalized_end;
+            Slice {
+                refusal: 0,
+                original_start: original_start.0,
+                original_end: original_end.0,
+                normalized_start: normalized_start.0,
+                normalized_end: normalized_end.0,
+                original_shift: s.original_shift,
+            }
+        }
+        Sliced::Refused(k) => Slice {
+            refusal: number(k),
+            original_start: 0,
+            original_end: 0,
+            normalized_start: 0,
+            normalized_end: 0,
+            original_shift: 0,
         },
     }
 }

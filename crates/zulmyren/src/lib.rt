@@ -3,4 +3,5 @@ pub mod answers;
 pub mod matches;
 pub mod notes;
 pub mod ranges;
+pub mod slices;
 pub mod texts;
