@@ -32,7 +32,7 @@ use Rattle.split.proofs.Joined.{start-empty, start-read, end-empty, end
 
 -- the slice of cleaned bytes a..b
 module _ (n : Note) (sound : Sound n) (a b : ℕ) (i : Inside (length (n .normalized)) a b) where
-  in-original : asOriginal (n .starts) (n .ends) (inNormalized a b) ≡ Found (inOriginal (fromStart (n .starts) a b) (toEnd (n .ends) a b))
+  pub in-original : asOriginal (n .starts) (n .ends) (inNormalized a b) ≡ Found (inOriginal (fromStart (n .starts) a b) (toEnd (n .ends) a b))
   in-original =
       let past : b ≤ length (n .ends) = omega (arith, i .most, length-ends n sound) in
       le-or-lt b a
@@ -67,10 +67,10 @@ module _ (n : Note) (sound : Sound n) (a b : ℕ) (i : Inside (length (n .normal
   ends-above k from to = omega (arith, starts-above k from to, inside-at n sound k (omega (arith, i .most)) .0)
 
 -- pairs of a list of pieces
-spans-first : {size a b : ℕ} {from to : List ℕ} → Spans size (a ∷ from) (b ∷ to) → Inside size a b
+pub spans-first : {size a b : ℕ} {from to : List ℕ} → Spans size (a ∷ from) (b ∷ to) → Inside size a b
 spans-first s = s .each 0 (omega arith)
 
-spans-rest : {size a b : ℕ} {from to : List ℕ} → Spans size (a ∷ from) (b ∷ to) → Spans size from to
+pub spans-rest : {size a b : ℕ} {from to : List ℕ} → Spans size (a ∷ from) (b ∷ to) → Spans size from to
 spans-rest s = record { paired = omega (arith, s .paired); each = λ k h. s .each (suc k) (omega arith) }
 
 spans-cons : {size a b : ℕ} {from to : List ℕ} → Inside size a b → Spans size from to → Spans size (a ∷ from) (b ∷ to)

@@ -254,9 +254,12 @@ module _ (most : ℕ) (n : Note) (list : List ℕ) (b : SplitDelimiterBehavior) 
         }
 
 -- THE CALL
-cut-told : (v : Verdict) (c : Columns) {x y : ℕ} → Cut x y ≡ cutUnlessRefused v c → v ≡ Accepted
+pub cut-told : (v : Verdict) (c : Columns) {x y : ℕ} → Cut x y ≡ cutUnlessRefused v c → v ≡ Accepted
 cut-told Accepted c e = refl
 cut-told (Rejected k) c e = let z : _≡_ {A = ℕ} 0 1 = cc in absurd (omega arith)
+
+pub count-told : {v : Verdict} (c : Columns) {x y : ℕ} → v ≡ Accepted → Cut x y ≡ cutUnlessRefused v c → x ≡ length (c .starts)
+count-told c {x = x} {y = y} a e = let z : Cut x y ≡ Cut (length (c .starts)) (length (c .alignment-starts)) = rw a at e in cc
 
 refused-told : (v : Verdict) (c : Columns) {k : Refusal} → Refused k ≡ cutUnlessRefused v c → v ≡ Rejected k
 refused-told Accepted c e = let z : _≡_ {A = ℕ} 0 1 = cc in absurd (omega arith)
