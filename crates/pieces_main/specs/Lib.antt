@@ -1,0 +1,2 @@
+-- What the program's reader is held to.
+pub mod Reading

@@ -1,0 +1,3 @@
+-- Laws of what is shown and held.
+pub mod Seen
+pub mod Holding
