@@ -36,9 +36,10 @@ pub fn measure(word: String) -> ExitCode {
     replace::bench(&mut bench);
     slice::bench(&mut bench);
     println!(
-        "\n| Growth, mixed text: µs at {} bytes | | | | | of linear, at most {LINEAR} |\n|---|--:|--:|--:|--:|--:|",
-        layouts::SIZES.map(|size| size.to_string()).join(", ")
+        "\n| Mixed text: µs at so many bytes | {} | Of linear, ≤ {LINEAR} |",
+        layouts::SIZES.map(|size| size.to_string()).join(" | ")
     );
+    println!("|---|--:|--:|--:|--:|--:|");
     bench.growth.iter().for_each(|line| println!("{line}"));
     println!();
     bench.report.finish()
