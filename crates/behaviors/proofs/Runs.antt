@@ -173,7 +173,7 @@ map-append : (f : Place → ℕ) (xs ys : List Place) → map f (xs ++ ys) ≡ m
 map-append f [] ys = refl
 map-append f (x ∷ xs) ys = ap (_∷_ (f x)) (map-append f xs ys)
 
-store-one : (d : List ℕ) (at x : ℕ) → at < length d → set d at x ≡ splice d at (x ∷ [])
+pub store-one : (d : List ℕ) (at x : ℕ) → at < length d → set d at x ≡ splice d at (x ∷ [])
 store-one d at x h =
     let z : at + 0 ≡ at = omega arith in
     (rw (splice-nil d at, z) at (store-after d [] at x (omega arith)))

@@ -1,5 +1,7 @@
 // The behaviours of splitting (RULES 11; Rust: `SplitDelimiterBehavior`): which stretches of the cleaned text a match
 // list cuts out, measured and written. The two loops are inner functions: the list was judged before.
+pub mod wide;
+
 use buffers::Offset;
 use pattern::Entry;
 use pattern::Place;

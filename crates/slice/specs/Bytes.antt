@@ -43,8 +43,8 @@ SliceBytes =
     × (startOf range ≡ endOf range → Has (sliced n range) (startOf range) (endOf range) (startOf range) (endOf range))
     × (startOf range < endOf range → HasBytes n range (sliced n range))
 
--- what the note m has at a byte of either text, the note n has at the byte that is a or c further on; and what m says of
--- its transcript, n says of its own
+-- what the note m has at a byte of either text, the note n has at the byte that is a or c further on; and what m says
+-- of its transcript, n says of its own
 pub record Stands (m n : Note) (a c : ℕ) : Type 0 where
   pub original-byte : (i : ℕ) → i < length (m .original) → getD (m .original) i 0 ≡ getD (n .original) (a + i) 0
   pub normalized-byte : (i : ℕ) → i < length (m .normalized) → getD (m .normalized) i 0 ≡ getD (n .normalized) (c + i) 0

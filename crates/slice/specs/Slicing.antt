@@ -1,4 +1,5 @@
--- RULES 6 (Rust: `validate_range`, `slice`): the part of a note that a range of either text names, as a note of its own.
+-- RULES 6 (Rust: `validate_range`, `slice`): the part of a note that a range of either text names, as a note of its
+-- own.
 use Prim.Native.Nat.{ℕ, _+_, _-_, min}
 use mathlib.Core.Path.{_≡_}
 use mathlib.Core.Bool.{Bool, _&&_, _||_, not}

@@ -124,8 +124,8 @@ pub fn write_lowered(column: &[Offset], base: Offset, out: &mut [Offset], at: us
     }
 }
 
-// The part of a note that a range names, as a note of its own: it answers the slice and writes its alignments. Refusals:
-// those of a note, then `NotBoundary`, `Missing`, `NoRoom`.
+// The part of a note that a range names, as a note of its own: it answers the slice and writes its alignments.
+// Refusals: those of a note, then `NotBoundary`, `Missing`, `NoRoom`.
 pub fn slice(
     original: &[u8],
     normalized: &[u8],

@@ -1,0 +1,159 @@
+-- Laws of `cut`: a piece's slice by its two cleaned numbers, and the six columns of the pieces by theirs.
+use Prim.Native.Nat.{ℕ, zero, suc, _+_, _-_, _≤_, _<_}
+use mathlib.Core.Path.{_≡_, _∙_, ap, refl, sym}
+use mathlib.Core.Bool.{true, false}
+use mathlib.Core.List.{List, [], _∷_, _++_, map, flatMap}
+use native.Mathlib.Omega.{arith}
+use lib.ListN.{length, getD, length-append, length-map}
+use Rattle.buffers.specs.Splice.{part}
+use Rattle.buffers.proofs.Cases.{true-or-false, le-or-lt}
+use Rattle.buffers.proofs.Splice.{length-part}
+use Rattle.note.specs.Notes.{Note, startAt, endAt, Sound}
+use Rattle.note.proofs.Sound.{length-starts, length-ends, inside-at}
+use Rattle.convert.specs.declared.Converted.the-variants.{Found}
+use Rattle.convert.specs.Converting.{inOriginal, inNormalized}
+use Rattle.convert.proofs.Conversions.{expanded-inside}
+use Rattle.get_range.specs.Reading.{asOriginal, asNormalized}
+use Rattle.pattern.specs.declared.Place.{Place}
+use Rattle.pattern.specs.Places.{coversFrom}
+use Rattle.pattern.proofs.Places.{Span, covers-span, covers-rest}
+use Rattle.slice.specs.Slicing.{sliceOf, sliced, lowered, slicedColumn}
+use Rattle.slice.proofs.Lowered.{length-lowered}
+use Rattle.slice.proofs.Cutting.{original-empty, original-found, normalized-own, alignments-on}
+use Rattle.behaviors.specs.declared.SplitDelimiterBehavior.{SplitDelimiterBehavior}
+use Rattle.behaviors.specs.declared.EmptyPieces.{EmptyPieces}
+use Rattle.behaviors.specs.Splits.{isPiece, remaining, splits, pieces}
+use Rattle.behaviors.specs.Joining.{startsOf, endsOf}
+use Rattle.behaviors.specs.Runs.{bytesOf}
+use Rattle.behaviors.proofs.Gathered.{splits-cover}
+use Rattle.split.specs.Splitting.{pieceOf, transcriptLength, cut, cutBy}
+use Rattle.split.specs.Writing.{fromStart, toEnd, shiftOf, lengthOf, columnOf, joined, Inside, Spans}
+use Rattle.split.proofs.Joined.{start-empty, start-read, end-empty, end-read}
+
+-- the slice of cleaned bytes a..b
+module _ (n : Note) (sound : Sound n) (a b : ℕ) (i : Inside (length (n .normalized)) a b) where
+  in-original : asOriginal (n .starts) (n .ends) (inNormalized a b) ≡ Found (inOriginal (fromStart (n .starts) a b) (toEnd (n .ends) a b))
+  in-original =
+      let past : b ≤ length (n .ends) = omega (arith, i .most, length-ends n sound) in
+      le-or-lt b a
+      (λ empty.
+      let same : a ≡ b = omega (arith, i .forward) in
+      original-empty (n .starts) (n .ends) a b same ∙ (λ j. Found (inOriginal (start-empty (n .starts) a b same j) (end-empty (n .ends) a b same j))))
+      (λ some.
+      let other : a ≡ b → ⊥ = λ e. omega arith in
+      original-found (n .starts) (n .ends) a b some past ∙ sym (expanded-inside (n .starts) (n .ends) a b past)
+      ∙ (λ j. Found (inOriginal (start-read (n .starts) a b other j) (end-read (n .ends) a b other j))))
+
+  pub sliced-as : sliced n (inNormalized a b) ≡ sliceOf (Found (inOriginal (fromStart (n .starts) a b) (toEnd (n .ends) a b))) (Found (inNormalized a b)) (n .original-shift)
+  unfolding sliced
+  sliced-as = rw (in-original, normalized-own (n .starts) (n .ends) a b)
+
+  -- its transcript starts before it ends, and at or before each of its alignments
+  pub in-order : fromStart (n .starts) a b ≤ toEnd (n .ends) a b
+  in-order =
+      le-or-lt b a
+      (λ empty.
+      let same : a ≡ b = omega (arith, i .forward) in
+      omega (arith, start-empty (n .starts) a b same, end-empty (n .ends) a b same))
+      (λ some.
+      let other : a ≡ b → ⊥ = λ e. omega arith in
+      omega (arith, start-read (n .starts) a b other, end-read (n .ends) a b other, i .most, inside-at n sound a (omega (arith, i .most)) .0, alignments-on n sound a (b - 1) (omega arith) (omega (arith, i .most)) .1))
+
+  pub starts-above : (k : ℕ) → a ≤ k → k < b → fromStart (n .starts) a b ≤ startAt n k
+  starts-above k from to =
+      omega (arith, start-read (n .starts) a b (λ e. omega arith), alignments-on n sound a k from (omega (arith, i .most)) .0)
+
+  pub ends-above : (k : ℕ) → a ≤ k → k < b → fromStart (n .starts) a b ≤ endAt n k
+  ends-above k from to = omega (arith, starts-above k from to, inside-at n sound k (omega (arith, i .most)) .0)
+
+-- pairs of a list of pieces
+spans-first : {size a b : ℕ} {from to : List ℕ} → Spans size (a ∷ from) (b ∷ to) → Inside size a b
+spans-first s = s .each 0 (omega arith)
+
+spans-rest : {size a b : ℕ} {from to : List ℕ} → Spans size (a ∷ from) (b ∷ to) → Spans size from to
+spans-rest s = record { paired = omega (arith, s .paired); each = λ k h. s .each (suc k) (omega arith) }
+
+spans-cons : {size a b : ℕ} {from to : List ℕ} → Inside size a b → Spans size from to → Spans size (a ∷ from) (b ∷ to)
+spans-cons {size} {a} {b} {from} {to} i s = record { paired = omega (arith, s .paired); each = each }
+  where
+    each : (k : ℕ) → k < length (a ∷ from) → Inside size (getD (a ∷ from) k 0) (getD (b ∷ to) k 0)
+    each zero h = i
+    each (suc k) h = s .each k (omega arith)
+
+remaining-spans : (text : List ℕ) (at : ℕ) (e : EmptyPieces) (ps : List Place) → coversFrom text at ps ≡ true → Spans (length text) (startsOf (remaining e ps)) (endsOf (remaining e ps))
+unfolding remaining
+remaining-spans text at e [] c = record { paired = refl; each = λ k h. absurd (omega arith) }
+remaining-spans text at e (p ∷ ps) c =
+    let span : Span text at p = covers-span text at p ps c in
+    let more = remaining-spans text (p .end .0) e ps (covers-rest text at p ps c) in
+    true-or-false (isPiece e p)
+    (λ t. rw t (spans-cons (record { forward = omega (arith, span .from, span .onward); most = span .inside }) more))
+    (λ f. rw f more)
+
+pub pieces-spans : (text : List ℕ) (b : SplitDelimiterBehavior) (e : EmptyPieces) (ps : List Place) → coversFrom text 0 ps ≡ true → Spans (length text) (startsOf (pieces b e ps)) (endsOf (pieces b e ps))
+unfolding pieces
+pieces-spans text b e ps c = remaining-spans text 0 e (splits b ps) (splits-cover text 0 b ps c)
+
+-- THE COLUMNS
+module _ (n : Note) (sound : Sound n) where
+  shifts-joined : (ps : List Place) → Spans (length (n .normalized)) (startsOf ps) (endsOf ps) → map (λ p. pieceOf n p .«original_shift») ps ≡ joined (shiftOf (n .starts) (n .original-shift)) (startsOf ps) (endsOf ps)
+  unfolding joined shiftOf pieceOf sliceOf
+  shifts-joined [] s = refl
+  shifts-joined (p ∷ ps) s = rw (sliced-as n sound (p .start .0) (p .end .0) (spans-first s), shifts-joined ps (spans-rest s))
+
+  lengths-joined : (ps : List Place) → Spans (length (n .normalized)) (startsOf ps) (endsOf ps) → map (λ p. transcriptLength (pieceOf n p)) ps ≡ joined (lengthOf (n .starts) (n .ends)) (startsOf ps) (endsOf ps)
+  unfolding joined lengthOf pieceOf sliceOf transcriptLength
+  lengths-joined [] s = refl
+  lengths-joined (p ∷ ps) s = rw (sliced-as n sound (p .start .0) (p .end .0) (spans-first s), lengths-joined ps (spans-rest s))
+
+  column-joined : (column : List ℕ) (ps : List Place) → Spans (length (n .normalized)) (startsOf ps) (endsOf ps) → flatMap (λ p. slicedColumn (pieceOf n p) column) ps ≡ joined (columnOf (n .starts) column) (startsOf ps) (endsOf ps)
+  unfolding flatMap joined columnOf pieceOf sliceOf slicedColumn
+  column-joined column [] s = refl
+  column-joined column (p ∷ ps) s = rw (sliced-as n sound (p .start .0) (p .end .0) (spans-first s), column-joined column ps (spans-rest s))
+
+  -- as many alignments as the pieces have bytes
+  length-joined : (column : List ℕ) → length column ≡ length (n .normalized) → (ps : List Place) → Spans (length (n .normalized)) (startsOf ps) (endsOf ps) → length (joined (columnOf (n .starts) column) (startsOf ps) (endsOf ps)) ≡ bytesOf ps
+  unfolding joined columnOf bytesOf
+  length-joined column one [] s = refl
+  length-joined column one (p ∷ ps) s =
+      let first = columnOf (n .starts) column (p .start .0) (p .end .0) in
+      length-append first (joined (columnOf (n .starts) column) (startsOf ps) (endsOf ps))
+      ∙ omega (arith, length-joined column one ps (spans-rest s), length-lowered (fromStart (n .starts) (p .start .0) (p .end .0)) (part column (p .start .0) (p .end .0)), length-part column (p .start .0) (p .end .0) (omega (arith, spans-first s .most)))
+
+  module _ (ps : List Place) (s : Spans (length (n .normalized)) (startsOf ps) (endsOf ps)) where
+    pub shifts-are : cut n ps .shifts ≡ joined (shiftOf (n .starts) (n .original-shift)) (startsOf ps) (endsOf ps)
+    unfolding cut
+    shifts-are = shifts-joined ps s
+
+    pub lengths-are : cut n ps .lengths ≡ joined (lengthOf (n .starts) (n .ends)) (startsOf ps) (endsOf ps)
+    unfolding cut
+    lengths-are = lengths-joined ps s
+
+    pub alignment-starts-are : cut n ps .alignment-starts ≡ joined (columnOf (n .starts) (n .starts)) (startsOf ps) (endsOf ps)
+    unfolding cut
+    alignment-starts-are = column-joined (n .starts) ps s
+
+    pub alignment-ends-are : cut n ps .alignment-ends ≡ joined (columnOf (n .starts) (n .ends)) (startsOf ps) (endsOf ps)
+    unfolding cut
+    alignment-ends-are = column-joined (n .ends) ps s
+
+    pub starts-long : length (joined (columnOf (n .starts) (n .starts)) (startsOf ps) (endsOf ps)) ≡ bytesOf ps
+    starts-long = length-joined (n .starts) (length-starts n sound) ps s
+
+    pub ends-long : length (joined (columnOf (n .starts) (n .ends)) (startsOf ps) (endsOf ps)) ≡ bytesOf ps
+    ends-long = length-joined (n .ends) (length-ends n sound) ps s
+
+    pub alignments-long : length (cut n ps .alignment-starts) ≡ bytesOf ps
+    alignments-long = ap length alignment-starts-are ∙ starts-long
+
+pub starts-are : (n : Note) (ps : List Place) → cut n ps .starts ≡ startsOf ps
+unfolding cut
+starts-are n ps = refl
+
+pub ends-are : (n : Note) (ps : List Place) → cut n ps .ends ≡ endsOf ps
+unfolding cut
+ends-are n ps = refl
+
+pub pieces-long : (n : Note) (ps : List Place) → length (cut n ps .starts) ≡ length ps
+unfolding cut
+pieces-long n ps = length-map ps (λ (p : Place). p .start .0)

@@ -1,0 +1,301 @@
+-- Laws of `splitFaults`: what the call says by the checks that were made, what an accepted call tells, and the call.
+use Prim.Native.Nat.{ℕ, _+_, _≤_, _<_, min}
+use mathlib.Core.Path.{_≡_, _∙_, ap, refl, sym}
+use mathlib.Core.Bool.{Bool, true, false, cond, not}
+use mathlib.Core.List.{List, []}
+use native.Mathlib.Omega.{arith}
+use lib.Dec.{leb}
+use lib.ListN.{length, getD, take, length-map}
+use borrow.Author.Tests.{not-true, not-false, le-leb, lt-leb}
+use Rattle.buffers.specs.Splice.{overlay}
+use Rattle.buffers.proofs.Splice.{take-overlay, length-overlay, overlay-long}
+use Rattle.note.specs.declared.Refusal.{Refusal}
+use Rattle.note.specs.declared.Refusal.the-variants.{BadMatches, NoRoom}
+use Rattle.note.specs.declared.Verdict.{Verdict}
+use Rattle.note.specs.declared.Verdict.the-variants.{Accepted, Refused as Rejected}
+use Rattle.note.specs.Refusals.{also, verdict, after}
+use Rattle.note.specs.Notes.{Note, fits, Sound}
+use Rattle.note.specs.Faults.{noteFaults, roomFaults}
+use Rattle.note.proofs.Verdicts.{accepted-first, accepted-second, accepted-meets, refused-then, accepted-then}
+use Rattle.note.proofs.Faults.{accepted-sound, room-enough}
+use Rattle.note.proofs.Sound.{length-starts, length-ends}
+use Rattle.pattern.specs.declared.Place.{Place}
+use Rattle.pattern.specs.Entries.{placesOf}
+use Rattle.pattern.specs.Places.{coversFrom, covers, listFaults}
+use Rattle.pattern.proofs.Places.{covers-places}
+use Rattle.slice.proofs.Judged.{Short, accepted-short}
+use Rattle.behaviors.specs.declared.SplitDelimiterBehavior.{SplitDelimiterBehavior}
+use Rattle.behaviors.specs.declared.EmptyPieces.{EmptyPieces}
+use Rattle.behaviors.specs.declared.Sizes.{Sizes}
+use Rattle.behaviors.specs.Joining.{startsOf, endsOf}
+use Rattle.behaviors.specs.Runs.{bytesOf, sizesWith, listPieces, Listed, SpansRoom, SpansLaid}
+use Rattle.split.specs.declared.Pieces.{Pieces}
+use Rattle.split.specs.declared.Pieces.the-variants.{Cut, Refused}
+use Rattle.split.specs.Splitting.{Columns, cut, cutBy, splitFaults, cutUnlessRefused, pieceRoom, alignmentRoom, Splitting}
+use Rattle.split.specs.Writing.{fromStart, toEnd, shiftOf, lengthOf, columnOf, joined, Inside, Spans, ShiftsRoom, LengthsRoom, ColumnRoom, CutInto}
+use Rattle.split.proofs.Cuts.{pieces-spans, in-order, starts-above, ends-above, shifts-are, lengths-are, alignment-starts-are, alignment-ends-are, starts-long, ends-long, alignments-long, starts-are, ends-are, pieces-long}
+
+-- the list, then the two rooms
+module _ (text list : List ℕ) (pieces alignments forPieces forAlignments : ℕ) where
+  abbrev results : Refusal → Bool
+  results = also (listFaults text list) (also (roomFaults pieces forPieces) (roomFaults alignments forAlignments))
+
+  bad-list : covers text list ≡ false → Rejected BadMatches ≡ verdict results
+  unfolding verdict
+  bad-list c = rw c
+
+  module _ (c : covers text list ≡ true) where
+    bad-pieces : forPieces < pieces → Rejected NoRoom ≡ verdict results
+    unfolding verdict
+    bad-pieces h = rw (c, lt-leb pieces forPieces h)
+
+    bad-alignments : pieces ≤ forPieces → forAlignments < alignments → Rejected NoRoom ≡ verdict results
+    unfolding verdict
+    bad-alignments fits h = rw (c, le-leb pieces forPieces fits, lt-leb alignments forAlignments h)
+
+    good-rooms : pieces ≤ forPieces → alignments ≤ forAlignments → Accepted ≡ verdict results
+    unfolding verdict
+    good-rooms fits h = rw (c, le-leb pieces forPieces fits, le-leb alignments forAlignments h)
+
+-- THE CHECKS, one after the other
+module _ (most : ℕ) (n : Note) (list : List ℕ) (b : SplitDelimiterBehavior) (e : EmptyPieces) (forPieces forAlignments : ℕ) {v : Verdict} (noted : v ≡ verdict (noteFaults most n)) where
+  abbrev listed : Refusal → Bool
+  listed = results (n .normalized) list (length (cutBy n list b e .starts)) (length (cutBy n list b e .alignment-starts)) forPieces forAlignments
+
+  abbrev said : Pieces
+  said = cutUnlessRefused (verdict (splitFaults most n list b e forPieces forAlignments)) (cutBy n list b e)
+
+  pub note-refused : {k : Refusal} → v ≡ Rejected k → Refused k ≡ said
+  note-refused is = ap (λ (u : Verdict). cutUnlessRefused u (cutBy n list b e)) (refused-then 4 (noteFaults most n) listed refl refl noted is)
+
+  module _ (ok : v ≡ Accepted) {t : Bool} (covering : t ≡ covers (n .normalized) list) where
+    by-list : (u : Verdict) → u ≡ verdict listed → cutUnlessRefused u (cutBy n list b e) ≡ said
+    by-list u w = ap (λ (x : Verdict). cutUnlessRefused x (cutBy n list b e)) (accepted-then 4 (noteFaults most n) listed refl refl noted ok w)
+
+    pub list-refused : not t ≡ true → Refused BadMatches ≡ said
+    list-refused is = by-list (Rejected BadMatches) (bad-list (n .normalized) list _ _ forPieces forAlignments (sym covering ∙ not-true t is))
+
+    module _ (is : not t ≡ false) where
+      covers-it : covers (n .normalized) list ≡ true
+      covers-it = sym covering ∙ not-false t is
+
+      sound : Sound n
+      sound = accepted-sound most n (sym noted ∙ ok) .0
+
+      pub measurable : Listed most list
+      measurable =
+          record {
+            text = n .normalized;
+            short = accepted-short most n (accepted-sound most n (sym noted ∙ ok) .1) .normalized-short;
+            covered = covers-places (n .normalized) list covers-it;
+          }
+
+      module _ {s : Sizes} (sizes : s ≡ sizesWith (record { pieces = 0; bytes = 0 }) (listPieces b e list)) where
+        count-is : s .pieces ≡ length (cutBy n list b e .starts)
+        unfolding sizesWith
+        count-is =
+            let z : s .pieces ≡ 0 + length (listPieces b e list) = ap (λ (x : Sizes). x .pieces) sizes in
+            omega (arith, z, pieces-long n (listPieces b e list))
+
+        bytes-are : s .bytes ≡ length (cutBy n list b e .alignment-starts)
+        unfolding sizesWith
+        bytes-are =
+            let z : s .bytes ≡ 0 + bytesOf (listPieces b e list) = ap (λ (x : Sizes). x .bytes) sizes in
+            let spans = pieces-spans (n .normalized) b e (placesOf list) (covers-places (n .normalized) list covers-it) in
+            omega (arith, z, alignments-long n sound (listPieces b e list) spans)
+
+        pub no-piece-room : forPieces < s .pieces → Refused NoRoom ≡ said
+        no-piece-room h = by-list (Rejected NoRoom) (bad-pieces (n .normalized) list _ _ forPieces forAlignments covers-it (omega (arith, count-is)))
+
+        pub no-alignment-room : s .pieces ≤ forPieces → forAlignments < s .bytes → Refused NoRoom ≡ said
+        no-alignment-room fits h =
+            by-list (Rejected NoRoom) (bad-alignments (n .normalized) list _ _ forPieces forAlignments covers-it (omega (arith, count-is)) (omega (arith, bytes-are)))
+
+        pub all-accepted : s .pieces ≤ forPieces → s .bytes ≤ forAlignments → Cut (s .pieces) (s .bytes) ≡ said
+        all-accepted fits short =
+            (λ i. Cut (count-is i) (bytes-are i))
+            ∙ by-list Accepted (good-rooms (n .normalized) list _ _ forPieces forAlignments covers-it (omega (arith, count-is)) (omega (arith, bytes-are)))
+
+-- AN ACCEPTED CALL
+module _ (most : ℕ) (n : Note) (list : List ℕ) (b : SplitDelimiterBehavior) (e : EmptyPieces) (forPieces forAlignments : ℕ) (ok : verdict (splitFaults most n list b e forPieces forAlignments) ≡ Accepted) where
+  abbrev rooms : Refusal → Bool
+  rooms = also (roomFaults (length (cutBy n list b e .starts)) forPieces) (roomFaults (length (cutBy n list b e .alignment-starts)) forAlignments)
+
+  note-ok : verdict (noteFaults most n) ≡ Accepted
+  note-ok = accepted-first (noteFaults most n) (also (listFaults (n .normalized) list) rooms) ok
+
+  pub cut-sound : Sound n
+  cut-sound = accepted-sound most n note-ok .0
+
+  pub cut-short : Short most n
+  cut-short = accepted-short most n (accepted-sound most n note-ok .1)
+
+  rest-ok : verdict (also (listFaults (n .normalized) list) rooms) ≡ Accepted
+  rest-ok = accepted-second (noteFaults most n) (also (listFaults (n .normalized) list) rooms) ok
+
+  pub cut-covered : coversFrom (n .normalized) 0 (placesOf list) ≡ true
+  cut-covered =
+      covers-places (n .normalized) list (not-false (covers (n .normalized) list)
+      (accepted-meets (listFaults (n .normalized) list) (accepted-first (listFaults (n .normalized) list) rooms rest-ok) BadMatches))
+
+  rooms-ok : verdict rooms ≡ Accepted
+  rooms-ok = accepted-second (listFaults (n .normalized) list) rooms rest-ok
+
+  pub cut-spans : Spans (length (n .normalized)) (startsOf (listPieces b e list)) (endsOf (listPieces b e list))
+  cut-spans = pieces-spans (n .normalized) b e (placesOf list) cut-covered
+
+  pub pieces-fit : length (listPieces b e list) ≤ forPieces
+  pieces-fit =
+      omega (arith, pieces-long n (listPieces b e list), room-enough (length (cutBy n list b e .starts)) forPieces (accepted-first (roomFaults (length (cutBy n list b e .starts)) forPieces) (roomFaults (length (cutBy n list b e .alignment-starts)) forAlignments) rooms-ok))
+
+  pub alignments-fit : bytesOf (listPieces b e list) ≤ forAlignments
+  alignments-fit =
+      omega (arith, alignments-long n cut-sound (listPieces b e list) cut-spans, room-enough (length (cutBy n list b e .alignment-starts)) forAlignments (accepted-second (roomFaults (length (cutBy n list b e .starts)) forPieces) (roomFaults (length (cutBy n list b e .alignment-starts)) forAlignments) rooms-ok))
+
+module _ (most : ℕ) (n : Note) (list : List ℕ) (b : SplitDelimiterBehavior) (e : EmptyPieces) (c : Columns) (ok : verdict (splitFaults most n list b e (pieceRoom c) (alignmentRoom c)) ≡ Accepted) where
+  abbrev ps : List Place
+  ps = listPieces b e list
+
+  fit : length ps ≤ pieceRoom c
+  fit = pieces-fit most n list b e (pieceRoom c) (alignmentRoom c) ok
+
+  long : bytesOf ps ≤ alignmentRoom c
+  long = alignments-fit most n list b e (pieceRoom c) (alignmentRoom c) ok
+
+  good : Sound n
+  good = cut-sound most n list b e (pieceRoom c) (alignmentRoom c) ok
+
+  inside : Spans (length (n .normalized)) (startsOf ps) (endsOf ps)
+  inside = cut-spans most n list b e (pieceRoom c) (alignmentRoom c) ok
+
+  pub spans-room : SpansRoom most list b e (c .starts) (c .ends)
+  spans-room =
+      record {
+        listed = record { text = n .normalized; short = cut-short most n list b e (pieceRoom c) (alignmentRoom c) ok .normalized-short; covered = cut-covered most n list b e (pieceRoom c) (alignmentRoom c) ok };
+        starts-room = omega (arith, fit);
+        ends-room = omega (arith, fit);
+      }
+
+  module _ {count : ℕ} {starts ends : List ℕ} (l : SpansLaid ps (c .starts) (c .ends) count starts ends) where
+    starts-count : length (startsOf ps) ≡ count
+    starts-count = length-map ps (λ (p : Place). p .start .0) ∙ sym (l .reach)
+
+    ends-count : length (endsOf ps) ≡ count
+    ends-count = length-map ps (λ (p : Place). p .end .0) ∙ sym (l .reach)
+
+    pub from-long : count ≤ length starts
+    from-long = rw (l .starts-are) (omega (arith, starts-count, overlay-long (startsOf ps) (c .starts)))
+
+    pub to-long : count ≤ length ends
+    to-long = rw (l .ends-are) (omega (arith, ends-count, overlay-long (endsOf ps) (c .ends)))
+
+    from-is : take count starts ≡ startsOf ps
+    from-is = rw (l .starts-are, ← starts-count) (take-overlay (startsOf ps) (c .starts))
+
+    to-is : take count ends ≡ endsOf ps
+    to-is = rw (l .ends-are, ← ends-count) (take-overlay (endsOf ps) (c .ends))
+
+    spans-of : Spans (length (n .starts)) (startsOf ps) (endsOf ps)
+    spans-of = rw (length-starts n good) inside
+
+    pub shifts-room : ShiftsRoom most (n .starts) (take count starts) (take count ends) (n .original-shift) (c .shifts)
+    shifts-room =
+        rw (from-is, to-is)
+        (record {
+          spans = spans-of;
+          low = cut-short most n list b e (pieceRoom c) (alignmentRoom c) ok .shift-low;
+          room = omega (arith, fit, starts-count, l .reach);
+        })
+
+    pub lengths-room : LengthsRoom (n .starts) (n .ends) (take count starts) (take count ends) (c .lengths)
+    lengths-room =
+        rw (from-is, to-is)
+        (record {
+          spans = spans-of;
+          one-end = length-ends n good ∙ sym (length-starts n good);
+          ordered = λ k h. in-order n good _ _ (inside .each k h);
+          room = omega (arith, fit, starts-count, l .reach);
+        })
+
+    pub starts-room : ColumnRoom (n .starts) (n .starts) (take count starts) (take count ends) (c .alignment-starts)
+    starts-room =
+        rw (from-is, to-is)
+        (record {
+          spans = spans-of;
+          one-each = refl;
+          above = λ k i h low high. starts-above n good _ _ (inside .each k h) i low high;
+          room = omega (arith, long, starts-long n good ps inside);
+        })
+
+    pub ends-room : ColumnRoom (n .starts) (n .ends) (take count starts) (take count ends) (c .alignment-ends)
+    ends-room =
+        rw (from-is, to-is)
+        (record {
+          spans = spans-of;
+          one-each = length-ends n good ∙ sym (length-starts n good);
+          above = λ k i h low high. ends-above n good _ _ (inside .each k h) i low high;
+          room = omega (arith, long, ends-long n good ps inside);
+        })
+
+    pub all-cut : {shifts lengths alignmentStarts alignmentEnds : List ℕ}
+        → shifts ≡ overlay (joined (shiftOf (n .starts) (n .original-shift)) (take count starts) (take count ends)) (c .shifts)
+        → lengths ≡ overlay (joined (lengthOf (n .starts) (n .ends)) (take count starts) (take count ends)) (c .lengths)
+        → alignmentStarts ≡ overlay (joined (columnOf (n .starts) (n .starts)) (take count starts) (take count ends)) (c .alignment-starts)
+        → alignmentEnds ≡ overlay (joined (columnOf (n .starts) (n .ends)) (take count starts) (take count ends)) (c .alignment-ends)
+        → CutInto n list b e c (record { starts = starts; ends = ends; shifts = shifts; lengths = lengths; alignment-starts = alignmentStarts; alignment-ends = alignmentEnds })
+    all-cut s z a o =
+        record {
+          starts-are = l .starts-are ∙ rw (starts-are n ps);
+          ends-are = l .ends-are ∙ rw (ends-are n ps);
+          shifts-are = s ∙ rw (from-is, to-is, shifts-are n good ps inside);
+          lengths-are = z ∙ rw (from-is, to-is, lengths-are n good ps inside);
+          alignment-starts-are = a ∙ rw (from-is, to-is, alignment-starts-are n good ps inside);
+          alignment-ends-are = o ∙ rw (from-is, to-is, alignment-ends-are n good ps inside);
+        }
+
+-- THE CALL
+cut-told : (v : Verdict) (c : Columns) {x y : ℕ} → Cut x y ≡ cutUnlessRefused v c → v ≡ Accepted
+cut-told Accepted c e = refl
+cut-told (Rejected k) c e = let z : _≡_ {A = ℕ} 0 1 = cc in absurd (omega arith)
+
+refused-told : (v : Verdict) (c : Columns) {k : Refusal} → Refused k ≡ cutUnlessRefused v c → v ≡ Rejected k
+refused-told Accepted c e = let z : _≡_ {A = ℕ} 0 1 = cc in absurd (omega arith)
+refused-told (Rejected j) c e = cc
+
+module _ (most : ℕ) (n : Note) (list : List ℕ) (b : SplitDelimiterBehavior) (e : EmptyPieces) (c : Columns) {r : Pieces} {spans numbers forPieces forAlignments : ℕ}
+    (first : spans ≡ min (length (c .starts)) (length (c .ends))) (second : numbers ≡ min (length (c .shifts)) (length (c .lengths))) (third : forPieces ≡ min spans numbers) (fourth : forAlignments ≡ alignmentRoom c)
+    (says : r ≡ cutUnlessRefused (verdict (splitFaults most n list b e forPieces forAlignments)) (cutBy n list b e)) where
+  whole : r ≡ cutUnlessRefused (verdict (splitFaults most n list b e (pieceRoom c) (alignmentRoom c))) (cutBy n list b e)
+  whole = says ∙ rw (third, first, second, fourth)
+
+  pub split-refused : {k : Refusal} → r ≡ Refused k → Splitting most n list b e c (Refused k) c
+  split-refused {k} is =
+      record {
+        says = Rejected k;
+        says-is = sym (refused-told _ _ (sym is ∙ whole));
+        answer = refl;
+        starts-are = refl;
+        ends-are = refl;
+        shifts-are = refl;
+        lengths-are = refl;
+        alignment-starts-are = refl;
+        alignment-ends-are = refl;
+      }
+
+  module _ {x y : ℕ} (is : r ≡ Cut x y) where
+    pub split-accepted : verdict (splitFaults most n list b e (pieceRoom c) (alignmentRoom c)) ≡ Accepted
+    split-accepted = cut-told _ _ (sym is ∙ whole)
+
+    pub split-cut : {c₁ : Columns} → CutInto n list b e c c₁ → Splitting most n list b e c (Cut x y) c₁
+    split-cut w =
+        record {
+          says = Accepted;
+          says-is = sym split-accepted;
+          answer = sym is ∙ whole ∙ rw split-accepted;
+          starts-are = w .starts-are;
+          ends-are = w .ends-are;
+          shifts-are = w .shifts-are;
+          lengths-are = w .lengths-are;
+          alignment-starts-are = w .alignment-starts-are;
+          alignment-ends-are = w .alignment-ends-are;
+        }

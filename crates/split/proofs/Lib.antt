@@ -1,0 +1,4 @@
+-- Laws of splitting.
+pub mod Joined
+pub mod Cuts
+pub mod Judged

@@ -1,0 +1,3 @@
+-- Splitting a note (RULES 11).
+pub mod Splitting
+pub mod Writing

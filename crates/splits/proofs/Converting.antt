@@ -1,0 +1,163 @@
+-- Columns of spans that become offsets, one piece after the other: none yet, one more, all of them.
+use Prim.Native.Nat.{ℕ, suc, _+_, _-_, _≤_, _<_}
+use mathlib.Core.Path.{_≡_, _∙_, ap, refl, sym}
+use mathlib.Core.Bool.{Bool, true, false, _&&_}
+use mathlib.Core.List.{List, [], _∷_, _++_}
+use mathlib.Mathlib.Data.Bool.Basic.{and-elim-left, and-elim-right}
+use native.Mathlib.Numerals.{add-one}
+use native.Mathlib.Omega.{arith}
+use lib.Dec.{leb, ltb}
+use lib.ListN.{length, getD, set, take, drop, length-take, drop-of-length-le}
+use lib.Seq.{drop-cons, getD-take, getD-drop, length-take-le}
+use borrow.Author.Tests.{leb-true, ltb-true}
+use Rattle.buffers.specs.Splice.{splice, overlay}
+use Rattle.buffers.proofs.Cases.{clash}
+use Rattle.buffers.proofs.Splice.{Laying, none-laid, piece-laid, all-laid}
+use Rattle.behaviors.proofs.Runs.{store-one}
+use Rattle.char_offsets.specs.Positions.{indexOf}
+use Rattle.char_offsets.specs.Steps.{IndexKnown}
+use Rattle.convert.specs.declared.OffsetReferential.{OffsetReferential}
+use Rattle.splits.specs.declared.OffsetType.{OffsetType}
+use Rattle.splits.specs.declared.Bytes.{Bytes}
+use Rattle.splits.specs.declared.Cursor.{Cursor}
+use Rattle.splits.specs.declared.Offsets.{Offsets}
+use Rattle.splits.specs.SplitOffsets.{startNumber, endNumber}
+use Rattle.splits.specs.Steps.{fromByte, toByte, Piece, BytesAre, BothKnown, Stepped, inOrder, eachSpan, SpansReady, SpansConverted}
+
+-- the first of pieces in order
+pub record First (size at a b : ℕ) (from to : List ℕ) : Type 0 where
+  pub behind : at ≤ a
+  pub some : a < b
+  pub inside : b ≤ size
+  pub rest : inOrder size b from to ≡ true
+
+pub first-of : (size at a b : ℕ) (from to : List ℕ) → inOrder size at (a ∷ from) (b ∷ to) ≡ true → First size at a b from to
+unfolding inOrder
+first-of size at a b from to e =
+    let three : (leb at a && ltb a b && leb b size) ≡ true = and-elim-left _ (inOrder size b from to) e in
+    let two : (leb at a && ltb a b) ≡ true = and-elim-left _ (leb b size) three in
+    record {
+      behind = leb-true at a (and-elim-left _ (ltb a b) two);
+      some = ltb-true a b (and-elim-right (leb at a) _ two);
+      inside = leb-true b size (and-elim-right (leb at a && ltb a b) _ three);
+      rest = and-elim-right (leb at a && ltb a b && leb b size) _ e;
+    }
+
+-- as many numbers as pieces
+length-each : (number : ℕ → ℕ → ℕ) (starts ends : List ℕ) (shift : ℕ) (side : OffsetReferential) (sum size at : ℕ) (from to : List ℕ) → inOrder size at from to ≡ true → length (eachSpan number starts ends shift side sum from to) ≡ length from
+unfolding eachSpan inOrder
+length-each number starts ends shift side sum size at [] to e = refl
+length-each number starts ends shift side sum size at (a ∷ from) [] e = clash true refl (sym e)
+length-each number starts ends shift side sum size at (a ∷ from) (b ∷ to) e =
+    ap suc (length-each number starts ends shift side (sum + (b - a)) size b from to (first-of size at a b from to e .rest))
+
+-- an element of what is not written yet
+unwritten : {whole rest d₀ : List ℕ} {k : ℕ} {d : List ℕ} → Laying whole rest d₀ k d → getD d k 0 ≡ getD d₀ k 0
+unwritten {d₀ = d₀} {k = k} {d = d} l =
+    let here : k + 0 ≡ k = omega arith in
+    ap (λ (i : ℕ). getD d i 0) (sym here) ∙ sym (getD-drop k d 0 0) ∙ ap (λ (xs : List ℕ). getD xs 0 0) (l .beyond) ∙ getD-drop k d₀ 0 0 ∙ ap (λ (i : ℕ). getD d₀ i 0) here
+
+abbrev each : (List ℕ → OffsetType → ℕ → ℕ → ℕ) → List ℕ → List ℕ → List ℕ → ℕ → OffsetReferential → OffsetType → ℕ → List ℕ → List ℕ → List ℕ
+each number original starts ends shift side unit sum from to = eachSpan (number original unit) starts ends shift side sum from to
+
+-- what is written of the first `count` pieces, and what is known behind it
+pub record Converting (most : ℕ) (original starts ends : List ℕ) (shift : ℕ) (side : OffsetReferential) (unit : OffsetType) (count : ℕ) (from₀ to₀ : List ℕ) (first last : Cursor) (sum k : ℕ) (from to : List ℕ) : Type 0 where
+  pub at : ℕ
+  pub behind : sum ≤ at
+  pub few : k ≤ count
+  pub ordered : inOrder (length starts) at (drop k (take count from₀)) (drop k (take count to₀)) ≡ true
+  pub known : BothKnown most original first last
+  pub starts-laid : Laying (each startNumber original starts ends shift side unit 0 (take count from₀) (take count to₀)) (each startNumber original starts ends shift side unit sum (drop k (take count from₀)) (drop k (take count to₀))) from₀ k from
+  pub ends-laid : Laying (each endNumber original starts ends shift side unit 0 (take count from₀) (take count to₀)) (each endNumber original starts ends shift side unit sum (drop k (take count from₀)) (drop k (take count to₀))) to₀ k to
+
+abbrev zero-cursor : Cursor
+zero-cursor = record { at = 0; index = 0 }
+
+zero-known : {most : ℕ} {s : List ℕ} → length s ≤ most → IndexKnown most s 0 0
+unfolding indexOf
+zero-known short = record { short = short; inside = omega arith; so-far = refl }
+
+module _ {most : ℕ} {original starts ends : List ℕ} {shift count : ℕ} {from₀ to₀ : List ℕ} (r : SpansReady most original starts ends shift count from₀ to₀) where
+  from-long : length (take count from₀) ≡ count
+  from-long = length-take-le count from₀ (r .starts-room)
+
+  to-long : length (take count to₀) ≡ count
+  to-long = length-take-le count to₀ (r .ends-room)
+
+  pub none-converted : (side : OffsetReferential) (unit : OffsetType) → Converting most original starts ends shift side unit count from₀ to₀ zero-cursor zero-cursor 0 0 from₀ to₀
+  none-converted side unit =
+      let size : (number : ℕ → ℕ → ℕ) → length (eachSpan number starts ends shift side 0 (take count from₀) (take count to₀)) ≡ length (take count from₀) = λ number. length-each number starts ends shift side 0 (length starts) 0 (take count from₀) (take count to₀) (r .ordered) in
+      record {
+        at = 0;
+        behind = omega arith;
+        few = omega arith;
+        ordered = r .ordered;
+        known = record { first-known = zero-known (r .short); last-known = zero-known (r .short) };
+        starts-laid = none-laid _ from₀ (omega (arith, size (startNumber original unit), from-long, r .starts-room));
+        ends-laid = none-laid _ to₀ (omega (arith, size (endNumber original unit), from-long, r .ends-room));
+      }
+
+  module _ {side : OffsetReferential} {unit : OffsetType} {first last : Cursor} {sum k : ℕ} {from to : List ℕ} (c : Converting most original starts ends shift side unit count from₀ to₀ first last sum k from to) where
+    -- where the loop is over
+    pub all-converted : count ≤ k → SpansConverted original starts ends shift side unit count from₀ to₀ from to
+    unfolding eachSpan
+    all-converted done =
+        let none : drop k (take count from₀) ≡ [] = drop-of-length-le (take count from₀) {i = k} (omega (arith, from-long)) in
+        record {
+          starts-are = all-laid _ from₀ k from (rw none at (c .starts-laid));
+          ends-are = all-laid _ to₀ k to (rw none at (c .ends-laid));
+        }
+
+    module _ (more : k < count) where
+      abbrev a : ℕ
+      a = getD from k 0
+
+      abbrev b : ℕ
+      b = getD to k 0
+
+      from-here : drop k (take count from₀) ≡ a ∷ drop (k + 1) (take count from₀)
+      from-here =
+          drop-cons (take count from₀) k 0 (omega (arith, from-long))
+          ∙ rw (getD-take count from₀ k 0 more, ← unwritten (c .starts-laid), add-one k)
+
+      to-here : drop k (take count to₀) ≡ b ∷ drop (k + 1) (take count to₀)
+      to-here =
+          drop-cons (take count to₀) k 0 (omega (arith, to-long))
+          ∙ rw (getD-take count to₀ k 0 more, ← unwritten (c .ends-laid), add-one k)
+
+      here : First (length starts) (c .at) a b (drop (k + 1) (take count from₀)) (drop (k + 1) (take count to₀))
+      here = first-of (length starts) (c .at) a b _ _ (rw (from-here, to-here) at (c .ordered))
+
+      pub piece-here : Piece most starts ends shift sum a b
+      piece-here =
+          record {
+            some = here .some;
+            behind = omega (arith, c .behind, here .behind);
+            in-starts = here .inside;
+            in-ends = omega (arith, here .inside, r .one-end);
+            few = r .few;
+            low = r .low;
+          }
+
+      pub in-columns : (k < length from) × (k < length to)
+      in-columns = (omega (arith, c .starts-laid .same, r .starts-room), omega (arith, c .ends-laid .same, r .ends-room))
+
+      each-here : (number : ℕ → ℕ → ℕ) → eachSpan number starts ends shift side sum (drop k (take count from₀)) (drop k (take count to₀)) ≡ (number (fromByte starts shift side sum a) (toByte ends shift side sum a b) ∷ []) ++ eachSpan number starts ends shift side (sum + (b - a)) (drop (k + 1) (take count from₀)) (drop (k + 1) (take count to₀))
+      unfolding eachSpan
+      each-here number = rw (from-here, to-here)
+
+      pub one-converted : {bytes : Bytes} {o : Offsets} → BytesAre starts ends shift side sum a b bytes → Stepped most original unit (bytes .start) (bytes .end) o → Converting most original starts ends shift side unit count from₀ to₀ (o .first) (o .last) (sum + (b - a)) (k + 1) (set from k (o .start)) (set to k (o .end))
+      one-converted {o = o} w s =
+          record {
+            at = b;
+            behind = omega (arith, c .behind, here .behind, here .some);
+            few = omega arith;
+            ordered = here .rest;
+            known = s .known;
+            starts-laid =
+                piece-laid _ (o .start ∷ []) _ from₀ k from
+                (rw (each-here (startNumber original unit), ← w .start-is, ← w .end-is, ← s .start-is) at (c .starts-laid)) (k + 1) (set from k (o .start)) refl (store-one from k (o .start) (in-columns .0));
+            ends-laid =
+                piece-laid _ (o .end ∷ []) _ to₀ k to
+                (rw (each-here (endNumber original unit), ← w .start-is, ← w .end-is, ← s .end-is) at (c .ends-laid)) (k + 1) (set to k (o .end)) refl (store-one to k (o .end) (in-columns .1));
+          }

@@ -1,0 +1,6 @@
+-- Laws of split offsets.
+pub mod Numbered
+pub mod Converting
+pub mod Judged
+pub mod PieceOffsets
+pub mod Plain

@@ -1,0 +1,46 @@
+-- Laws of `fromByte`, `toByte`, `startNumber` and `endNumber`: the numbers of one piece, case by case as the code comes to them.
+use Prim.Native.Nat.{ℕ, _+_, _-_, _≤_, _<_}
+use mathlib.Core.Path.{_≡_, ap}
+use mathlib.Core.List.{List}
+use native.Mathlib.Omega.{arith}
+use lib.ListN.{length, getD}
+use borrow.Author.Tests.{lt-ltb, le-ltb}
+use Rattle.char_offsets.specs.Positions.{indexOf, endIndex, pairOf}
+use Rattle.char_offsets.specs.Steps.{IndexKnown}
+use Rattle.convert.specs.declared.OffsetReferential.{OffsetReferential}
+use Rattle.convert.specs.declared.OffsetReferential.the-variants.{Original, Normalized}
+use Rattle.splits.specs.declared.OffsetType.{OffsetType}
+use Rattle.splits.specs.declared.OffsetType.the-variants.{Byte, Char}
+use Rattle.splits.specs.declared.Cursor.{Cursor}
+use Rattle.splits.specs.declared.Offsets.{Offsets}
+use Rattle.splits.specs.SplitOffsets.{startNumber, endNumber}
+use Rattle.splits.specs.Steps.{fromByte, toByte, BytesAre, BothKnown, Stepped}
+
+module _ (starts ends : List ℕ) (shift sum a b : ℕ) {side : OffsetReferential} where
+  pub bytes-original : side ≡ Original → BytesAre starts ends shift side sum a b (record { start = shift + getD starts a 0; end = shift + getD ends (b - 1) 0 })
+  unfolding fromByte toByte
+  bytes-original is = record { start-is = rw is; end-is = rw is }
+
+  pub bytes-normalized : side ≡ Normalized → BytesAre starts ends shift side sum a b (record { start = sum; end = sum + (b - a) })
+  unfolding fromByte toByte
+  bytes-normalized is = record { start-is = rw is; end-is = rw is }
+
+-- a byte inside the text, and its character
+pub cursor-at : {most : ℕ} {s : List ℕ} {at index : ℕ} → length s ≤ most → at < length s → index ≡ indexOf s at → IndexKnown most s at index
+cursor-at short below is = record { short = short; inside = omega arith; so-far = is }
+
+module _ {most : ℕ} (s : List ℕ) (a e : ℕ) {first last : Cursor} (known : BothKnown most s first last) where
+  pub unmapped : length s ≤ a → Stepped most s Char a e (record { start = a; end = e; first = first; last = last })
+  unfolding startNumber endNumber pairOf
+  unmapped past = record { start-is = rw (le-ltb a (length s) past); end-is = rw (le-ltb a (length s) past); known = known }
+
+  pub mapped-chars : {i j : ℕ} → a < length s → i ≡ indexOf s a → j ≡ endIndex s a e → Stepped most s Char a e (record { start = i; end = j; first = first; last = last })
+  unfolding startNumber endNumber pairOf
+  mapped-chars below f l = record { start-is = rw (lt-ltb a (length s) below) f; end-is = rw (lt-ltb a (length s) below) l; known = known }
+
+  pub in-bytes : {unit : OffsetType} → unit ≡ Byte → Stepped most s unit a e (record { start = a; end = e; first = first; last = last })
+  unfolding startNumber endNumber
+  in-bytes is = record { start-is = rw is; end-is = rw is; known = known }
+
+pub in-characters : {most : ℕ} {s : List ℕ} {a e : ℕ} {r : Offsets} {unit : OffsetType} → unit ≡ Char → Stepped most s Char a e r → Stepped most s unit a e r
+in-characters is step = rw is step

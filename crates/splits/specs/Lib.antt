@@ -1,0 +1,3 @@
+-- Split offsets (RULES 13).
+pub mod SplitOffsets
+pub mod Steps

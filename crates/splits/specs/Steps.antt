@@ -1,0 +1,87 @@
+-- What the inner functions of `get_splits` are told and say: one piece after the other, by its cleaned start and end.
+use Prim.Native.Nat.{ℕ, _+_, _-_, _≤_, _<_}
+use mathlib.Core.Path.{_≡_}
+use mathlib.Core.Bool.{Bool, true, false, _&&_}
+use mathlib.Core.List.{List, [], _∷_}
+use lib.Dec.{leb, ltb}
+use lib.ListN.{length, getD, take}
+use Rattle.buffers.specs.Splice.{overlay}
+use Rattle.char_offsets.specs.Steps.{IndexKnown}
+use Rattle.convert.specs.declared.OffsetReferential.{OffsetReferential}
+use Rattle.convert.specs.declared.OffsetReferential.the-variants.{Original, Normalized}
+use Rattle.splits.specs.declared.OffsetType.{OffsetType}
+use Rattle.splits.specs.declared.Bytes.{Bytes}
+use Rattle.splits.specs.declared.Cursor.{Cursor}
+use Rattle.splits.specs.declared.Offsets.{Offsets}
+use Rattle.splits.specs.SplitOffsets.{startNumber, endNumber}
+
+-- the bytes of a piece a..b, from the sum of the sizes before it on
+unfoldable pub fromByte : List ℕ → ℕ → OffsetReferential → ℕ → ℕ → ℕ
+fromByte starts shift Original sum a = shift + getD starts a 0
+fromByte starts shift Normalized sum a = sum
+
+unfoldable pub toByte : List ℕ → ℕ → OffsetReferential → ℕ → ℕ → ℕ → ℕ
+toByte ends shift Original sum a b = shift + getD ends (b - 1) 0
+toByte ends shift Normalized sum a b = sum + (b - a)
+
+-- a piece that has a byte, behind pieces of that sum
+pub record Piece (most : ℕ) (starts ends : List ℕ) (shift sum a b : ℕ) : Type 0 where
+  pub some : a < b
+  pub behind : sum ≤ a
+  pub in-starts : b ≤ length starts
+  pub in-ends : b ≤ length ends
+  pub few : length starts ≤ most
+  pub low : shift ≤ most
+
+pub record BytesAre (starts ends : List ℕ) (shift : ℕ) (side : OffsetReferential) (sum a b : ℕ)
+    (r : Bytes) : Type 0 where
+  pub start-is : r .start ≡ fromByte starts shift side sum a
+  pub end-is : r .end ≡ toByte ends shift side sum a b
+
+-- a byte of the transcript whose character is known
+abbrev pub Known : ℕ → List ℕ → Cursor → Type 0
+Known most s c = IndexKnown most s (c .at) (c .index)
+
+-- two of them
+pub record BothKnown (most : ℕ) (s : List ℕ) (first last : Cursor) : Type 0 where
+  pub first-known : Known most s first
+  pub last-known : Known most s last
+
+-- the numbers of two bytes, and the characters that are known then
+pub record Stepped (most : ℕ) (s : List ℕ) (unit : OffsetType) (a e : ℕ) (r : Offsets) : Type 0 where
+  pub start-is : r .start ≡ startNumber s unit a e
+  pub end-is : r .end ≡ endNumber s unit a e
+  pub known : BothKnown most s (r .first) (r .last)
+
+-- pieces inside a text of `size` bytes, each with a byte, one behind the other from `at` on
+unfoldable pub inOrder : ℕ → ℕ → List ℕ → List ℕ → Bool
+inOrder size at [] [] = true
+inOrder size at [] (b ∷ to) = false
+inOrder size at (a ∷ from) [] = false
+inOrder size at (a ∷ from) (b ∷ to) = leb at a && ltb a b && leb b size && inOrder size b from to
+
+-- a number for each piece
+unfoldable pub eachSpan : (ℕ → ℕ → ℕ) → List ℕ → List ℕ → ℕ → OffsetReferential → ℕ → List ℕ → List ℕ → List ℕ
+eachSpan number starts ends shift side sum [] to = []
+eachSpan number starts ends shift side sum (a ∷ from) [] = []
+eachSpan number starts ends shift side sum (a ∷ from) (b ∷ to) =
+    number (fromByte starts shift side sum a) (toByte ends shift side sum a b)
+    ∷ eachSpan number starts ends shift side (sum + (b - a)) from to
+
+-- the first `count` of two columns are such pieces of a note within the limit
+pub record SpansReady (most : ℕ) (original starts ends : List ℕ) (shift count : ℕ) (from to : List ℕ) : Type 0 where
+  pub short : length original ≤ most
+  pub low : shift ≤ most
+  pub few : length starts ≤ most
+  pub one-end : length ends ≡ length starts
+  pub starts-room : count ≤ length from
+  pub ends-room : count ≤ length to
+  pub ordered : inOrder (length starts) 0 (take count from) (take count to) ≡ true
+
+-- and become their numbers
+pub record SpansConverted (original starts ends : List ℕ) (shift : ℕ) (side : OffsetReferential) (unit : OffsetType)
+    (count : ℕ) (from₀ to₀ from to : List ℕ) : Type 0 where
+  pub starts-are : from ≡ overlay
+      (eachSpan (startNumber original unit) starts ends shift side 0 (take count from₀) (take count to₀)) from₀
+  pub ends-are : to ≡ overlay
+      (eachSpan (endNumber original unit) starts ends shift side 0 (take count from₀) (take count to₀)) to₀

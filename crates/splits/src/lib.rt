@@ -1,0 +1,266 @@
+// Split offsets (RULES 13; Rust: `PreTokenizedString::get_splits`, without tokens): where the pieces of a note stand.
+use behaviors::EmptyPieces;
+use behaviors::SplitDelimiterBehavior;
+use behaviors::measure;
+use behaviors::wide::write_spans;
+use buffers::Offset;
+use char_offsets::index_from;
+use checks::check_note;
+use checks::least_of_two;
+use convert::OffsetReferential;
+use note::Refusal;
+use note::Verdict;
+use note::answers::refused_if;
+use pattern::covers;
+ghost use mathlib.Core.Path.{_≡_};
+ghost use Rattle.note.specs.Notes.{lent, limit};
+ghost use Rattle.note.specs.Refusals.{verdict};
+ghost use Rattle.splits.specs.declared.OffsetType.the-variants.{Char};
+ghost use Rattle.splits.specs.SplitOffsets.{GetSplits, splitsFaults};
+ghost use Rattle.splits.specs.Steps.{BothKnown, BytesAre, Piece, SpansConverted, SpansReady, Stepped};
+
+// What offsets count (Rust: `OffsetType`).
+pub enum OffsetType {
+    Byte,
+    Char,
+}
+
+// What `get_splits` says: how many pieces there are; or why there are none.
+pub enum Splits {
+    Listed(usize),
+    Refused(Refusal),
+}
+
+// Where a piece stands, in bytes.
+pub struct Bytes {
+    pub start: u32,
+    pub end: u32,
+}
+
+// A byte of the transcript whose character is known.
+pub struct Cursor {
+    pub at: usize,
+    pub index: u32,
+}
+
+// Where a piece stands, in what was asked; and a byte near each of its ends whose character is known.
+pub struct Offsets {
+    pub start: u32,
+    pub end: u32,
+    pub first: Cursor,
+    pub last: Cursor,
+}
+
+// The bytes of the piece from..to of the cleaned text, behind pieces of `sum` bytes.
+fn piece_bytes(
+    starts: &[Offset],
+    ends: &[Offset],
+    original_shift: u32,
+    side: OffsetReferential,
+    sum: u32,
+    from: u32,
+    to: u32,
+) -> Bytes
+    requires { ⌜ Piece limit (now starts) (now ends) «original_shift» sum from to ⌝ }
+    ensures { λ r. ⌜ BytesAre (now (starts .entry)) (now (ends .entry)) «original_shift» side sum from to r ⌝ }
+{
+    match side {
+        OffsetReferential::Original => {
+            let first = from as usize;
+            let past = to as usize;
+            Bytes {
+                start: original_shift + starts[first] as u32,
+                end: original_shift + ends[past - 1] as u32,
+            }
+        }
+        OffsetReferential::Normalized => Bytes {
+            start: sum,
+            end: sum + (to - from),
+        },
+    }
+}
+
+// Two bytes as characters of the text; the bytes themselves where the text has none at `start`. Starts and ends have a
+// byte each to go on from: along pieces neither goes back, so that a list takes one pass.
+fn in_chars(text: &[u8], first: Cursor, last: Cursor, start: u32, end: u32) -> Offsets
+    requires { ⌜ BothKnown limit (now text) first last ⌝ }
+    ensures { λ r. ⌜ Stepped limit (now (text .entry)) Char start end r ⌝ }
+{
+    let from = start as usize;
+    let to = end as usize;
+    if text.len() <= from {
+        return Offsets {
+            start,
+            end,
+            first,
+            last,
+        };
+    }
+    let index = index_from(text, first.at, first.index, from);
+    let first = Cursor { at: from, index };
+    if text.len() < to {
+        return Offsets {
+            start: index,
+            end: index + 2,
+            first,
+            last,
+        };
+    }
+    if to == text.len() {
+        let before = index_from(text, last.at, last.index, to - 1);
+        return Offsets {
+            start: index,
+            end: before + 1,
+            first,
+            last: Cursor {
+                at: to - 1,
+                index: before,
+            },
+        };
+    }
+    let past = index_from(text, last.at, last.index, to);
+    Offsets {
+        start: index,
+        end: past,
+        first,
+        last: Cursor {
+            at: to,
+            index: past,
+        },
+    }
+}
+
+// Two bytes in what was asked.
+fn in_unit(
+    text: &[u8],
+    unit: OffsetType,
+    first: Cursor,
+    last: Cursor,
+    start: u32,
+    end: u32,
+) -> Offsets
+    requires { ⌜ BothKnown limit (now text) first last ⌝ }
+    ensures { λ r. ⌜ Stepped limit (now (text .entry)) unit start end r ⌝ }
+{
+    match unit {
+        OffsetType::Byte => Offsets {
+            start,
+            end,
+            first,
+            last,
+        },
+        OffsetType::Char => in_chars(text, first, last, start, end),
+    }
+}
+
+// The cleaned starts and ends of pieces, in front of the two columns, become the offsets that were asked.
+fn convert_spans(
+    original: &[u8],
+    starts: &[Offset],
+    ends: &[Offset],
+    original_shift: u32,
+    side: OffsetReferential,
+    unit: OffsetType,
+    count: usize,
+    out_starts: &mut [u32],
+    out_ends: &mut [u32],
+)
+    requires { ⌜ SpansReady limit (now original) (now starts) (now ends) «original_shift» count
+        (now «out_starts») (now «out_ends») ⌝ }
+    ensures { λ _. ⌜ SpansConverted (now (original .entry)) (now (starts .entry)) (now (ends .entry)) «original_shift»
+        side unit count (now («out_starts» .entry)) (now («out_ends» .entry))
+        (now («out_starts» .exit)) (now («out_ends» .exit)) ⌝ }
+{
+    let mut first = Cursor { at: 0, index: 0 };
+    let mut last = Cursor { at: 0, index: 0 };
+    let mut sum: u32 = 0;
+    let mut k = 0;
+    while k < count {
+        let from = out_starts[k];
+        let to = out_ends[k];
+        let bytes = piece_bytes(starts, ends, original_shift, side, sum, from, to);
+        let offsets = in_unit(original, unit, first, last, bytes.start, bytes.end);
+        out_starts[k] = offsets.start;
+        out_ends[k] = offsets.end;
+        first = offsets.first;
+        last = offsets.last;
+        sum += to - from;
+        k += 1;
+    }
+}
+
+// What `get_splits` says of a note and a list beside the room that is lent.
+fn check_splits(
+    original: &[u8],
+    normalized: &[u8],
+    starts: &[Offset],
+    ends: &[Offset],
+    original_shift: u32,
+    list: &[u8],
+    behavior: SplitDelimiterBehavior,
+    room: usize,
+) -> Verdict
+    ensures { λ r. ⌜ r ≡ verdict (splitsFaults limit
+        (lent (now (original .entry)) (now (normalized .entry))
+        (now (starts .entry)) (now (ends .entry)) «original_shift») (now (list .entry)) behavior room) ⌝ }
+{
+    if let Verdict::Refused(k) = check_note(original, normalized, starts, ends, original_shift) {
+        return Verdict::Refused(k);
+    }
+    if !covers(normalized, list) {
+        return Verdict::Refused(Refusal::BadMatches);
+    }
+    let sizes = measure(list, behavior, EmptyPieces::Dropped);
+    refused_if(room < sizes.pieces, Refusal::NoRoom)
+}
+
+// The offsets of the pieces that a list and a behaviour give, of which empty ones are dropped, stand in front of the
+// two columns. Refusals: those of a note, then `BadMatches`, `NoRoom`.
+pub fn get_splits(
+    original: &[u8],
+    normalized: &[u8],
+    starts: &[Offset],
+    ends: &[Offset],
+    original_shift: u32,
+    list: &[u8],
+    behavior: SplitDelimiterBehavior,
+    side: OffsetReferential,
+    unit: OffsetType,
+    out_starts: &mut [u32],
+    out_ends: &mut [u32],
+) -> Splits
+    ensures { λ r. ⌜ GetSplits limit
+        (lent (now (original .entry)) (now (normalized .entry))
+        (now (starts .entry)) (now (ends .entry)) «original_shift») (now (list .entry)) behavior side unit
+        (now («out_starts» .entry)) (now («out_ends» .entry))
+        r (now («out_starts» .exit)) (now («out_ends» .exit)) ⌝ }
+{
+    let room = least_of_two(out_starts.len(), out_ends.len());
+    match check_splits(
+        original,
+        normalized,
+        starts,
+        ends,
+        original_shift,
+        list,
+        behavior,
+        room,
+    ) {
+        Verdict::Refused(k) => Splits::Refused(k),
+        Verdict::Accepted => {
+            let count = write_spans(list, behavior, EmptyPieces::Dropped, out_starts, out_ends);
+            convert_spans(
+                original,
+                starts,
+                ends,
+                original_shift,
+                side,
+                unit,
+                count,
+                out_starts,
+                out_ends,
+            );
+            Splits::Listed(count)
+        }
+    }
+}
