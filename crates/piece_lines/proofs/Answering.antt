@@ -13,6 +13,7 @@ use Rattle.note.specs.declared.Refusal.the-variants.{BadScript, TooLong}
 use Rattle.note.specs.declared.Refusal.{Refusal}
 use Rattle.note.specs.Refusals.{numberOf, verdict}
 use Rattle.note.proofs.Numbers.{numberOf-small}
+use Rattle.buffers.proofs.Splice.{splice-overlay, overlay-long}
 use Rattle.numbers.specs.Decimal.{field}
 use Rattle.numbers.proofs.Decimal.{field-bounded-5}
 use Rattle.behaviors.specs.declared.SplitDelimiterBehavior.{SplitDelimiterBehavior}
@@ -130,3 +131,9 @@ kept-whole input short is = record { head-is = sym (take-all kept input short); 
 
 pub kept-front : (input : List ℕ) {seen : Seen} → seen ≡ scanned (Literal 0) input → Kept input (take kept input) seen
 kept-front input is = record { head-is = refl; seen-is = is }
+
+-- what is printed lies within the buffer
+pub printed-within : {p d₀ d : List ℕ} {r : ℕ} → Laid p d₀ 0 r d → r ≤ length d
+printed-within {p} {d₀} l =
+    let size = overlay-long p d₀ in
+    omega (arith, l .reach, size, ap length (l .holds ∙ splice-overlay d₀ p))

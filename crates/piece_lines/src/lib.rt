@@ -37,7 +37,14 @@ pub const KEPT: usize = 2 * LONGEST + 4;
 const SPANS: usize = 2 * LONGEST + 1;
 
 // Room for what is printed.
-pub const PRINTED: usize = 13 + 13 * SPANS + LONGEST;
+const PRINTED: usize = 13 + 13 * SPANS + LONGEST;
+
+// Zeros for what is printed.
+pub fn out_buffer() -> [u8; PRINTED]
+    ensures { λ r. ⌜ most ≡ length r ⌝ }
+{
+    [0; PRINTED]
+}
 
 // Zeros for the places of a note.
 fn list_buffer() -> [u8; MOST * SPANS]

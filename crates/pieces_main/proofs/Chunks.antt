@@ -1,12 +1,10 @@
 -- Laws of `Behind`: chunk after chunk, and what is kept of an input that was read so.
 use Prim.Native.Nat.{ℕ, _+_, _≤_, _<_}
-use mathlib.Core.Path.{_≡_, _∙_, ap, refl, sym}
+use mathlib.Core.Path.{_≡_, _∙_, refl, sym}
 use mathlib.Core.List.{List, [], _++_}
 use native.Mathlib.Omega.{arith}
 use lib.ListN.{length, take, length-take}
 use lib.Seq.{take-at, length-take-le}
-use Rattle.buffers.specs.Splice.{Laid}
-use Rattle.buffers.proofs.Splice.{splice-overlay, overlay-long}
 use Rattle.piece_lines.specs.declared.input.Seen.{Seen}
 use Rattle.piece_lines.specs.declared.input.Seen.the-variants.{Literal}
 use Rattle.piece_lines.specs.Scanning.{scanned, kept, Kept, Keeps}
@@ -48,9 +46,3 @@ long-kept head n full within same e b =
         seen-is = b .is ∙ rw e (sym (scanned-on (Literal 0) (take n head) (b .bytes)));
       };
     }
-
--- what is printed lies within the buffer
-pub printed-within : {p d₀ d : List ℕ} {r : ℕ} → Laid p d₀ 0 r d → r ≤ length d
-printed-within {p} {d₀} l =
-    let size = overlay-long p d₀ in
-    omega (arith, l .reach, size, ap length (l .holds ∙ splice-overlay d₀ p))

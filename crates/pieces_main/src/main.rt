@@ -2,15 +2,14 @@
 // What is printed comes from `piece_lines`; here the input is read to its end, and that is written.
 use libc::STDOUT_FILENO;
 use piece_lines::KEPT;
-use piece_lines::PRINTED;
 use piece_lines::answer;
 use piece_lines::input::Seen;
 use piece_lines::input::scan;
+use piece_lines::out_buffer;
 use standard_input::Input;
 use standard_input::fill;
 ghost use mathlib.Core.Path.{_≡_};
 ghost use lib.ListN.{length};
-ghost use Rattle.piece_lines.specs.Printing.{most};
 ghost use Rattle.piece_lines.specs.Scanning.{kept, Keeps};
 ghost use Rattle.pieces_main.specs.Reading.{Onward};
 
@@ -29,13 +28,6 @@ fn head_buffer() -> [u8; KEPT]
     ensures { λ r. ⌜ kept ≡ length r ⌝ }
 {
     [0; KEPT]
-}
-
-// Zeros for what is printed.
-fn out_buffer() -> [u8; PRINTED]
-    ensures { λ r. ⌜ most ≡ length r ⌝ }
-{
-    [0; PRINTED]
 }
 
 // One chunk more.

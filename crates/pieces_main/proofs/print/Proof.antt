@@ -2,7 +2,7 @@
 use mathlib.Core.Path.{sym}
 use lib.Seq.{length-take-le}
 use borrow.Author.Needs.{needs}
-use Rattle.pieces_main.proofs.Chunks.{printed-within}
+use Rattle.piece_lines.proofs.Answering.{printed-within}
 use Rattle.pieces_main.proofs.print.Statement.{statement}
 use Rattle.pieces_main.proofs.print.Tie as tie
 
