@@ -13,7 +13,7 @@ use Rattle.behaviors.specs.declared.SplitDelimiterBehavior.the-variants.
   Contiguous,
 }
 use Rattle.behaviors.specs.declared.EmptyPieces.the-variants.{Kept}
-use Rattle.behaviors.specs.Splits.{unremoved, pieces}
+use Rattle.behaviors.specs.Splits.{pieces}
 
 -- whether a place belongs to one piece with the place straight before it, by whether that one and this one matched
 unfoldable pub joins : SplitDelimiterBehavior → Bool → Bool → Bool

@@ -1,8 +1,8 @@
 -- Laws of `cut`: a piece's slice by its two cleaned numbers, and the six columns of the pieces by theirs.
-use Prim.Native.Nat.{ℕ, zero, suc, _+_, _-_, _≤_, _<_}
+use Prim.Native.Nat.{ℕ, zero, suc, _-_, _≤_, _<_}
 use mathlib.Core.Path.{_≡_, _∙_, ap, refl, sym}
-use mathlib.Core.Bool.{true, false}
-use mathlib.Core.List.{List, [], _∷_, _++_, map, flatMap}
+use mathlib.Core.Bool.{true}
+use mathlib.Core.List.{List, [], _∷_, map, flatMap}
 use native.Mathlib.Omega.{arith}
 use lib.ListN.{length, getD, length-append, length-map}
 use Rattle.buffers.specs.Splice.{part}
@@ -13,11 +13,11 @@ use Rattle.note.proofs.Sound.{length-starts, length-ends, inside-at}
 use Rattle.convert.specs.declared.Converted.the-variants.{Found}
 use Rattle.convert.specs.Converting.{inOriginal, inNormalized}
 use Rattle.convert.proofs.Conversions.{expanded-inside}
-use Rattle.get_range.specs.Reading.{asOriginal, asNormalized}
+use Rattle.get_range.specs.Reading.{asOriginal}
 use Rattle.pattern.specs.declared.Place.{Place}
 use Rattle.pattern.specs.Places.{coversFrom}
 use Rattle.pattern.proofs.Places.{Span, covers-span, covers-rest}
-use Rattle.slice.specs.Slicing.{sliceOf, sliced, lowered, slicedColumn}
+use Rattle.slice.specs.Slicing.{sliceOf, sliced, slicedColumn}
 use Rattle.slice.proofs.Lowered.{length-lowered}
 use Rattle.slice.proofs.Cutting.{original-empty, original-found, normalized-own, alignments-on}
 use Rattle.behaviors.specs.declared.SplitDelimiterBehavior.{SplitDelimiterBehavior}
@@ -26,7 +26,7 @@ use Rattle.behaviors.specs.Splits.{isPiece, remaining, splits, pieces}
 use Rattle.behaviors.specs.Joining.{startsOf, endsOf}
 use Rattle.behaviors.specs.Runs.{bytesOf}
 use Rattle.behaviors.proofs.Gathered.{splits-cover}
-use Rattle.split.specs.Splitting.{pieceOf, transcriptLength, cut, cutBy}
+use Rattle.split.specs.Splitting.{pieceOf, transcriptLength, cut}
 use Rattle.split.specs.Writing.{fromStart, toEnd, shiftOf, lengthOf, columnOf, joined, Inside, Spans}
 use Rattle.split.proofs.Joined.{start-empty, start-read, end-empty, end-read}
 

@@ -1,40 +1,35 @@
 -- The proof of `PieceIsSlice`: the slice of a piece's cleaned range is accepted, and what is written of the piece is what the slice writes.
 use Prim.Native.Nat.{ℕ, zero, suc, _+_, _-_, _≤_, _<_, min}
 use mathlib.Core.Path.{_≡_, _∙_, ap, refl, sym}
-use mathlib.Core.Bool.{Bool, true, false, _&&_, _||_, not}
+use mathlib.Core.Bool.{true, not}
 use mathlib.Core.List.{List, [], _∷_, _++_, append-assoc, map, flatMap}
-use mathlib.Mathlib.Data.Bool.Basic.{and-intro}
 use native.Mathlib.Omega.{arith}
-use lib.Dec.{ltb}
-use lib.ListN.{length, getD, take, drop, length-append, length-map}
-use lib.Seq.{take-at, drop-at, drop-drop, take-append-seam}
+use lib.ListN.{length, getD, length-map}
+use lib.Seq.{take-at, drop-at, drop-drop}
 use borrow.Author.Tests.{le-ltb}
 use Rattle.buffers.specs.Splice.{part, overlay}
 use Rattle.buffers.proofs.Cases.{true-or-false}
 use Rattle.buffers.proofs.Splice.{getD-overlay, length-part}
 use Rattle.utf8.specs.Formed.{boundary}
 use Rattle.utf8.proofs.Boundaries.{boundary-zero}
-use Rattle.note.specs.declared.Refusal.{Refusal}
 use Rattle.note.specs.declared.Refusal.the-variants.{NotBoundary, Missing}
 use Rattle.note.specs.declared.Verdict.{Verdict}
-use Rattle.note.specs.declared.Verdict.the-variants.{Accepted, Refused as Rejected}
-use Rattle.note.specs.Refusals.{none, meets, also, verdict, after}
+use Rattle.note.specs.declared.Verdict.the-variants.{Accepted}
+use Rattle.note.specs.Refusals.{none, meets, verdict, after}
 use Rattle.note.specs.Notes.{Note, Sound}
-use Rattle.note.specs.Faults.{noteFaults, roomFaults}
+use Rattle.note.specs.Faults.{noteFaults}
 use Rattle.note.proofs.Verdicts.{accepted-first, both-accepted}
 use Rattle.note.proofs.Faults.{enough-room}
 use Rattle.note.proofs.Sound.{length-starts, length-ends, normalized-formed}
-use Rattle.convert.specs.Converting.{inOriginal, inNormalized}
-use Rattle.convert.specs.declared.Converted.the-variants.{Found}
-use Rattle.get_range.specs.Reading.{asOriginal, asNormalized}
+use Rattle.convert.specs.Converting.{inNormalized}
 use Rattle.pattern.specs.declared.Place.{Place}
-use Rattle.pattern.specs.Places.{coversFrom, listFaults}
+use Rattle.pattern.specs.Places.{coversFrom}
 use Rattle.pattern.specs.Entries.{placesOf}
 use Rattle.pattern.proofs.Places.{Span, covers-span, covers-rest}
 use Rattle.slice.specs.declared.NoteSlice.{NoteSlice}
 use Rattle.slice.specs.declared.Sliced.{Sliced}
 use Rattle.slice.specs.declared.Sliced.the-variants.{Cut as Slice}
-use Rattle.slice.specs.Slicing.{valid, sliceOf, sliced, lowered, slicedColumn, sliceSize, unplaced, sliceMissing, sliceFaults, slicedUnlessRefused, normalizedStart, normalizedEnd, Slicing}
+use Rattle.slice.specs.Slicing.{valid, sliceOf, sliced, slicedColumn, sliceSize, unplaced, sliceMissing, sliceFaults, slicedUnlessRefused, normalizedStart, normalizedEnd, Slicing}
 use Rattle.slice.proofs.Lowered.{length-lowered}
 use Rattle.slice.proofs.Cutting.{normalized-own}
 use Rattle.behaviors.specs.declared.SplitDelimiterBehavior.{SplitDelimiterBehavior}
@@ -45,8 +40,8 @@ use Rattle.behaviors.specs.Runs.{listPieces}
 use Rattle.behaviors.proofs.Gathered.{splits-cover}
 use Rattle.split.specs.declared.Pieces.the-variants.{Cut}
 use Rattle.split.specs.Splitting.{Columns, pieceOf, transcriptLength, cut, cutBy, splitFaults, pieceRoom, alignmentRoom, Splitting}
-use Rattle.split.specs.PieceSlices.{bytesBefore, stretchOf, IsPiece, Answers, PieceIsSlice}
-use Rattle.split.specs.Writing.{fromStart, toEnd, Inside, Spans}
+use Rattle.split.specs.PieceSlices.{bytesBefore, stretchOf, Answers, PieceIsSlice}
+use Rattle.split.specs.Writing.{fromStart, Inside, Spans}
 use Rattle.split.proofs.Cuts.{in-original, sliced-as, spans-first, spans-rest}
 use Rattle.split.proofs.Judged.{cut-told, count-told, cut-sound, cut-covered, cut-spans}
 
