@@ -8,6 +8,7 @@ mod layouts;
 mod notes;
 mod replace;
 mod slice;
+mod split;
 
 use crate::tally::Report;
 use layouts::{Marked, Texts};
@@ -34,6 +35,7 @@ pub fn measure() -> ExitCode {
     println!("\nFrom here on what is freed stays with the process: theirs takes no fresh pages from the system.");
     replace::bench(&mut bench);
     slice::bench(&mut bench);
+    split::bench(&mut bench);
     println!();
     bench.report.finish()
 }
