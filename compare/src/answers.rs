@@ -4,6 +4,7 @@
 //! they are written here.
 
 mod calls;
+mod cutting;
 mod slicing;
 
 use crate::characters::{self, sequences};
@@ -24,7 +25,7 @@ const FOLDER: &str = "crates/replay/data";
 
 pub fn write() -> ExitCode {
     let lists = [well_formed(), letter_counts(), starting_notes(), checked_notes()];
-    for answers in lists.into_iter().chain(calls::answers()).chain([slicing::slices()]) {
+    for answers in lists.into_iter().chain(calls::answers()).chain([slicing::slices()]).chain(cutting::answers()) {
         let path = format!("{FOLDER}/{}", answers.name);
         std::fs::write(&path, answers.file()).unwrap_or_else(|error| panic!("{path}: {error}"));
         println!("{answers}");

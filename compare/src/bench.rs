@@ -8,6 +8,7 @@ mod layouts;
 mod notes;
 mod replace;
 mod slice;
+mod split;
 
 use crate::tally::Report;
 use layouts::{Marked, Texts};
@@ -35,6 +36,7 @@ pub fn measure(word: String) -> ExitCode {
     heap::keep_what_is_freed();
     replace::bench(&mut bench);
     slice::bench(&mut bench);
+    split::bench(&mut bench);
     println!(
         "\n| Mixed text: µs at so many bytes | {} | Of linear, ≤ {LINEAR} |",
         layouts::SIZES.map(|size| size.to_string()).join(" | ")

@@ -7,16 +7,18 @@ mod office;
 mod positions;
 mod replacing;
 mod slicing;
+mod splitting;
 
-use crate::library::{self, Offsets, Publishing};
+use crate::library::{self, Cutting, Offsets, Publishing};
 use crate::note::Note;
 use crate::places::{self, Place};
+use crate::split;
 use crate::tally::{Report, Tally};
 use crate::texts::LIMIT;
 use std::fmt::Debug;
 use std::ops;
 use std::panic::{self, AssertUnwindSafe};
-use tokenizers::normalizer::Range;
+use tokenizers::normalizer::{Range, SplitDelimiterBehavior};
 use tokenizers::{NormalizedString, Offsets as Pair};
 
 pub fn compare(report: &mut Report) {
@@ -28,6 +30,7 @@ pub fn compare(report: &mut Report) {
         positions::compare(tally);
         replacing::compare(tally);
         slicing::compare(tally);
+        splitting::compare(tally);
     });
     report.call("limits that the original does not have", "its code", limits::compare);
     report.call("docs/OFFICE.md", "this library", office::compare);
@@ -98,6 +101,37 @@ fn sliced_here(note: &Note, range: Range<ops::Range<usize>>) -> Result<Note, u32
     starts.truncate(normalized.len());
     ends.truncate(normalized.len());
     Ok(Note { original, normalized, starts, ends, original_shift: answer.original_shift })
+}
+
+/// Where this library cuts the cleaned text, or its refusal.
+fn split_here(note: &Note, list: &[u8], behavior: SplitDelimiterBehavior, drop_empty: bool) -> Result<Vec<Pair>, u32> {
+    let [mut starts, mut ends, mut lengths] = [(); 3].map(|()| vec![0; 100]);
+    let [mut alignment_starts, mut alignment_ends] = [(); 2].map(|()| vec![0; 100]);
+    let out = Cutting {
+        starts: &mut starts,
+        ends: &mut ends,
+        shifts: &mut [0; 100],
+        lengths: &mut lengths,
+        alignment_starts: &mut alignment_starts,
+        alignment_ends: &mut alignment_ends,
+    };
+    let answer = library::split(note, list, split::number(behavior), drop_empty, out);
+    if answer.refusal > 0 {
+        return Err(answer.refusal);
+    }
+    let places = starts.into_iter().zip(ends).take(answer.pieces as usize);
+    Ok(places.map(|(start, end)| (start.into(), end.into())).collect())
+}
+
+/// The split offsets that this library answers, or its refusal.
+fn splits_here(note: &Note, list: &[u8], behavior: SplitDelimiterBehavior, way: [bool; 2]) -> Result<Vec<Pair>, u32> {
+    let (mut starts, mut ends) = ([0; 100], [0; 100]);
+    let answer = library::get_splits(note, list, split::number(behavior), way, &mut starts, &mut ends);
+    if answer.refusal > 0 {
+        return Err(answer.refusal);
+    }
+    let offsets = starts.into_iter().zip(ends).take(answer.count as usize);
+    Ok(offsets.map(|(start, end)| (start as usize, end as usize)).collect())
 }
 
 fn lengths(tally: &mut Tally) {

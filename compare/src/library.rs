@@ -80,6 +80,10 @@ calls! {
     ) -> Count;
     fn zulmyren_published_alike(note, note, read u8, read u8) -> Comparison;
     fn zulmyren_slice(note, plain bool, plain u32, plain u32, write u16, write u16) -> Sliced;
+    fn zulmyren_split(
+        note, read u8, plain u32, plain bool, write u16, write u16, write u32, write u16, write u16, write u16
+    ) -> Cut;
+    fn zulmyren_get_splits(note, read u8, plain u32, plain bool, plain bool, write u32, write u32) -> Listed;
 }
 
 #[repr(C)]
@@ -152,7 +156,16 @@ impl Sliced {
     }
 }
 
-/// The answer of finding: a refusal, or how many bytes the list has.
+/// How many pieces there are, and how many alignments they have in all; or a refusal beside 0.
+#[repr(C)]
+#[derive(Clone, Copy, Debug, PartialEq, Eq)]
+pub struct Cut {
+    pub refusal: u32,
+    pub pieces: usize,
+    pub alignments: usize,
+}
+
+/// The answer of finding: a refusal, or how many bytes the list has; of split offsets, how many pieces there are.
 #[repr(C)]
 pub struct Listed {
     pub refusal: u32,
@@ -177,6 +190,16 @@ pub struct Publishing<'a> {
     pub text: &'a mut [u8],
     pub starts: &'a mut [u16],
     pub ends: &'a mut [u16],
+}
+
+/// The buffers lent for pieces: a number of each for every piece, and two for every alignment.
+pub struct Cutting<'a> {
+    pub starts: &'a mut [u16],
+    pub ends: &'a mut [u16],
+    pub shifts: &'a mut [u32],
+    pub lengths: &'a mut [u16],
+    pub alignment_starts: &'a mut [u16],
+    pub alignment_ends: &'a mut [u16],
 }
 
 /// The buffers lent to `redact`: for the starting note's columns, the list, and the published note.
@@ -257,4 +280,26 @@ pub fn published_alike(one: &Note, other: &Note, list: &[u8], filler: &[u8]) -> 
 
 pub fn slice(note: &Note, of_original: bool, (start, end): (u32, u32), starts: &mut [u16], ends: &mut [u16]) -> Sliced {
     unsafe { lend!(zulmyren_slice; note note, plain of_original, plain start, plain end, write starts, write ends) }
+}
+
+pub fn split(note: &Note, list: &[u8], behavior: u32, drop_empty: bool, out: Cutting) -> Cut {
+    unsafe {
+        lend!(zulmyren_split; note note, read list, plain behavior, plain drop_empty, write out.starts, write out.ends,
+            write out.shifts, write out.lengths, write out.alignment_starts, write out.alignment_ends)
+    }
+}
+
+pub fn get_splits(
+    note: &Note,
+    list: &[u8],
+    behavior: u32,
+    [of_original, characters]: [bool; 2],
+    starts: &mut [u32],
+    ends: &mut [u32],
+) -> Count {
+    let answer = unsafe {
+        lend!(zulmyren_get_splits; note note, read list, plain behavior, plain of_original, plain characters,
+            write starts, write ends)
+    };
+    Count::from(answer)
 }

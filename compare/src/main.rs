@@ -1,5 +1,5 @@
-//! Compares the proved library and the program `redact` with the Rust original, call by call, measures the library
-//! (`bench`), and writes the list of the original's answers that crates/replay replays (`list`).
+//! Compares the proved library and the programs `redact` and `pieces` with the Rust original, call by call, measures
+//! the library (`bench`), and writes the list of the original's answers that crates/replay replays (`list`).
 //! Each module of calls has a file whose function `compare` has the families; the bench's tables stand below `bench`.
 
 mod answers;
@@ -16,6 +16,7 @@ mod list;
 mod lists;
 mod note;
 mod notes;
+mod pieces;
 mod places;
 mod positions;
 mod program;
@@ -26,6 +27,8 @@ mod refusals;
 mod replace;
 mod samples;
 mod slice;
+mod split;
+mod splits;
 mod tally;
 mod texts;
 
@@ -54,7 +57,10 @@ fn compare() -> ExitCode {
     blanking::compare(&mut report);
     redact::compare(&mut report);
     slice::compare(&mut report);
+    split::compare(&mut report);
+    splits::compare(&mut report);
     program::compare(&mut report);
+    pieces::compare(&mut report);
     comments::compare(&mut report);
     report.finish()
 }

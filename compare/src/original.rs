@@ -74,6 +74,18 @@ pub mod pre_tokenizer {
             }
         }
     }
+
+    /// A child module, since only such a one reaches the private fields.
+    mod pieces {
+        use super::PreTokenizedString;
+        use crate::NormalizedString;
+
+        impl PreTokenizedString {
+            pub fn pieces(&self) -> impl Iterator<Item = &NormalizedString> {
+                self.splits.iter().map(|split| &split.normalized)
+            }
+        }
+    }
 }
 
 pub mod utils {

@@ -1,8 +1,11 @@
-//! Functions that go between bytes and characters. This library has the converter alone.
+//! Functions that go between bytes and characters. This library has the converter and split offsets alone.
 
-use super::{code_answers, panics};
+use super::{code_answers, panics, splits_here};
 use crate::library::{self, Offsets};
+use crate::note::Note;
+use crate::places;
 use crate::tally::Tally;
+use tokenizers::normalizer::SplitDelimiterBehavior::Isolated;
 use tokenizers::normalizer::{bytes_to_char, char_to_bytes, get_range_of};
 use tokenizers::pre_tokenizer::{Converter, OffsetType, PreTokenizedString};
 use tokenizers::{NormalizedString, OffsetReferential};
@@ -79,8 +82,15 @@ fn splits(tally: &mut Tally) {
     for (transcript, cleaned) in [("é a", "e a"), ("e a", "é a")] {
         let mut note = NormalizedString::from(transcript);
         note.map(|c| if c == ' ' || c == 'a' { c } else { cleaned.chars().next().unwrap_or(c) });
+        let (whole, lent) = (places::bytes(&[((0, note.len()), false)]), Note::from(&note));
+        code_answers(tally, transcript, Ok(vec![(0, 2)]), splits_here(&lent, &whole, Isolated, [false, true]));
         let splits = PreTokenizedString::from(note);
         let splits = splits.get_splits(OffsetReferential::Normalized, OffsetType::Char);
         code_answers(tally, transcript, vec![(cleaned, (0, 2), &None)], splits);
     }
+
+    tally.family("get_splits without a type of offsets gives bytes");
+    let splits = PreTokenizedString::from("é");
+    let splits = splits.get_splits(OffsetReferential::Original, OffsetType::None);
+    code_answers(tally, "é", vec![("é", (0, 2), &None)], splits);
 }
