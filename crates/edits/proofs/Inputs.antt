@@ -1,0 +1,82 @@
+-- Laws of the refusals before an edit: the note's, then those of what is lent beside it.
+use Prim.Native.Nat.{ℕ, _≤_}
+use mathlib.Core.Path.{_≡_, _∙_, ap, refl, sym}
+use mathlib.Core.Bool.{Bool, true, false, cond, _&&_, not}
+use mathlib.Mathlib.Data.Bool.Basic.{and-elim-left, and-elim-right}
+use mathlib.Core.List.{List, []}
+use native.Mathlib.Omega.{arith}
+use lib.Dec.{leb, eqb}
+use lib.ListN.{length}
+use borrow.Author.Tests.{not-true, not-false, leb-true, eq-eqb, ne-eqb}
+use Rattle.utf8.specs.Letters.{letters, leads}
+use Rattle.utf8.proofs.Letters.{letters-leads}
+use Rattle.note.specs.declared.Refusal.{Refusal}
+use Rattle.note.specs.declared.Refusal.the-variants.{BadScript, CountMismatch}
+use Rattle.note.specs.declared.Verdict.{Verdict}
+use Rattle.note.specs.declared.Verdict.the-variants.{Accepted, Refused as Rejected}
+use Rattle.note.specs.Refusals.{also, verdict}
+use Rattle.note.specs.Notes.{Note, fits}
+use Rattle.note.specs.Faults.{noteFaults}
+use Rattle.note.proofs.Verdicts.{refused-then, accepted-then}
+use Rattle.note.proofs.Sound.{normalized-formed}
+use Rattle.note.proofs.Faults.{accepted-sound}
+use Rattle.convert.specs.declared.Range.{Range}
+use Rattle.convert.specs.declared.Converted.{Converted}
+use Rattle.convert.specs.declared.Converted.the-variants.{Found, Refused}
+use Rattle.convert.specs.Converting.{startOf, endOf}
+use Rattle.transform.specs.Edits.{Edit}
+use Rattle.transform.specs.Transforming.{target}
+use Rattle.transform.proofs.Verdicts.{edit-found}
+use Rattle.edits.specs.Characters.{allScalar}
+use Rattle.edits.specs.Whole.{wholeRange, allReplacing, codesFaults, mapEdit}
+
+module _ (most : ℕ) (n : Note) {v : Verdict} (noted : v ≡ verdict (noteFaults most n)) (ok : v ≡ Accepted) where
+  pub note-short : length (n .original) ≤ most
+  unfolding fits
+  note-short =
+      let within = accepted-sound most n (sym noted ∙ ok) .1 in
+      leb-true _ _ (and-elim-left _ (leb (length (n .normalized)) most) (and-elim-left _ _ within))
+
+-- code points
+module _ (most : ℕ) (n : Note) (codes : List ℕ) {v : Verdict} (noted : v ≡ verdict (noteFaults most n)) where
+  pub note-first : {k : Refusal} → v ≡ Rejected k → Rejected k ≡ verdict (also (noteFaults most n) (codesFaults (n .normalized) codes))
+  note-first e = refused-then 4 (noteFaults most n) (codesFaults (n .normalized) codes) refl refl noted e
+
+  module _ (ok : v ≡ Accepted) {t : Bool} (is : t ≡ allScalar codes) where
+    second : {w : Verdict} → w ≡ verdict (codesFaults (n .normalized) codes) → w ≡ verdict (also (noteFaults most n) (codesFaults (n .normalized) codes))
+    second e = accepted-then 4 (noteFaults most n) (codesFaults (n .normalized) codes) refl refl noted ok e
+
+    bad : not t ≡ true → Rejected BadScript ≡ verdict (codesFaults (n .normalized) codes)
+    unfolding verdict
+    bad u = rw (sym is ∙ not-true t u)
+
+    pub bad-codes : not t ≡ true → Rejected BadScript ≡ verdict (also (noteFaults most n) (codesFaults (n .normalized) codes))
+    bad-codes u = second (bad u)
+
+    module _ (u : not t ≡ false) {m : ℕ} (counted : m ≡ leads (n .normalized)) where
+      number : m ≡ letters (n .normalized)
+      number = counted ∙ sym (letters-leads (n .normalized) (normalized-formed n (accepted-sound most n (sym noted ∙ ok) .0)))
+
+      uneven : (length codes ≡ m → ⊥) → Rejected CountMismatch ≡ verdict (codesFaults (n .normalized) codes)
+      unfolding verdict
+      uneven h = rw (sym is ∙ not-false t u, ne-eqb (length codes) (letters (n .normalized)) (λ z. h (z ∙ sym number)))
+
+      even : length codes ≡ m → Accepted ≡ verdict (codesFaults (n .normalized) codes)
+      unfolding verdict
+      even h = rw (sym is ∙ not-false t u, eq-eqb (length codes) (letters (n .normalized)) (h ∙ number))
+
+      pub miscounted : (length codes ≡ m → ⊥) → Rejected CountMismatch ≡ verdict (also (noteFaults most n) (codesFaults (n .normalized) codes))
+      miscounted h = second (uneven h)
+
+      pub well-counted : length codes ≡ m → Accepted ≡ verdict (also (noteFaults most n) (codesFaults (n .normalized) codes))
+      well-counted h = second (even h)
+
+-- the edit that the whole range asks for
+module _ (n : Note) (codes : List ℕ) {x : Converted} (is : x ≡ target (n .starts) (n .ends) (wholeRange n)) where
+  pub map-found : {r : Range} {a b : ℕ} → x ≡ Found r → a ≡ startOf r → b ≡ endOf r → record { from = a; to = b; skip = 0; commands = allReplacing codes } ≡ mapEdit n codes
+  unfolding mapEdit
+  map-found found from to = edit-found 0 (allReplacing codes) is found from to
+
+  pub map-none : {k : Refusal} → x ≡ Refused k → record { from = 0; to = 0; skip = 0; commands = allReplacing [] } ≡ mapEdit n codes
+  unfolding mapEdit allReplacing
+  map-none none = rw (sym is ∙ none)

@@ -1,0 +1,3 @@
+-- Whole-note edits (RULES 8).
+pub mod Characters
+pub mod Whole
