@@ -4,6 +4,7 @@
 mod matches;
 mod notes;
 mod pairs;
+mod printing;
 mod ranges;
 mod texts;
 mod told;
@@ -31,6 +32,7 @@ fn agrees(call: u8, case: &[u8]) -> bool {
         12 => ranges::part(case),
         13 => matches::find_matches(case),
         14 => matches::redact(case),
+        15 => printing::printed(case),
         _ => notes::on_note(call, case),
     }
 }
@@ -97,6 +99,7 @@ fn replay_matches() {
     replay(12, b"part");
     replay(13, b"find_matches");
     replay(14, b"redact");
+    replay(15, b"pieces");
 }
 
 fn main() {
