@@ -1,5 +1,5 @@
 // The program `pieces` (RULES 14.4 to 14.6) without its reading and writing: what it prints, from what is kept of the
-// input.
+// input. Inner functions of the programs: the buffer that they are lent has room for any answer, as `out_buffer` has.
 pub mod input;
 pub mod lines;
 

@@ -4,6 +4,7 @@
 mod matches;
 mod notes;
 mod pairs;
+mod printing;
 mod ranges;
 mod slices;
 mod texts;
@@ -32,6 +33,7 @@ fn agrees(call: u8, case: &[u8]) -> bool {
         12 => ranges::part(case),
         13 => matches::find_matches(case),
         14 => matches::redact(case),
+        18 => printing::printed(case),
         _ => notes::on_note(call, case),
     }
 }
@@ -107,10 +109,15 @@ fn replay_slices() {
     replay(15, b"slice");
 }
 
+fn replay_programs() {
+    replay(18, b"pieces");
+}
+
 fn main() {
     replay_texts();
     replay_notes();
     replay_ranges();
     replay_matches();
     replay_slices();
+    replay_programs();
 }

@@ -1,4 +1,5 @@
-// Standard input, read into a lent buffer. Which bytes come is the system's; how many, and that reading ends, is proved.
+// Standard input, read into a lent buffer. Which bytes come is the system's; how many at most, and that reading ends,
+// is proved.
 ghost use Rattle.standard_input.specs.Counting.{Within};
 
 // What reading answers: how many bytes there are, or that they cannot be read.

@@ -1,0 +1,20 @@
+-- What is printed lies within the buffer.
+use mathlib.Core.Path.{sym}
+use lib.Seq.{length-take-le}
+use borrow.Author.Needs.{needs}
+use Rattle.piece_lines.proofs.Answering.{printed-within}
+use Rattle.replay.proofs.printing.printed.Statement.{statement}
+use Rattle.replay.proofs.printing.printed.Tie as tie
+
+pub printed-spec : {M : Type 1} → statement M
+printed-spec =
+    tie.close
+    (tie.spec
+    (λ c κs. search needs)
+    (λ c κs. search needs)
+    (λ c. search needs)
+    (λ c κs. search needs)
+    (λ c. printed-within (c .before .pieces .ensures))
+    (λ c. sym (length-take-le _ _ (printed-within (c .before .before .pieces .ensures))))
+    (λ c κs. search needs)
+    (λ c. search needs))
