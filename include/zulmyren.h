@@ -18,8 +18,9 @@
  *
  * WHAT THE NUMBERS COUNT
  *   Positions, ranges, alignments, shifts and the lengths of texts count bytes, from 0 at the beginning of the text.
- *   Characters are counted only by the count of zulmyren_letter_count and by what zulmyren_char_offsets and
- *   zulmyren_char_offsets_all answer. In C all of these are plain numbers: the compiler will not tell them apart.
+ *   Characters are counted only by the count of zulmyren_letter_count, by what zulmyren_char_offsets and
+ *   zulmyren_char_offsets_all answer, and by zulmyren_get_splits where they are asked for. In C all of these are plain
+ *   numbers: the compiler will not tell them apart.
  *
  * WHAT A CALL DEMANDS OF THE CALLER (it cannot be checked, and where it does not hold anything may happen)
  *   - A pointer is valid for as many elements as are lent with it. Where that is 0 it may be anything, NULL too.
@@ -207,7 +208,7 @@ zulmyren_sliced zulmyren_slice(
  * an end inside a character; no byte but 11 or 12 begins a place; and no bytes are left over. Empty places are fine; a
  * list without places covers the empty text only. ---- */
 
-/* A length in bytes, or a refusal and 0. */
+/* How many bytes a match list has, or how many pieces there are; or a refusal and 0. */
 typedef struct {
     uint32_t refusal;
     size_t len;
@@ -273,6 +274,57 @@ zulmyren_comparison zulmyren_published_alike(
     const uint16_t *other_starts, size_t other_starts_len, const uint16_t *other_ends, size_t other_ends_len,
     uint32_t other_shift,
     const uint8_t *list, size_t list_len, const uint8_t *content, size_t content_len);
+
+/* ---- Pieces. A match list and a behaviour cut a note into pieces. The behaviour says what becomes of the matched
+ * places:
+ *   1  removed               the pieces are the unmatched places
+ *   2  isolated              every place is a piece
+ *   3  merged with previous  a piece begins at each place, except at a matched one straight behind an unmatched one
+ *   4  merged with next      a piece ends at each place, except at a matched one straight before an unmatched one
+ *   5  contiguous            a piece begins where matched and unmatched places change
+ * Any other number means 5. ---- */
+
+/* How many pieces there are and how many alignments they have together; or a refusal and 0s. */
+typedef struct {
+    uint32_t refusal;
+    size_t pieces;
+    size_t alignments;
+} zulmyren_cut;
+
+/* Cuts a note into pieces (Rust: NormalizedString::split; with drop_empty PreTokenizedString::split, which drops the
+ * pieces that have no byte of the cleaned text). Each piece is what zulmyren_slice gives for its range of the cleaned
+ * text. The first `pieces` elements of four buffers become, for piece i: piece_starts[i]..piece_ends[i], its range of
+ * the cleaned text; piece_shifts[i], its shift; piece_lengths[i], how many bytes its transcript has, which are those
+ * of original from piece_shifts[i] - original_shift on. The first `alignments` elements of out_starts and out_ends
+ * become the alignments of all pieces, one piece behind the other, each number counted from where its piece's
+ * transcript starts.
+ * Refusals: 2, 3, 1, 4, 8, 9.
+ * Room, always enough: list_len / 5 elements in each of the first four, normalized_len in each of the last two. */
+zulmyren_cut zulmyren_split(
+    const uint8_t *original, size_t original_len, const uint8_t *normalized, size_t normalized_len,
+    const uint16_t *starts, size_t starts_len, const uint16_t *ends, size_t ends_len, uint32_t original_shift,
+    const uint8_t *list, size_t list_len, uint32_t behavior, bool drop_empty,
+    uint16_t *piece_starts, size_t piece_starts_len, uint16_t *piece_ends, size_t piece_ends_len,
+    uint32_t *piece_shifts, size_t piece_shifts_len, uint16_t *piece_lengths, size_t piece_lengths_len,
+    uint16_t *out_starts, size_t out_starts_len, uint16_t *out_ends, size_t out_ends_len);
+
+/* Where the pieces stand that have a byte of the cleaned text (Rust: get_splits, without tokens). The first len
+ * elements of out_starts and out_ends become the two numbers of each piece.
+ * - of_original true: its shift, and its shift plus the length of its transcript.
+ * - of_original false: the sum of the lengths of the pieces before it, and this plus its own length. So these are its
+ *   places in the cleaned text, unless behaviour 1 removed something before it.
+ * These count bytes. With in_chars the two numbers, of either kind, are taken as two bytes of original and become the
+ * characters that zulmyren_char_offsets answers for them. A shifted number and a place in the cleaned text are counted
+ * so too, by the characters of this note's own transcript, where they need not belong.
+ * CHARACTERS AND BYTES CAN BE MIXED: where zulmyren_char_offsets says 10, because the first number is original_len or
+ * more, both numbers stay bytes, and nothing in the answer tells which pairs these are. The Rust does the same.
+ * Refusals: 2, 3, 1, 4, 8, 9.
+ * Room, always enough: the lesser of list_len / 5 and normalized_len elements in each of the two. */
+zulmyren_listed zulmyren_get_splits(
+    const uint8_t *original, size_t original_len, const uint8_t *normalized, size_t normalized_len,
+    const uint16_t *starts, size_t starts_len, const uint16_t *ends, size_t ends_len, uint32_t original_shift,
+    const uint8_t *list, size_t list_len, uint32_t behavior, bool of_original, bool in_chars,
+    uint32_t *out_starts, size_t out_starts_len, uint32_t *out_ends, size_t out_ends_len);
 
 #ifdef __cplusplus
 }

@@ -1,5 +1,5 @@
 -- The five behaviours in one form: places gathered into runs, and what a run gives. Each of the Rust's folds is it.
-use Prim.Native.Nat.{ℕ, _≤_}
+use Prim.Native.Nat.{ℕ}
 use mathlib.Core.Path.{_≡_, _∙_, ap, refl, sym}
 use mathlib.Core.Bool.{Bool, true, false, cond, _&&_, not, Bool·beq}
 use mathlib.Core.List.{List, [], _∷_, _++_, append-assoc, append-nil, map}
@@ -9,7 +9,7 @@ use borrow.Author.Tests.{not-true}
 use Rattle.buffers.proofs.Cases.{true-or-false, clash}
 use Rattle.pattern.specs.declared.Place.{Place}
 use Rattle.pattern.specs.Places.{fitsAt, coversFrom}
-use Rattle.pattern.proofs.Places.{Span, fits-span, fits-on, covers-first, covers-rest, covers-span}
+use Rattle.pattern.proofs.Places.{Span, fits-on, covers-first, covers-rest, covers-span}
 use Rattle.behaviors.specs.declared.SplitDelimiterBehavior.{SplitDelimiterBehavior}
 use Rattle.behaviors.specs.declared.SplitDelimiterBehavior.the-variants.{Removed, Isolated, MergedWithPrevious, MergedWithNext, Contiguous}
 use Rattle.behaviors.specs.declared.EmptyPieces.{EmptyPieces}

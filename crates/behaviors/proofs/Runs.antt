@@ -1,10 +1,10 @@
 -- A list that is read place by place: the run that is open behind a place, what has been counted and what has been written by then.
 use Prim.Native.Nat.{ℕ, _+_, _-_, _^_, _≤_, _<_}
 use mathlib.Core.Path.{_≡_, _∙_, ap, refl, sym}
-use mathlib.Core.Bool.{Bool, true, false, cond, _&&_, not}
-use mathlib.Core.List.{List, [], _∷_, _++_, append-assoc, append-nil, map}
+use mathlib.Core.Bool.{Bool, true, false}
+use mathlib.Core.List.{List, [], _∷_, _++_, append-nil, map}
 use native.Mathlib.Omega.{arith}
-use lib.ListN.{length, getD, set, drop, length-append, length-map}
+use lib.ListN.{length, set, drop, length-append, length-map}
 use Rattle.buffers.specs.Splice.{splice, overlay}
 use Rattle.buffers.proofs.Cases.{true-or-false}
 use Rattle.buffers.proofs.Splice.{Laying, none-laid, piece-laid, all-laid, laying-size, splice-nil, store-after}

@@ -13,7 +13,7 @@ use Rattle.behaviors.specs.declared.SplitDelimiterBehavior.the-variants.
   Contiguous,
 }
 use Rattle.behaviors.specs.declared.EmptyPieces.the-variants.{Kept}
-use Rattle.behaviors.specs.Splits.{unremoved, pieces}
+use Rattle.behaviors.specs.Splits.{pieces}
 
 -- whether a place belongs to one piece with the place straight before it, by whether that one and this one matched
 unfoldable pub joins : SplitDelimiterBehavior → Bool → Bool → Bool
@@ -66,10 +66,10 @@ loses MergedWithNext = false
 loses Contiguous = false
 
 -- CLAIM: under any behaviour but Removed a piece begins at the first place and at each that does not belong to the one
--- before it, and ends at the last place and at each to which the next one does not belong. So Isolated gives every place;
--- under Contiguous a piece begins where the kind changes; under MergedWithPrevious one begins at each place but a matched
--- one straight behind an unmatched one; under MergedWithNext one ends at each place but a matched one straight before an
--- unmatched one.
+-- before it, and ends at the last place and at each to which the next one does not belong. So Isolated gives every
+-- place; under Contiguous a piece begins where the kind changes; under MergedWithPrevious one begins at each place but
+-- a matched one straight behind an unmatched one; under MergedWithNext one ends at each place but a matched one
+-- straight before an unmatched one.
 abbrev pub PiecesJoined : Type 0
 PiecesJoined =
     (behavior : SplitDelimiterBehavior) (ps : List Place) → loses behavior ≡ false

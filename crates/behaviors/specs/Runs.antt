@@ -44,7 +44,7 @@ unfoldable pub bytesOf : List Place → ℕ
 bytesOf [] = 0
 bytesOf (p ∷ ps) = (p .end .0 - p .start .0) + bytesOf ps
 
--- the first of the places that a list has, and those behind it, which cover a text within a limit
+-- a list whose places cover a text within a limit
 pub record Listed (most : ℕ) (list : List ℕ) : Type 0 where
   pub text : List ℕ
   pub short : length text ≤ most

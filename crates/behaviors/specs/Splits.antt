@@ -1,5 +1,5 @@
--- RULES 11.2, 11.3: the five behaviours as the Rust has them (`NormalizedString::split`): a list of places becomes another
--- one, whose flag says that a place is removed; what is not removed is a piece.
+-- RULES 11.2, 11.3: the five behaviours as the Rust has them (`NormalizedString::split`): a list of places becomes
+-- another one, whose flag says that a place is removed; what is not removed is a piece.
 use Prim.Native.Nat.{ℕ}
 use mathlib.Core.Path.{_≡_}
 use mathlib.Core.Bool.{Bool, true, false, cond, _&&_, not, Bool·beq}
@@ -32,8 +32,8 @@ endMoved [] p = unremoved p ∷ []
 endMoved (q ∷ []) p = spanning q p ∷ []
 endMoved (q ∷ r ∷ acc) p = q ∷ endMoved (r ∷ acc) p
 
--- the Rust's fold from the left over the places so far, `acc`, and `previous_match`: where the test holds the last place
--- so far takes the end, else the place is added
+-- the Rust's fold from the left over the places so far, `acc`, and `previous_match`: where the test holds the last
+-- place so far takes the end, else the place is added
 unfoldable pub folded : (Bool → Bool → Bool) → List Place → Bool → List Place → List Place
 folded test acc previous [] = acc
 folded test acc previous (p ∷ ps) =

@@ -126,7 +126,8 @@ fn counted(sizes: Sizes, met: bool, run: Place) -> Sizes
 // How many pieces a list gives, and how many bytes they have.
 pub fn measure(list: &[u8], behavior: SplitDelimiterBehavior, empty: EmptyPieces) -> Sizes
     requires { ⌜ Listed limit (now list) ⌝ }
-    ensures { λ r. ⌜ r ≡ sizesWith (record { pieces = 0; bytes = 0 }) (listPieces behavior empty (now (list .entry))) ⌝ }
+    ensures { λ r. ⌜ r ≡ sizesWith (record { pieces = 0; bytes = 0 })
+        (listPieces behavior empty (now (list .entry))) ⌝ }
 {
     let none = Sizes {
         pieces: 0,

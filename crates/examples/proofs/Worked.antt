@@ -14,8 +14,13 @@ use Rattle.char_offsets.specs.Positions.{indexOf, endIndex, pairOf, charOffsets
 use Rattle.pattern.specs.Entries.{positionAt, placeAt, entryAt, placesFrom, placesOf, wholeFrom, whole}
 use Rattle.pattern.specs.Places.{fitsAt, coversFrom, covers}
 use Rattle.replace.specs.Replacing.{piece, laid, replaced}
-use Rattle.examples.specs.Worked.{aéb, nest, blank, worked, every, WorkedNotes}
+use mathlib.Core.List.{flatMap}
+use Rattle.get_range.specs.Reading.{asOriginal, asNormalized}
+use Rattle.slice.specs.Slicing.{sliceOf, sliced, lowered, slicedColumn}
+use Rattle.behaviors.specs.Splits.{unremoved, spanning, endMoved, folded, splits, goes, isPiece, remaining, pieces}
+use Rattle.split.specs.Splitting.{pieceOf, transcriptLength, cut}
+use Rattle.examples.specs.Worked.{aéb, nest, blank, final, hyphens, worked, every, WorkedNotes}
 
 pub worked-notes : WorkedNotes
-unfolding every worked aéb nest blank starting column charStart charEnd announced second asked formed within continues boundary fits paired textsFormed inside onBoundaries shared forward aligned everyBelow verdict converted toOriginal toNormalized expanded begun stepped walkFrom walked answered convertOffsets indexOf endIndex pairOf charOffsets valueOf positionAt placeAt entryAt placesFrom placesOf wholeFrom whole fitsAt coversFrom covers piece laid beforeEnd replaced same
+unfolding every worked aéb nest blank final hyphens flatMap asOriginal asNormalized sliceOf sliced lowered slicedColumn unremoved spanning endMoved folded splits goes isPiece remaining pieces pieceOf transcriptLength cut starting column charStart charEnd announced second asked formed within continues boundary fits paired textsFormed inside onBoundaries shared forward aligned everyBelow verdict converted toOriginal toNormalized expanded begun stepped walkFrom walked answered convertOffsets indexOf endIndex pairOf charOffsets valueOf positionAt placeAt entryAt placesFrom placesOf wholeFrom whole fitsAt coversFrom covers piece laid beforeEnd replaced same
 worked-notes = refl

@@ -1,4 +1,4 @@
--- Worked notes of RULES 4, 10 and 12, of what the calls answer: one list, and one claim about the list.
+-- Worked notes of RULES 4, 10, 11 and 12, of what the calls answer: one list, and one claim about the list.
 use Prim.Native.Nat.{ℕ}
 use mathlib.Core.Path.{_≡_}
 use mathlib.Core.Bool.{Bool, true, false, _&&_}
@@ -21,6 +21,15 @@ use Rattle.char_offsets.specs.declared.CharOffsets.the-variants.{Chars, Refused
 use Rattle.char_offsets.specs.Positions.{charOffsets}
 use Rattle.pattern.specs.Entries.{placesOf}
 use Rattle.replace.specs.Replacing.{PublishedNote, replaced, replaceFaults}
+use Rattle.behaviors.specs.declared.SplitDelimiterBehavior.{SplitDelimiterBehavior}
+use Rattle.behaviors.specs.declared.SplitDelimiterBehavior.the-variants.{
+  Removed,
+  Isolated,
+  MergedWithPrevious,
+  Contiguous,
+}
+use Rattle.behaviors.specs.declared.EmptyPieces.the-variants.{Kept}
+use Rattle.split.specs.Splitting.{Columns, cutBy, splitFaults}
 
 -- whether an answer is this range, of this text
 abbrev pub sameRange : Range → Range → Bool
@@ -51,6 +60,16 @@ publishes n list content text starts ends =
     accepts (verdict (replaceFaults limit n list content (length text)))
     && isNote (replaced (placesOf list) content n) text starts ends
 
+-- whether splitting accepts, in columns as long as the pieces and their alignments, and gives the pieces from..to
+abbrev pub areSpans : Columns → List ℕ → List ℕ → Bool
+areSpans c from to = same (c .starts) from && same (c .ends) to
+
+abbrev pub cutsInto : Note → List ℕ → SplitDelimiterBehavior → List ℕ → List ℕ → Bool
+cutsInto n list behavior from to =
+    accepts (verdict (splitFaults limit n list behavior Kept (length from)
+    (length (cutBy n list behavior Kept .alignment-starts))))
+    && areSpans (cutBy n list behavior Kept) from to
+
 -- the starting note of `aéb`
 unfoldable pub aéb : Note
 aéb = starting (0x61 ∷ 0xC3 ∷ 0xA9 ∷ 0x62 ∷ [])
@@ -61,6 +80,17 @@ nest a b = starting (0x6E ∷ 0x65 ∷ 0x73 ∷ 0x74 ∷ 0x20 ∷ a ∷ b ∷ []
 
 unfoldable pub blank : List ℕ
 blank = 11 ∷ 0 ∷ 0 ∷ 5 ∷ 0 ∷ 12 ∷ 5 ∷ 0 ∷ 7 ∷ 0 ∷ []
+
+-- `the-final--countdown`, and the list of its hyphens
+unfoldable pub final : Note
+final =
+    starting (0x74 ∷ 0x68 ∷ 0x65 ∷ 0x2D ∷ 0x66 ∷ 0x69 ∷ 0x6E ∷ 0x61 ∷ 0x6C ∷ 0x2D ∷ 0x2D
+    ∷ 0x63 ∷ 0x6F ∷ 0x75 ∷ 0x6E ∷ 0x74 ∷ 0x64 ∷ 0x6F ∷ 0x77 ∷ 0x6E ∷ [])
+
+unfoldable pub hyphens : List ℕ
+hyphens =
+    11 ∷ 0 ∷ 0 ∷ 3 ∷ 0 ∷ 12 ∷ 3 ∷ 0 ∷ 4 ∷ 0 ∷ 11 ∷ 4 ∷ 0 ∷ 9 ∷ 0
+    ∷ 12 ∷ 9 ∷ 0 ∷ 10 ∷ 0 ∷ 12 ∷ 10 ∷ 0 ∷ 11 ∷ 0 ∷ 11 ∷ 11 ∷ 0 ∷ 20 ∷ 0 ∷ []
 
 unfoldable pub worked : List Bool
 worked =
@@ -81,6 +111,12 @@ worked =
     -- an empty matched place at the beginning of `ab`, filled by `x`
     ∷ publishes (starting (0x61 ∷ 0x62 ∷ [])) (12 ∷ 0 ∷ 0 ∷ 0 ∷ 0 ∷ 11 ∷ 0 ∷ 0 ∷ 2 ∷ 0 ∷ []) (0x78 ∷ [])
     (0x78 ∷ 0x61 ∷ 0x62 ∷ []) (0 ∷ 0 ∷ 1 ∷ []) (0 ∷ 1 ∷ 2 ∷ [])
+    -- `the-final--countdown` cut at its hyphens: the, final, countdown; then every place; the-, final-, -, countdown;
+    -- and the, -, final, --, countdown
+    ∷ cutsInto final hyphens Removed (0 ∷ 4 ∷ 11 ∷ []) (3 ∷ 9 ∷ 20 ∷ [])
+    ∷ cutsInto final hyphens Isolated (0 ∷ 3 ∷ 4 ∷ 9 ∷ 10 ∷ 11 ∷ []) (3 ∷ 4 ∷ 9 ∷ 10 ∷ 11 ∷ 20 ∷ [])
+    ∷ cutsInto final hyphens MergedWithPrevious (0 ∷ 4 ∷ 10 ∷ 11 ∷ []) (4 ∷ 10 ∷ 11 ∷ 20 ∷ [])
+    ∷ cutsInto final hyphens Contiguous (0 ∷ 3 ∷ 4 ∷ 9 ∷ 11 ∷ []) (3 ∷ 4 ∷ 9 ∷ 11 ∷ 20 ∷ [])
     ∷ []
 
 unfoldable pub every : List Bool → Bool

@@ -1,6 +1,6 @@
 -- Laws of `joined`: what pieces give, one behind the other, and a column that is being written piece by piece.
-use Prim.Native.Nat.{ℕ, zero, suc, _+_, _-_, _≤_, _<_}
-use mathlib.Core.Path.{_≡_, _∙_, ap, refl, sym}
+use Prim.Native.Nat.{ℕ, _+_, _-_, _≤_, _<_}
+use mathlib.Core.Path.{_≡_, _∙_, refl}
 use mathlib.Core.List.{List, [], _∷_, _++_}
 use native.Mathlib.Numerals.{add-one}
 use native.Mathlib.Omega.{arith}
@@ -13,7 +13,7 @@ use Rattle.slice.specs.Slicing.{lowered}
 use Rattle.slice.specs.Writing.{Lowerable}
 use Rattle.slice.proofs.Lowered.{length-lowered}
 use Rattle.behaviors.proofs.Runs.{store-one}
-use Rattle.split.specs.Writing.{fromStart, toEnd, shiftOf, lengthOf, columnOf, joined, Inside, Spans, ShiftsRoom, LengthsRoom, ColumnRoom}
+use Rattle.split.specs.Writing.{fromStart, toEnd, shiftOf, lengthOf, columnOf, joined, Inside, ShiftsRoom, LengthsRoom, ColumnRoom}
 
 -- one range: by the code's test
 module _ (starts : List ℕ) (a b : ℕ) where

@@ -1,19 +1,18 @@
 -- Laws of `splitFaults`: what the call says by the checks that were made, what an accepted call tells, and the call.
 use Prim.Native.Nat.{ℕ, _+_, _≤_, _<_, min}
 use mathlib.Core.Path.{_≡_, _∙_, ap, refl, sym}
-use mathlib.Core.Bool.{Bool, true, false, cond, not}
-use mathlib.Core.List.{List, []}
+use mathlib.Core.Bool.{Bool, true, false, not}
+use mathlib.Core.List.{List}
 use native.Mathlib.Omega.{arith}
-use lib.Dec.{leb}
-use lib.ListN.{length, getD, take, length-map}
+use lib.ListN.{length, take, length-map}
 use borrow.Author.Tests.{not-true, not-false, le-leb, lt-leb}
 use Rattle.buffers.specs.Splice.{overlay}
-use Rattle.buffers.proofs.Splice.{take-overlay, length-overlay, overlay-long}
+use Rattle.buffers.proofs.Splice.{take-overlay, overlay-long}
 use Rattle.note.specs.declared.Refusal.{Refusal}
 use Rattle.note.specs.declared.Refusal.the-variants.{BadMatches, NoRoom}
 use Rattle.note.specs.declared.Verdict.{Verdict}
 use Rattle.note.specs.declared.Verdict.the-variants.{Accepted, Refused as Rejected}
-use Rattle.note.specs.Refusals.{also, verdict, after}
+use Rattle.note.specs.Refusals.{also, verdict}
 use Rattle.note.specs.Notes.{Note, fits, Sound}
 use Rattle.note.specs.Faults.{noteFaults, roomFaults}
 use Rattle.note.proofs.Verdicts.{accepted-first, accepted-second, accepted-meets, refused-then, accepted-then}
@@ -31,8 +30,8 @@ use Rattle.behaviors.specs.Joining.{startsOf, endsOf}
 use Rattle.behaviors.specs.Runs.{bytesOf, sizesWith, listPieces, Listed, SpansRoom, SpansLaid}
 use Rattle.split.specs.declared.Pieces.{Pieces}
 use Rattle.split.specs.declared.Pieces.the-variants.{Cut, Refused}
-use Rattle.split.specs.Splitting.{Columns, cut, cutBy, splitFaults, cutUnlessRefused, pieceRoom, alignmentRoom, Splitting}
-use Rattle.split.specs.Writing.{fromStart, toEnd, shiftOf, lengthOf, columnOf, joined, Inside, Spans, ShiftsRoom, LengthsRoom, ColumnRoom, CutInto}
+use Rattle.split.specs.Splitting.{Columns, cutBy, splitFaults, cutUnlessRefused, pieceRoom, alignmentRoom, Splitting}
+use Rattle.split.specs.Writing.{shiftOf, lengthOf, columnOf, joined, Spans, ShiftsRoom, LengthsRoom, ColumnRoom, CutInto}
 use Rattle.split.proofs.Cuts.{pieces-spans, in-order, starts-above, ends-above, shifts-are, lengths-are, alignment-starts-are, alignment-ends-are, starts-long, ends-long, alignments-long, starts-are, ends-are, pieces-long}
 
 -- the list, then the two rooms
@@ -56,6 +55,15 @@ module _ (text list : List ℕ) (pieces alignments forPieces forAlignments : ℕ
     good-rooms : pieces ≤ forPieces → alignments ≤ forAlignments → Accepted ≡ verdict results
     unfolding verdict
     good-rooms fits h = rw (c, le-leb pieces forPieces fits, le-leb alignments forAlignments h)
+
+-- a list that was judged can be measured
+pub measurable : (most : ℕ) (n : Note) (list : List ℕ) {v : Verdict} → v ≡ verdict (noteFaults most n) → v ≡ Accepted → {t : Bool} → t ≡ covers (n .normalized) list → not t ≡ false → Listed most list
+measurable most n list noted ok {t = t} covering is =
+    record {
+      text = n .normalized;
+      short = accepted-short most n (accepted-sound most n (sym noted ∙ ok) .1) .normalized-short;
+      covered = covers-places (n .normalized) list (sym covering ∙ not-false t is);
+    }
 
 -- THE CHECKS, one after the other
 module _ (most : ℕ) (n : Note) (list : List ℕ) (b : SplitDelimiterBehavior) (e : EmptyPieces) (forPieces forAlignments : ℕ) {v : Verdict} (noted : v ≡ verdict (noteFaults most n)) where
@@ -81,14 +89,6 @@ module _ (most : ℕ) (n : Note) (list : List ℕ) (b : SplitDelimiterBehavior) 
 
       sound : Sound n
       sound = accepted-sound most n (sym noted ∙ ok) .0
-
-      pub measurable : Listed most list
-      measurable =
-          record {
-            text = n .normalized;
-            short = accepted-short most n (accepted-sound most n (sym noted ∙ ok) .1) .normalized-short;
-            covered = covers-places (n .normalized) list covers-it;
-          }
 
       module _ {s : Sizes} (sizes : s ≡ sizesWith (record { pieces = 0; bytes = 0 }) (listPieces b e list)) where
         count-is : s .pieces ≡ length (cutBy n list b e .starts)
@@ -254,9 +254,12 @@ module _ (most : ℕ) (n : Note) (list : List ℕ) (b : SplitDelimiterBehavior) 
         }
 
 -- THE CALL
-cut-told : (v : Verdict) (c : Columns) {x y : ℕ} → Cut x y ≡ cutUnlessRefused v c → v ≡ Accepted
+pub cut-told : (v : Verdict) (c : Columns) {x y : ℕ} → Cut x y ≡ cutUnlessRefused v c → v ≡ Accepted
 cut-told Accepted c e = refl
 cut-told (Rejected k) c e = let z : _≡_ {A = ℕ} 0 1 = cc in absurd (omega arith)
+
+pub count-told : {v : Verdict} (c : Columns) {x y : ℕ} → v ≡ Accepted → Cut x y ≡ cutUnlessRefused v c → x ≡ length (c .starts)
+count-told c {x = x} {y = y} a e = let z : Cut x y ≡ Cut (length (c .starts)) (length (c .alignment-starts)) = rw a at e in cc
 
 refused-told : (v : Verdict) (c : Columns) {k : Refusal} → Refused k ≡ cutUnlessRefused v c → v ≡ Rejected k
 refused-told Accepted c e = let z : _≡_ {A = ℕ} 0 1 = cc in absurd (omega arith)

@@ -2,3 +2,4 @@
 pub mod Joined
 pub mod Cuts
 pub mod Judged
+pub mod PieceSlices

@@ -1,3 +1,4 @@
 -- Splitting a note (RULES 11).
 pub mod Splitting
+pub mod PieceSlices
 pub mod Writing

@@ -1,4 +1,4 @@
--- RULES 11: what a list and a behaviour cut a note into, when that is refused, and the call (Rust:
+-- RULES 11.5, 11.6: what a list and a behaviour cut a note into, when that is refused, and the call (Rust:
 -- `NormalizedString::split`, `PreTokenizedString::split`).
 use Prim.Native.Nat.{ℕ, _-_, min}
 use mathlib.Core.Path.{_≡_}
@@ -89,8 +89,8 @@ pieceRoom c = min (min (length (c .starts)) (length (c .ends))) (min (length (c 
 abbrev pub alignmentRoom : Columns → ℕ
 alignmentRoom c = min (length (c .alignment-starts)) (length (c .alignment-ends))
 
--- THE CALL: limit, note, list, behaviour, what becomes of empty pieces, the lent columns before, the answer, the columns
--- after
+-- THE CALL: limit, note, list, behaviour, what becomes of empty pieces, the lent columns before, the answer, the
+-- columns after
 pub record Splitting (most : ℕ) (n : Note) (list : List ℕ) (behavior : SplitDelimiterBehavior) (empty : EmptyPieces)
     (c₀ : Columns) (r : Pieces) (c : Columns) : Type 0 where
   pub says : Verdict

@@ -6,8 +6,6 @@ use mathlib.Core.List.{List, [], _∷_, _++_}
 use lib.Dec.{eqb}
 use lib.ListN.{length, getD}
 use Rattle.buffers.specs.Splice.{part, overlay}
-use Rattle.note.specs.declared.Verdict.the-variants.{Accepted}
-use Rattle.note.specs.Refusals.{verdict}
 use Rattle.note.specs.Notes.{Note}
 use Rattle.slice.specs.Slicing.{lowered}
 use Rattle.behaviors.specs.declared.SplitDelimiterBehavior.{SplitDelimiterBehavior}

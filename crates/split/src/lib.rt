@@ -184,8 +184,8 @@ fn write_pieces(
     write_column(starts, ends, from, to, out_ends);
 }
 
-// The note cut into pieces: their cleaned starts and ends, their shifts and transcript lengths stand in front of the four
-// columns for pieces, and their alignments, end to end, in front of the last two.
+// The note cut into pieces: their cleaned starts and ends, their shifts and transcript lengths stand in front of the
+// four columns for pieces, and their alignments, end to end, in front of the last two.
 pub fn split(
     original: &[u8],
     normalized: &[u8],

@@ -4,6 +4,7 @@ use mathlib.Core.Path.{_≡_, _∙_, ap, sym}
 use mathlib.Core.Bool.{Bool}
 use mathlib.Core.List.{List}
 use native.Mathlib.Omega.{arith}
+use borrow.Author.Tests.{ne-eqb}
 use Rattle.note.specs.declared.Refusal.{Refusal}
 use Rattle.note.specs.declared.Verdict.{Verdict}
 use Rattle.note.specs.Refusals.{numberOf, answerOf, verdict}
@@ -17,8 +18,16 @@ use Rattle.get_range.specs.Reading.{partFaults}
 use Rattle.convert_list.specs.ConvertList.{ConvertedList}
 use Rattle.slice.specs.declared.NoteSlice.{NoteSlice}
 use Rattle.slice.specs.declared.Sliced.{Sliced}
-use Rattle.slice.specs.declared.Sliced.the-variants.{Cut, Refused as Uncut}
+use Rattle.slice.specs.declared.Sliced.the-variants.{Cut as Kept, Refused as Uncut}
 use Rattle.slice.specs.Slicing.{Slicing}
+use Rattle.behaviors.specs.declared.SplitDelimiterBehavior.{SplitDelimiterBehavior}
+use Rattle.behaviors.specs.declared.SplitDelimiterBehavior.the-variants.{Removed, Isolated, MergedWithPrevious, MergedWithNext, Contiguous}
+use Rattle.behaviors.specs.declared.EmptyPieces.{EmptyPieces}
+use Rattle.split.specs.declared.Pieces.{Pieces}
+use Rattle.split.specs.Splitting.{Columns, Splitting}
+use Rattle.splits.specs.declared.OffsetType.{OffsetType}
+use Rattle.splits.specs.declared.Splits.{Splits}
+use Rattle.splits.specs.SplitOffsets.{GetSplits}
 use Rattle.replace.specs.declared.Publication.{Publication}
 use Rattle.replace.specs.declared.Publication.the-variants.{Published, Refused}
 use Rattle.replace.specs.Replacing.{Replacing}
@@ -27,7 +36,9 @@ use Rattle.redact.specs.Redacting.{Redacted}
 use Rattle.redact.proofs.Redacting.{published-call}
 use Rattle.zulmyren.specs.declared.answers.Offsets.{Offsets}
 use Rattle.zulmyren.specs.declared.answers.Slice.{Slice}
-use Rattle.zulmyren.specs.Calls.{Told, offsetsOf, sliceNumbers, sideOf, PublishedShort}
+use Rattle.zulmyren.specs.declared.answers.Cut.{Cut}
+use Rattle.zulmyren.specs.declared.answers.Listed.{Listed}
+use Rattle.zulmyren.specs.Calls.{Told, offsetsOf, sliceNumbers, cutNumbers, splitsNumbers, behaviorOf, emptyOf, unitOf, sideOf, PublishedShort}
 
 -- a range's call, through the side, the range and the answer's numbers
 pub range-call : (f : Range → Converted) (s : OffsetReferential) (a e : ℕ) {side : OffsetReferential} {range : Range} {answer : Converted} {r : Offsets} → side ≡ s → range ≡ rangeOf side a e → answer ≡ f range → r ≡ offsetsOf answer → r ≡ offsetsOf (f (rangeOf s a e))
@@ -63,7 +74,7 @@ pub list-call : {n : Note} (b : Bool) {side : OffsetReferential} {from to number
 list-call b {v = v} p call e = record { answer = v; told = e; met = rw p at call }
 
 -- the numbers of a slice, and of none
-pub slice-cut : {v : Sliced} {s : NoteSlice} → v ≡ Cut s → sliceNumbers (Cut s) ≡ sliceNumbers v
+pub slice-cut : {v : Sliced} {s : NoteSlice} → v ≡ Kept s → sliceNumbers (Kept s) ≡ sliceNumbers v
 slice-cut e = ap sliceNumbers (sym e)
 
 pub slice-refused : {v : Sliced} {k : Refusal} {r : ℕ} → v ≡ Uncut k → r ≡ numberOf k → record { refusal = r; «original_start» = 0; «original_end» = 0; «normalized_start» = 0; «normalized_end» = 0; «original_shift» = 0 } ≡ sliceNumbers v
@@ -72,3 +83,32 @@ slice-refused e q = rw (e, q)
 -- a slice's call, through the side and the range
 pub slice-call : {n : Note} (b : Bool) (a e : ℕ) {side : OffsetReferential} {range : Range} {starts₀ ends₀ : List ℕ} {v : Sliced} {starts ends : List ℕ} {r : Slice} → side ≡ sideOf b → range ≡ rangeOf side a e → Slicing limit n range starts₀ ends₀ v starts ends → r ≡ sliceNumbers v → Told sliceNumbers (λ w. Slicing limit n (rangeOf (sideOf b) a e) starts₀ ends₀ w starts ends) r
 slice-call b a e {v = v} p q call t = record { answer = v; told = t; met = rw (q, p) at call }
+
+-- a behaviour by its number
+module _ {n : ℕ} where
+  pub behavior-one : n ≡ 1 → Removed ≡ behaviorOf n
+  unfolding behaviorOf
+  behavior-one e = rw e
+
+  pub behavior-two : n ≡ 2 → Isolated ≡ behaviorOf n
+  unfolding behaviorOf
+  behavior-two e = rw e
+
+  pub behavior-three : n ≡ 3 → MergedWithPrevious ≡ behaviorOf n
+  unfolding behaviorOf
+  behavior-three e = rw e
+
+  pub behavior-four : n ≡ 4 → MergedWithNext ≡ behaviorOf n
+  unfolding behaviorOf
+  behavior-four e = rw e
+
+  pub behavior-other : (n ≡ 1 → ⊥) → (n ≡ 2 → ⊥) → (n ≡ 3 → ⊥) → (n ≡ 4 → ⊥) → Contiguous ≡ behaviorOf n
+  unfolding behaviorOf
+  behavior-other a b c d = rw (ne-eqb n 1 a, ne-eqb n 2 b, ne-eqb n 3 c, ne-eqb n 4 d)
+
+-- the calls that cut a note, through what is asked of them
+pub split-call : {n : Note} {list : List ℕ} (b : ℕ) (d : Bool) {behavior : SplitDelimiterBehavior} {empty : EmptyPieces} {c₀ c : Columns} {v : Pieces} {r : Cut} → behavior ≡ behaviorOf b → empty ≡ emptyOf d → Splitting limit n list behavior empty c₀ v c → r ≡ cutNumbers v → Told cutNumbers (λ w. Splitting limit n list (behaviorOf b) (emptyOf d) c₀ w c) r
+split-call b d {v = v} p q call t = record { answer = v; told = t; met = rw (p, q) at call }
+
+pub splits-call : {n : Note} {list : List ℕ} (b : ℕ) (o u : Bool) {behavior : SplitDelimiterBehavior} {side : OffsetReferential} {unit : OffsetType} {starts₀ ends₀ : List ℕ} {v : Splits} {starts ends : List ℕ} {r : Listed} → behavior ≡ behaviorOf b → side ≡ sideOf o → unit ≡ unitOf u → GetSplits limit n list behavior side unit starts₀ ends₀ v starts ends → r ≡ splitsNumbers v → Told splitsNumbers (λ w. GetSplits limit n list (behaviorOf b) (sideOf o) (unitOf u) starts₀ ends₀ w starts ends) r
+splits-call b o u {v = v} p q s call t = record { answer = v; told = t; met = rw (p, q, s) at call }

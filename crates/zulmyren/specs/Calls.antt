@@ -1,7 +1,8 @@
 -- An exported call answers the numbers of the call below, whose contract its lent buffers meet (RULES 2.6).
 use Prim.Native.Nat.{ℕ, _≤_}
 use mathlib.Core.Path.{_≡_}
-use mathlib.Core.Bool.{Bool, true, false}
+use mathlib.Core.Bool.{Bool, true, false, cond}
+use lib.Dec.{eqb}
 use Rattle.note.specs.Refusals.{numberOf}
 use Rattle.note.specs.Notes.{limit}
 use Rattle.char_offsets.specs.declared.CharOffsets.{CharOffsets}
@@ -21,11 +22,28 @@ use Rattle.indistinguishable.specs.declared.Comparison.the-variants.{Compared, 
 use Rattle.slice.specs.declared.Sliced.{Sliced}
 use Rattle.slice.specs.declared.Sliced.the-variants.{Cut, Refused as Uncut}
 use Rattle.slice.specs.Slicing.{originalStart, originalEnd, normalizedStart, normalizedEnd}
+use Rattle.behaviors.specs.declared.SplitDelimiterBehavior.{SplitDelimiterBehavior}
+use Rattle.behaviors.specs.declared.SplitDelimiterBehavior.the-variants.{
+  Removed,
+  Isolated,
+  MergedWithPrevious,
+  MergedWithNext,
+  Contiguous,
+}
+use Rattle.behaviors.specs.declared.EmptyPieces.{EmptyPieces}
+use Rattle.behaviors.specs.declared.EmptyPieces.the-variants.{Kept, Dropped}
+use Rattle.split.specs.declared.Pieces.{Pieces}
+use Rattle.split.specs.declared.Pieces.the-variants.{Cut as Divided, Refused as Undivided}
+use Rattle.splits.specs.declared.OffsetType.{OffsetType}
+use Rattle.splits.specs.declared.OffsetType.the-variants.{Byte, Char}
+use Rattle.splits.specs.declared.Splits.{Splits}
+use Rattle.splits.specs.declared.Splits.the-variants.{Listed as Offered, Refused as Unoffered}
 use Rattle.zulmyren.specs.declared.answers.Count.{Count}
 use Rattle.zulmyren.specs.declared.answers.Offsets.{Offsets}
 use Rattle.zulmyren.specs.declared.answers.Listed.{Listed}
 use Rattle.zulmyren.specs.declared.answers.Comparison.{Comparison}
 use Rattle.zulmyren.specs.declared.answers.Slice.{Slice}
+use Rattle.zulmyren.specs.declared.answers.Cut.{Cut as CutCount}
 
 -- r tells, in numbers, an answer with which the call below is met
 pub record Told {A N : Type 0} (tell : A → N) (call : A → Type 0) (r : N) : Type 0 where
@@ -75,6 +93,28 @@ sliceNumbers (Uncut k) =
       «normalized_end» = 0;
       «original_shift» = 0;
     }
+
+abbrev pub cutNumbers : Pieces → CutCount
+cutNumbers (Divided pieces alignments) = record { refusal = 0; pieces = pieces; alignments = alignments }
+cutNumbers (Undivided k) = record { refusal = numberOf k; pieces = 0; alignments = 0 }
+
+abbrev pub splitsNumbers : Splits → Listed
+splitsNumbers (Offered n) = record { refusal = 0; len = n }
+splitsNumbers (Unoffered k) = record { refusal = numberOf k; len = 0 }
+
+-- a behaviour by its number, of which any that is not 1 to 4 means the fifth
+unfoldable pub behaviorOf : ℕ → SplitDelimiterBehavior
+behaviorOf n =
+    cond (eqb n 1) Removed
+    (cond (eqb n 2) Isolated (cond (eqb n 3) MergedWithPrevious (cond (eqb n 4) MergedWithNext Contiguous)))
+
+abbrev pub emptyOf : Bool → EmptyPieces
+emptyOf true = Dropped
+emptyOf false = Kept
+
+abbrev pub unitOf : Bool → OffsetType
+unitOf true = Char
+unitOf false = Byte
 
 -- the text that a range is in
 abbrev pub sideOf : Bool → OffsetReferential

@@ -8,9 +8,11 @@ use find::Matches;
 use note::answers::number;
 use replace::Publication;
 use slice::Sliced;
+use split::Pieces;
+use splits::Splits;
 ghost use mathlib.Core.Path.{_≡_};
-ghost use Rattle.zulmyren.specs.Calls.{PublishedShort, charsOf, comparedOf, lettersOf, listedOf};
-ghost use Rattle.zulmyren.specs.Calls.{offsetsOf, publishedOf, sliceNumbers};
+ghost use Rattle.zulmyren.specs.Calls.{PublishedShort, charsOf, comparedOf, cutNumbers, lettersOf, listedOf};
+ghost use Rattle.zulmyren.specs.Calls.{offsetsOf, publishedOf, sliceNumbers, splitsNumbers};
 
 // A count, 0 where the call is refused.
 #[repr(C)]
@@ -27,7 +29,7 @@ pub struct Offsets {
     pub end: u32,
 }
 
-// How many bytes a list has, 0 where the call is refused.
+// How many bytes a list has, or how many pieces there are; 0 where the call is refused.
 #[repr(C)]
 pub struct Listed {
     pub refusal: u32,
@@ -50,6 +52,14 @@ pub struct Slice {
     pub normalized_start: u32,
     pub normalized_end: u32,
     pub original_shift: u32,
+}
+
+// How many pieces there are, and how many alignments they have together; 0 each where the call is refused.
+#[repr(C)]
+pub struct Cut {
+    pub refusal: u32,
+    pub pieces: usize,
+    pub alignments: usize,
 }
 
 pub fn letters_told(answer: LetterCount) -> Count
@@ -164,6 +174,35 @@ pub fn slice_told(answer: Sliced) -> Slice
             normalized_start: 0,
             normalized_end: 0,
             original_shift: 0,
+        },
+    }
+}
+
+pub fn cut_told(answer: Pieces) -> Cut
+    ensures { λ r. ⌜ r ≡ cutNumbers answer ⌝ }
+{
+    match answer {
+        Pieces::Cut(pieces, alignments) => Cut {
+            refusal: 0,
+            pieces,
+            alignments,
+        },
+        Pieces::Refused(k) => Cut {
+            refusal: number(k),
+            pieces: 0,
+            alignments: 0,
+        },
+    }
+}
+
+pub fn splits_told(answer: Splits) -> Listed
+    ensures { λ r. ⌜ r ≡ splitsNumbers answer ⌝ }
+{
+    match answer {
+        Splits::Listed(len) => Listed { refusal: 0, len },
+        Splits::Refused(k) => Listed {
+            refusal: number(k),
+            len: 0,
         },
     }
 }

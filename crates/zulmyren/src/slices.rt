@@ -1,13 +1,57 @@
-// Slicing.
+// Slicing, splitting, split offsets.
+use crate::answers::Cut;
+use crate::answers::Listed;
 use crate::answers::Slice;
+use crate::answers::cut_told;
 use crate::answers::slice_told;
+use crate::answers::splits_told;
 use crate::ranges::side_of;
+use behaviors::EmptyPieces;
+use behaviors::SplitDelimiterBehavior;
 use buffers::Offset;
 use convert::range_of;
+use splits::OffsetType;
+ghost use mathlib.Core.Path.{_≡_};
 ghost use Rattle.note.specs.Notes.{lent, limit};
 ghost use Rattle.convert.specs.Converting.{rangeOf};
 ghost use Rattle.slice.specs.Slicing.{Slicing};
-ghost use Rattle.zulmyren.specs.Calls.{Told, sideOf, sliceNumbers};
+ghost use Rattle.split.specs.Splitting.{Splitting, columns};
+ghost use Rattle.splits.specs.SplitOffsets.{GetSplits};
+ghost use Rattle.zulmyren.specs.Calls.{Told, behaviorOf, cutNumbers, emptyOf, sideOf, sliceNumbers};
+ghost use Rattle.zulmyren.specs.Calls.{splitsNumbers, unitOf};
+
+// A behaviour by its number: 1 to 4, and Contiguous by any other.
+fn behavior_of(number: u32) -> SplitDelimiterBehavior
+    ensures { λ r. ⌜ r ≡ behaviorOf number ⌝ }
+{
+    match number {
+        1 => SplitDelimiterBehavior::Removed,
+        2 => SplitDelimiterBehavior::Isolated,
+        3 => SplitDelimiterBehavior::MergedWithPrevious,
+        4 => SplitDelimiterBehavior::MergedWithNext,
+        _ => SplitDelimiterBehavior::Contiguous,
+    }
+}
+
+// What becomes of pieces without a byte.
+fn empty_of(drop_empty: bool) -> EmptyPieces
+    ensures { λ r. ⌜ r ≡ emptyOf «drop_empty» ⌝ }
+{
+    if drop_empty {
+        return EmptyPieces::Dropped;
+    }
+    EmptyPieces::Kept
+}
+
+// What offsets count.
+fn unit_of(in_chars: bool) -> OffsetType
+    ensures { λ r. ⌜ r ≡ unitOf «in_chars» ⌝ }
+{
+    if in_chars {
+        return OffsetType::Char;
+    }
+    OffsetType::Byte
+}
 
 #[no_mangle]
 pub extern "C" fn zulmyren_slice(
@@ -37,6 +81,87 @@ pub extern "C" fn zulmyren_slice(
         ends,
         original_shift,
         range,
+        out_starts,
+        out_ends,
+    ))
+}
+
+#[no_mangle]
+pub extern "C" fn zulmyren_split(
+    original: &[u8],
+    normalized: &[u8],
+    starts: &[Offset],
+    ends: &[Offset],
+    original_shift: u32,
+    list: &[u8],
+    behavior: u32,
+    drop_empty: bool,
+    piece_starts: &mut [Offset],
+    piece_ends: &mut [Offset],
+    piece_shifts: &mut [u32],
+    piece_lengths: &mut [Offset],
+    out_starts: &mut [Offset],
+    out_ends: &mut [Offset],
+) -> Cut
+    ensures { λ r. ⌜ Told cutNumbers (λ v. Splitting limit
+        (lent (now (original .entry)) (now (normalized .entry))
+        (now (starts .entry)) (now (ends .entry)) «original_shift») (now (list .entry))
+        (behaviorOf behavior) (emptyOf «drop_empty»)
+        (columns (now («piece_starts» .entry)) (now («piece_ends» .entry)) (now («piece_shifts» .entry))
+        (now («piece_lengths» .entry)) (now («out_starts» .entry)) (now («out_ends» .entry)))
+        v
+        (columns (now («piece_starts» .exit)) (now («piece_ends» .exit)) (now («piece_shifts» .exit))
+        (now («piece_lengths» .exit)) (now («out_starts» .exit)) (now («out_ends» .exit)))) r ⌝ }
+{
+    cut_told(split::split(
+        original,
+        normalized,
+        starts,
+        ends,
+        original_shift,
+        list,
+        behavior_of(behavior),
+        empty_of(drop_empty),
+        piece_starts,
+        piece_ends,
+        piece_shifts,
+        piece_lengths,
+        out_starts,
+        out_ends,
+    ))
+}
+
+#[no_mangle]
+pub extern "C" fn zulmyren_get_splits(
+    original: &[u8],
+    normalized: &[u8],
+    starts: &[Offset],
+    ends: &[Offset],
+    original_shift: u32,
+    list: &[u8],
+    behavior: u32,
+    of_original: bool,
+    in_chars: bool,
+    out_starts: &mut [u32],
+    out_ends: &mut [u32],
+) -> Listed
+    ensures { λ r. ⌜ Told splitsNumbers (λ v. GetSplits limit
+        (lent (now (original .entry)) (now (normalized .entry))
+        (now (starts .entry)) (now (ends .entry)) «original_shift») (now (list .entry))
+        (behaviorOf behavior) (sideOf «of_original») (unitOf «in_chars»)
+        (now («out_starts» .entry)) (now («out_ends» .entry))
+        v (now («out_starts» .exit)) (now («out_ends» .exit))) r ⌝ }
+{
+    splits_told(splits::get_splits(
+        original,
+        normalized,
+        starts,
+        ends,
+        original_shift,
+        list,
+        behavior_of(behavior),
+        side_of(of_original),
+        unit_of(in_chars),
         out_starts,
         out_ends,
     ))

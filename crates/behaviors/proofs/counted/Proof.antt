@@ -1,6 +1,5 @@
 -- A piece adds its bytes and one to the count.
 use borrow.Author.Needs.{needs}
-use native.Mathlib.Omega.{arith}
 use Rattle.behaviors.proofs.Tests.{one-counted, none-counted}
 use Rattle.behaviors.proofs.counted.Statement.{statement}
 use Rattle.behaviors.proofs.counted.Tie as tie

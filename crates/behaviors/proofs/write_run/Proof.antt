@@ -1,6 +1,4 @@
 -- One number into each column, or none.
-use mathlib.Core.Path.{refl}
-use native.Mathlib.Omega.{arith}
 use borrow.Author.Needs.{needs}
 use Rattle.behaviors.proofs.Runs.{run-room, run-laid, run-passed}
 use Rattle.behaviors.proofs.write_run.Statement.{statement}

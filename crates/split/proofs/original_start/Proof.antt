@@ -1,5 +1,4 @@
 -- An empty range is its own number, any other one read.
-use native.Mathlib.Omega.{arith}
 use borrow.Author.Needs.{needs}
 use Rattle.split.proofs.Joined.{start-empty, start-read}
 use Rattle.split.proofs.original_start.Statement.{statement}

@@ -1,6 +1,5 @@
 -- Each turn writes the stretch of one more piece behind the others.
 use Prim.Native.Nat.{_-_}
-use mathlib.Core.Path.{_∙_}
 use lib.ListN.{length}
 use native.Mathlib.Omega.{arith}
 use borrow.Author.Needs.{needs}

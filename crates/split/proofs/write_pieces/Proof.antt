@@ -1,44 +1,71 @@
 -- The spans first; by them the other four columns.
 use mathlib.Core.Path.{sym}
 use lib.Seq.{length-take-le}
-use native.Mathlib.Omega.{arith}
 use borrow.Author.Needs.{needs}
-use Rattle.note.specs.Notes.{lent, limit}
+use Rattle.note.specs.Notes.{limit}
 use Rattle.split.specs.Splitting.{columns}
 use Rattle.split.proofs.Judged.{spans-room, from-long, to-long, shifts-room, lengths-room, starts-room, ends-room, all-cut}
 use Rattle.split.proofs.write_pieces.Statement.{statement}
 use Rattle.split.proofs.write_pieces.Tie as tie
 
 write-spans-requires : tie.Need-write-spans-requires
-write-spans-requires c κs = let a = c .before .before .before .before .before .before .before .before .before .before .before .before .before .args in spans-room limit (lent (a .original .now) (a .normalized .now) (a .starts .now) (a .ends .now) (a .original-shift)) (a .list .now) (a .behavior) (a .empty) (columns (a .piece-starts .now) (a .piece-ends .now) (a .piece-shifts .now) (a .piece-lengths .now) (a .out-starts .now) (a .out-ends .now)) (c .before .before .before .before .before .before .before .before .before .before .before .before .before .pre)
+write-spans-requires c κs =
+    let a = c .before .before .before .before .before .before .before .before .before .before .before .before .before .args in
+    spans-room limit _ _ _ _ (columns (a .piece-starts .now) (a .piece-ends .now) (a .piece-shifts .now) (a .piece-lengths .now) (a .out-starts .now) (a .out-ends .now)) (c .before .before .before .before .before .before .before .before .before .before .before .before .before .pre)
 
 from-fits : tie.Need-slice-reshare-prefix-from
-from-fits c = let a = c .before .before .before .before .before .before .before .before .before .before .before .before .before .before .before .before .before .before .args in from-long limit (lent (a .original .now) (a .normalized .now) (a .starts .now) (a .ends .now) (a .original-shift)) (a .list .now) (a .behavior) (a .empty) (columns (a .piece-starts .now) (a .piece-ends .now) (a .piece-shifts .now) (a .piece-lengths .now) (a .out-starts .now) (a .out-ends .now)) (c .before .before .before .before .before .before .before .before .before .before .before .before .before .before .before .before .before .before .pre) (c .before .before .before .before .write-spans .ensures)
+from-fits c =
+    let spans = c .before .before .before .before in
+    let a = spans .before .before .before .before .before .before .before .before .before .before .before .before .before .before .args in
+    from-long limit _ _ _ _ (columns (a .piece-starts .now) (a .piece-ends .now) (a .piece-shifts .now) (a .piece-lengths .now) (a .out-starts .now) (a .out-ends .now)) (spans .before .before .before .before .before .before .before .before .before .before .before .before .before .before .pre) (spans .write-spans .ensures)
 
 from-whole : tie.Need-slice-aggregate-from
-from-whole c = let a = c .before .before .before .before .before .before .before .before .before .before .before .before .before .before .before .before .before .before .before .args in sym (length-take-le _ _ (from-long limit (lent (a .original .now) (a .normalized .now) (a .starts .now) (a .ends .now) (a .original-shift)) (a .list .now) (a .behavior) (a .empty) (columns (a .piece-starts .now) (a .piece-ends .now) (a .piece-shifts .now) (a .piece-lengths .now) (a .out-starts .now) (a .out-ends .now)) (c .before .before .before .before .before .before .before .before .before .before .before .before .before .before .before .before .before .before .before .pre) (c .before .before .before .before .before .write-spans .ensures)))
+from-whole c =
+    let spans = c .before .before .before .before .before in
+    let a = spans .before .before .before .before .before .before .before .before .before .before .before .before .before .before .args in
+    sym (length-take-le _ _ (from-long limit _ _ _ _ (columns (a .piece-starts .now) (a .piece-ends .now) (a .piece-shifts .now) (a .piece-lengths .now) (a .out-starts .now) (a .out-ends .now)) (spans .before .before .before .before .before .before .before .before .before .before .before .before .before .before .pre) (spans .write-spans .ensures)))
 
 to-fits : tie.Need-slice-reshare-prefix-to
-to-fits c = let a = c .before .before .before .before .before .before .before .before .before .before .before .before .before .before .before .before .before .before .before .args in to-long limit (lent (a .original .now) (a .normalized .now) (a .starts .now) (a .ends .now) (a .original-shift)) (a .list .now) (a .behavior) (a .empty) (columns (a .piece-starts .now) (a .piece-ends .now) (a .piece-shifts .now) (a .piece-lengths .now) (a .out-starts .now) (a .out-ends .now)) (c .before .before .before .before .before .before .before .before .before .before .before .before .before .before .before .before .before .before .before .pre) (c .before .before .before .before .before .write-spans .ensures)
+to-fits c =
+    let spans = c .before .before .before .before .before in
+    let a = spans .before .before .before .before .before .before .before .before .before .before .before .before .before .before .args in
+    to-long limit _ _ _ _ (columns (a .piece-starts .now) (a .piece-ends .now) (a .piece-shifts .now) (a .piece-lengths .now) (a .out-starts .now) (a .out-ends .now)) (spans .before .before .before .before .before .before .before .before .before .before .before .before .before .before .pre) (spans .write-spans .ensures)
 
 to-whole : tie.Need-slice-aggregate-to
-to-whole c = let a = c .before .before .before .before .before .before .before .before .before .before .before .before .before .before .before .before .before .before .before .before .args in sym (length-take-le _ _ (to-long limit (lent (a .original .now) (a .normalized .now) (a .starts .now) (a .ends .now) (a .original-shift)) (a .list .now) (a .behavior) (a .empty) (columns (a .piece-starts .now) (a .piece-ends .now) (a .piece-shifts .now) (a .piece-lengths .now) (a .out-starts .now) (a .out-ends .now)) (c .before .before .before .before .before .before .before .before .before .before .before .before .before .before .before .before .before .before .before .before .pre) (c .before .before .before .before .before .before .write-spans .ensures)))
+to-whole c =
+    let spans = c .before .before .before .before .before .before in
+    let a = spans .before .before .before .before .before .before .before .before .before .before .before .before .before .before .args in
+    sym (length-take-le _ _ (to-long limit _ _ _ _ (columns (a .piece-starts .now) (a .piece-ends .now) (a .piece-shifts .now) (a .piece-lengths .now) (a .out-starts .now) (a .out-ends .now)) (spans .before .before .before .before .before .before .before .before .before .before .before .before .before .before .pre) (spans .write-spans .ensures)))
 
 write-shifts-requires : tie.Need-write-shifts-requires
-write-shifts-requires c κs = let a = c .before .before .before .before .before .before .before .before .before .before .before .before .before .before .before .before .before .before .before .before .before .args in shifts-room limit (lent (a .original .now) (a .normalized .now) (a .starts .now) (a .ends .now) (a .original-shift)) (a .list .now) (a .behavior) (a .empty) (columns (a .piece-starts .now) (a .piece-ends .now) (a .piece-shifts .now) (a .piece-lengths .now) (a .out-starts .now) (a .out-ends .now)) (c .before .before .before .before .before .before .before .before .before .before .before .before .before .before .before .before .before .before .before .before .before .pre) (c .before .before .before .before .before .before .before .write-spans .ensures)
+write-shifts-requires c κs =
+    let spans = c .before .before .before .before .before .before .before in
+    let a = spans .before .before .before .before .before .before .before .before .before .before .before .before .before .before .args in
+    shifts-room limit _ _ _ _ (columns (a .piece-starts .now) (a .piece-ends .now) (a .piece-shifts .now) (a .piece-lengths .now) (a .out-starts .now) (a .out-ends .now)) (spans .before .before .before .before .before .before .before .before .before .before .before .before .before .before .pre) (spans .write-spans .ensures)
 
 write-lengths-requires : tie.Need-write-lengths-requires
-write-lengths-requires c κs = let a = c .before .before .before .before .before .before .before .before .before .before .before .before .before .before .before .before .before .before .before .before .before .before .before .before .before .args in lengths-room limit (lent (a .original .now) (a .normalized .now) (a .starts .now) (a .ends .now) (a .original-shift)) (a .list .now) (a .behavior) (a .empty) (columns (a .piece-starts .now) (a .piece-ends .now) (a .piece-shifts .now) (a .piece-lengths .now) (a .out-starts .now) (a .out-ends .now)) (c .before .before .before .before .before .before .before .before .before .before .before .before .before .before .before .before .before .before .before .before .before .before .before .before .before .pre) (c .before .before .before .before .before .before .before .before .before .before .before .write-spans .ensures)
+write-lengths-requires c κs =
+    let spans = c .before .before .before .before .before .before .before .before .before .before .before in
+    let a = spans .before .before .before .before .before .before .before .before .before .before .before .before .before .before .args in
+    lengths-room limit _ _ _ _ (columns (a .piece-starts .now) (a .piece-ends .now) (a .piece-shifts .now) (a .piece-lengths .now) (a .out-starts .now) (a .out-ends .now)) (spans .before .before .before .before .before .before .before .before .before .before .before .before .before .before .pre) (spans .write-spans .ensures)
 
 write-column-requires : tie.Need-write-column-requires
-write-column-requires c κs = let a = c .before .before .before .before .before .before .before .before .before .before .before .before .before .before .before .before .before .before .before .before .before .before .before .before .before .before .before .before .before .args in starts-room limit (lent (a .original .now) (a .normalized .now) (a .starts .now) (a .ends .now) (a .original-shift)) (a .list .now) (a .behavior) (a .empty) (columns (a .piece-starts .now) (a .piece-ends .now) (a .piece-shifts .now) (a .piece-lengths .now) (a .out-starts .now) (a .out-ends .now)) (c .before .before .before .before .before .before .before .before .before .before .before .before .before .before .before .before .before .before .before .before .before .before .before .before .before .before .before .before .before .pre) (c .before .before .before .before .before .before .before .before .before .before .before .before .before .before .before .write-spans .ensures)
+write-column-requires c κs =
+    let spans = c .before .before .before .before .before .before .before .before .before .before .before .before .before .before .before in
+    let a = spans .before .before .before .before .before .before .before .before .before .before .before .before .before .before .args in
+    starts-room limit _ _ _ _ (columns (a .piece-starts .now) (a .piece-ends .now) (a .piece-shifts .now) (a .piece-lengths .now) (a .out-starts .now) (a .out-ends .now)) (spans .before .before .before .before .before .before .before .before .before .before .before .before .before .before .pre) (spans .write-spans .ensures)
 
 write-column-requires-2 : tie.Need-write-column-requires-2
-write-column-requires-2 c κs = let a = c .before .before .before .before .before .before .before .before .before .before .before .before .before .before .before .before .before .before .before .before .before .before .before .before .before .before .before .before .before .before .before .before .before .args in ends-room limit (lent (a .original .now) (a .normalized .now) (a .starts .now) (a .ends .now) (a .original-shift)) (a .list .now) (a .behavior) (a .empty) (columns (a .piece-starts .now) (a .piece-ends .now) (a .piece-shifts .now) (a .piece-lengths .now) (a .out-starts .now) (a .out-ends .now)) (c .before .before .before .before .before .before .before .before .before .before .before .before .before .before .before .before .before .before .before .before .before .before .before .before .before .before .before .before .before .before .before .before .before .pre) (c .before .before .before .before .before .before .before .before .before .before .before .before .before .before .before .before .before .before .before .write-spans .ensures)
+write-column-requires-2 c κs =
+    let spans = c .before .before .before .before .before .before .before .before .before .before .before .before .before .before .before .before .before .before .before in
+    let a = spans .before .before .before .before .before .before .before .before .before .before .before .before .before .before .args in
+    ends-room limit _ _ _ _ (columns (a .piece-starts .now) (a .piece-ends .now) (a .piece-shifts .now) (a .piece-lengths .now) (a .out-starts .now) (a .out-ends .now)) (spans .before .before .before .before .before .before .before .before .before .before .before .before .before .before .pre) (spans .write-spans .ensures)
 
 returns : tie.Need-returns
 returns c =
-    let a = c .before .before .before .before .before .before .before .before .before .before .before .before .before .before .before .before .before .before .before .before .before .before .before .before .before .before .before .before .before .before .before .before .before .before .before .before .args in all-cut limit (lent (a .original .now) (a .normalized .now) (a .starts .now) (a .ends .now) (a .original-shift)) (a .list .now) (a .behavior) (a .empty) (columns (a .piece-starts .now) (a .piece-ends .now) (a .piece-shifts .now) (a .piece-lengths .now) (a .out-starts .now) (a .out-ends .now)) (c .before .before .before .before .before .before .before .before .before .before .before .before .before .before .before .before .before .before .before .before .before .before .before .before .before .before .before .before .before .before .before .before .before .before .before .before .pre) (c .before .before .before .before .before .before .before .before .before .before .before .before .before .before .before .before .before .before .before .before .before .before .write-spans .ensures)
+    let spans = c .before .before .before .before .before .before .before .before .before .before .before .before .before .before .before .before .before .before .before .before .before .before in
+    let a = spans .before .before .before .before .before .before .before .before .before .before .before .before .before .before .args in
+    all-cut limit _ _ _ _ (columns (a .piece-starts .now) (a .piece-ends .now) (a .piece-shifts .now) (a .piece-lengths .now) (a .out-starts .now) (a .out-ends .now)) (spans .before .before .before .before .before .before .before .before .before .before .before .before .before .before .pre) (spans .write-spans .ensures)
     (c .before .before .before .before .before .before .before .before .before .before .before .before .before .before .write-shifts .ensures) (c .before .before .before .before .before .before .before .before .before .before .write-lengths .ensures) (c .before .before .before .before .before .before .write-column .ensures) (c .before .before .write-column2 .ensures)
 
 pub write-pieces-spec : {M : Type 1} → statement M
