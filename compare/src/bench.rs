@@ -81,11 +81,13 @@ const fn everywhere(ratio: f64) -> Aims {
 const LINEAR: f64 = 1.3;
 
 /// The columns of the table: who else is measured. A row says in its name what exactly.
-const OTHERS: [&str; 4] = ["The Rust", "simdutf8 and the Rust or memmem", "memmem alone", "Copying"];
+const OTHERS: [&str; 5] =
+    ["The Rust", "simdutf8 and the Rust or memmem", "memmem alone", "Copying", "Ours, an eighth of the pieces"];
 const RUST: usize = 0;
 const SIMDUTF8: usize = 1;
 const MEMMEM: usize = 2;
 const COPYING: usize = 3;
+const FEWER: usize = 4;
 
 /// Another call than ours: its column and the aims beside it.
 type Other = (usize, Aims);

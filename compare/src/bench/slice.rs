@@ -1,18 +1,16 @@
 //! Slicing.
 
 use super::layouts::{self, Marked, LEN};
-use super::{at_most, side, timed, Bench, Side, Table};
+use super::{at_most, side, timed, Bench, Side, Table, RUST};
 use crate::library;
 use crate::texts;
 use std::hint::black_box;
 use tokenizers::normalizer::Range;
 use tokenizers::NormalizedString;
 
-const SLICE: Table =
-    Table::new("slice, half of the cleaned text, check included", &[("NormalizedString::slice", at_most(0.5))]);
+const SLICE: Table = Table::new("`slice`, half of the cleaned text, check included", &[(RUST, at_most(0.5))]);
 
-const SLICE_ORIGINAL: Table =
-    Table::new("slice, half of the transcript, check included", &[("NormalizedString::slice", at_most(0.5))]);
+const SLICE_ORIGINAL: Table = Table::new("`slice`, half of the transcript, check included", &[(RUST, at_most(0.5))]);
 
 pub fn bench(bench: &mut Bench) {
     bench.table(&SLICE, |texts| slice(texts, false));

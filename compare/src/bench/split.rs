@@ -1,7 +1,7 @@
 //! Splitting and split offsets.
 
 use super::layouts::{self, Marked, LEN};
-use super::{at_most, side, timed, Bench, Side, Table, NO_AIM};
+use super::{at_most, side, timed, Bench, Side, Table, FEWER, NO_AIM, RUST};
 use crate::library::{self, Count, Cut, Cutting};
 use crate::note::Note;
 use crate::places::{self, Handed, Place};
@@ -14,58 +14,37 @@ use tokenizers::{NormalizedString, OffsetReferential};
 
 const MANY: usize = 10_000;
 
-const SPLIT: Table = Table::new(
-    "split into 10,000 pieces, check included",
-    &[
-        ("NormalizedString::split of a list, which does not check", at_most(0.05)),
-        ("the same, and freeing the pieces", NO_AIM),
-    ],
-);
+/// Beside `NormalizedString::split` of a list, which does not check; its pieces are freed after the clock is read.
+const SPLIT: Table = Table::new("`split` into 10,000 pieces, check included", &[(RUST, at_most(0.05))]);
 
-const CONTIGUOUS: Table = Table::new(
-    "split of 10,000 places that are by turns matched, Contiguous",
-    &[
-        ("NormalizedString::split of a list, which does not check", NO_AIM),
-        ("the same, and freeing the pieces", NO_AIM),
-    ],
-);
+const CONTIGUOUS: Table =
+    Table::new("`split` of 10,000 places that are by turns matched, Contiguous", &[(RUST, NO_AIM)]);
 
-const MERGED: Table = Table::new(
-    "split of 10,000 places into 5,000 pieces, MergedWithPrevious",
-    &[
-        ("NormalizedString::split of a list, which does not check", NO_AIM),
-        ("the same, and freeing the pieces", NO_AIM),
-    ],
-);
+const MERGED: Table =
+    Table::new("`split` of 10,000 places into 5,000 pieces, MergedWithPrevious", &[(RUST, NO_AIM)]);
 
-const GROWTH: Table = Table::new(
-    "split into 10,000 pieces",
-    &[("our own split into 1,250 pieces", at_most(1.5)), ("our own split into 10 pieces", NO_AIM)],
-);
+const GROWTH: Table = Table::new("`split` into 10,000 pieces beside 1,250", &[(FEWER, at_most(1.5))]);
 
+/// Beside `PreTokenizedString::split` of a list, and `get_splits`.
 const CHARACTERS: Table = Table::new(
-    "get_splits of 10,000 pieces, transcript, in characters, check included",
-    &[("PreTokenizedString::split of a list and get_splits", at_most(0.01))],
+    "`get_splits` of 10,000 pieces, transcript, in characters, check included",
+    &[(RUST, at_most(0.01))],
 );
 
-const BYTES: Table = Table::new(
-    "get_splits of 10,000 pieces, transcript, in bytes, check included",
-    &[("PreTokenizedString::split of a list and get_splits", NO_AIM)],
-);
+const BYTES: Table =
+    Table::new("`get_splits` of 10,000 pieces, transcript, in bytes, check included", &[(RUST, NO_AIM)]);
 
-const OFFSETS_GROWTH: Table = Table::new(
-    "get_splits of 10,000 pieces, transcript, in characters",
-    &[("our own of 1,250 pieces", at_most(1.5)), ("our own of 10 pieces", NO_AIM)],
-);
+const OFFSETS_GROWTH: Table =
+    Table::new("`get_splits` of 10,000 pieces, in characters, beside 1,250", &[(FEWER, at_most(1.5))]);
 
 pub fn bench(bench: &mut Bench) {
     bench.table(&SPLIT, |texts| split(texts, Isolated));
     bench.table(&CONTIGUOUS, |texts| split(texts, Contiguous));
     bench.table(&MERGED, |texts| split(texts, MergedWithPrevious));
-    bench.table(&GROWTH, |texts| [MANY, MANY / 8, 10].map(|count| our_split(texts, count, Isolated)).into());
+    bench.table(&GROWTH, |texts| [MANY, MANY / 8].map(|count| our_split(texts, count, Isolated)).into());
     bench.table(&CHARACTERS, |texts| get_splits(texts, OffsetType::Char));
     bench.table(&BYTES, |texts| get_splits(texts, OffsetType::Byte));
-    bench.table(&OFFSETS_GROWTH, |texts| [MANY, MANY / 8, 10].map(|count| our_splits(texts, count, true)).into());
+    bench.table(&OFFSETS_GROWTH, |texts| [MANY, MANY / 8].map(|count| our_splits(texts, count, true)).into());
 }
 
 fn fresh(texts: &[Marked]) -> Vec<NormalizedString> {
@@ -121,17 +100,13 @@ fn our_split(texts: &[Marked], count: usize, behavior: SplitDelimiterBehavior) -
 }
 
 fn split(texts: &[Marked], behavior: SplitDelimiterBehavior) -> Vec<Side<'_>> {
-    let (ready, freed) = (fresh(texts), fresh(texts));
+    let ready = fresh(texts);
     let places = |i: usize| Handed::new(&cut(&texts[i].text, MANY));
     vec![
         our_split(texts, MANY, behavior),
         side(move |i| {
             let places = places(i);
             timed(|| black_box(&ready[i]).split(places, black_box(behavior)))
-        }),
-        side(move |i| {
-            let places = places(i);
-            timed(|| drop(black_box(black_box(&freed[i]).split(places, black_box(behavior)))))
         }),
     ]
 }

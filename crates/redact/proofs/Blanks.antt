@@ -19,7 +19,7 @@ use Rattle.validity.specs.Texts.{ascii}
 use Rattle.note.specs.Notes.{limit}
 use Rattle.note.specs.Starting.{charStart, charEnd, starting}
 use Rattle.pattern.specs.declared.Place.{Place}
-use Rattle.find.specs.Matching.{firstFrom, First, between, matchesFrom, foundPlaces}
+use Rattle.find.specs.Matching.{firstFrom, FirstMatch, between, matchesFrom, foundPlaces}
 use Rattle.find.specs.Searching.{firstMatch}
 use Rattle.find.proofs.MatchesFrom.{Searched, first-there, match-inside, searched-more, matches-more, matches-end}
 use Rattle.find.proofs.FoundPlaces.{between-some, between-none, found-whole, searched-first, found-from, places-cover}
@@ -85,7 +85,7 @@ module _ (text literal content : List ℕ) where
   behind-long (suc n) i p few s h =
       let q : ℕ = firstFrom text literal (p + length literal) in
       let next : Searched text literal (p + length literal) q = searched-more s h refl in
-      let f : First text literal (p + length literal) q = first-there next in
+      let f : FirstMatch text literal (p + length literal) q = first-there next in
       let inside = match-inside s h in
       let long : after p ≡ length content + ((q - (p + length literal)) + after q) =
       ap length (behind-more (λ end. content) text text literal h ∙ ap (_++_ content) (rest-laid (λ end. content) text text literal next))
