@@ -42,7 +42,8 @@ mul-to c =
 sub-sum : tie.Need-sub-sum Inv-loop μ-loop
 sub-sum c =
     let head = c .before .before .before .before .before .before .before in
-    omega (arith, piece-here (head .before .before .before .before .before .before .pre) (head .loop .inv) (c .before .before .before .before .before .before .loop-test .taken) .some)
+    let piece = piece-here (head .before .before .before .before .before .before .pre) (head .loop .inv) (c .before .before .before .before .before .before .loop-test .taken) in
+    omega (arith, piece .some, piece .behind)
 
 add-sum : tie.Need-add-sum Inv-loop μ-loop
 add-sum c =
