@@ -1,0 +1,4 @@
+-- Laws of `append` and `prepend`.
+pub mod Adding
+pub mod Closed
+pub mod Joined
