@@ -4,6 +4,7 @@
 mod matches;
 mod notes;
 mod pairs;
+mod pieces;
 mod printing;
 mod ranges;
 mod slices;
@@ -107,6 +108,8 @@ fn replay_matches() {
 
 fn replay_slices() {
     replay(15, b"slice");
+    replay(16, b"split");
+    replay(17, b"get_splits");
 }
 
 fn replay_programs() {

@@ -2,6 +2,8 @@
 use crate::matches::published_alike;
 use crate::matches::replace;
 use crate::pairs::on_pairs;
+use crate::pieces::get_splits;
+use crate::pieces::split;
 use crate::ranges::convert_offsets;
 use crate::ranges::get_range;
 use crate::ranges::get_range_original;
@@ -48,6 +50,8 @@ fn called(call: u8, case: &[u8], starts: &[Offset], ends: &[Offset]) -> bool {
         10 => replace(case, starts, ends),
         11 => published_alike(case, starts, ends),
         15 => slice(case, starts, ends),
+        16 => split(case, starts, ends),
+        17 => get_splits(case, starts, ends),
         _ => false,
     }
 }

@@ -27,9 +27,7 @@ fn sliced(
         out_starts,
         out_ends,
     );
-    is_slice(case, 10, answer)
-        & are_offsets(case, 16, out_starts)
-        & are_offsets(case, 17, out_ends)
+    is_slice(case, 10, answer) & are_offsets(case, 16, out_starts) & are_offsets(case, 17, out_ends)
 }
 
 // A note, a range, the lent starts and ends; the refusal, the two ranges, the shift, the two columns.
