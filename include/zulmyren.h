@@ -204,19 +204,14 @@ zulmyren_count zulmyren_replace(
     uint8_t *out, size_t out_len,
     uint16_t *out_starts, size_t out_starts_len, uint16_t *out_ends, size_t out_ends_len);
 
-/* Blanks every match of a literal in a fresh text: zulmyren_from_text, zulmyren_find_matches and zulmyren_replace in
- * one call. It writes six buffers: the first text_len elements of starts and ends, the match list at the front of
- * list, and the published note in the first count elements of out, out_starts and out_ends. How long the list is, is
- * not answered: it is over with the place that ends at text_len.
- * Refusals: 2 (the text), 1 (text, literal or filler), 9 (any of the six is too small, or count would be over 65,535).
- * Room, always enough:
- * - starts, ends: text_len.
- * - list: 5 * (2 * (text_len / literal_len) + 1) where literal_len > 0, and 5 where it is 0.
- * - out, out_starts, out_ends: text_len where content_len <= literal_len or literal_len is 0, and else 65,535. */
+/* Blanks every match of a literal in a fresh text: what zulmyren_from_text, zulmyren_find_matches and zulmyren_replace
+ * publish one after the other, in one call that needs no list and no columns of the fresh note. The published note
+ * stands in the first count elements of out, out_starts and out_ends.
+ * Refusals: 2 (the text), 1 (text, literal or filler), 9 (any of the three is too small, or count would be over 65,535).
+ * Room, always enough: text_len where content_len <= literal_len or literal_len is 0, and else 65,535. */
 zulmyren_count zulmyren_redact(
     const uint8_t *text, size_t text_len, const uint8_t *literal, size_t literal_len,
     const uint8_t *content, size_t content_len,
-    uint16_t *starts, size_t starts_len, uint16_t *ends, size_t ends_len, uint8_t *list, size_t list_len,
     uint8_t *out, size_t out_len,
     uint16_t *out_starts, size_t out_starts_len, uint16_t *out_ends, size_t out_ends_len);
 

@@ -75,9 +75,7 @@ calls! {
     fn zulmyren_char_offsets_all(read u8, read u32, read u32, write u8, write u32, write u32) -> u32;
     fn zulmyren_find_matches(read u8, read u8, write u8) -> Listed;
     fn zulmyren_replace(note, read u8, read u8, write u8, write u16, write u16) -> Count;
-    fn zulmyren_redact(
-        read u8, read u8, read u8, write u16, write u16, write u8, write u8, write u16, write u16
-    ) -> Count;
+    fn zulmyren_redact(read u8, read u8, read u8, write u8, write u16, write u16) -> Count;
     fn zulmyren_published_alike(note, note, read u8, read u8) -> Comparison;
 }
 
@@ -146,14 +144,6 @@ pub struct Publishing<'a> {
     pub ends: &'a mut [u16],
 }
 
-/// The buffers lent to `redact`: for the starting note's columns, the list, and the published note.
-pub struct Redacting<'a> {
-    pub starts: &'a mut [u16],
-    pub ends: &'a mut [u16],
-    pub list: &'a mut [u8],
-    pub out: Publishing<'a>,
-}
-
 pub fn well_formed(text: &[u8]) -> bool {
     unsafe { lend!(zulmyren_well_formed; read text) }
 }
@@ -210,11 +200,9 @@ pub fn replace(note: &Note, list: &[u8], filler: &[u8], out: Publishing) -> Coun
     }
 }
 
-pub fn redact(text: &[u8], literal: &[u8], filler: &[u8], lent: Redacting) -> Count {
-    let Redacting { starts, ends, list, out } = lent;
+pub fn redact(text: &[u8], literal: &[u8], filler: &[u8], out: Publishing) -> Count {
     unsafe {
-        lend!(zulmyren_redact; read text, read literal, read filler, write starts, write ends, write list,
-            write out.text, write out.starts, write out.ends)
+        lend!(zulmyren_redact; read text, read literal, read filler, write out.text, write out.starts, write out.ends)
     }
 }
 

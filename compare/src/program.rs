@@ -47,7 +47,7 @@ fn run([text, literal, filler]: [&[u8]; 3], alignments: bool) -> Output {
 
 /// Both outputs of a note: nothing is printed where it is refused, and its number is said on standard error.
 fn publish(tally: &mut Tally, strings: [&[u8]; 3]) {
-    let expected = redact::expected(strings).map(|redacted| redacted.published);
+    let expected = redact::expected(strings);
     for alignments in [false, true] {
         let printed = run(strings, alignments);
         let said = String::from_utf8_lossy(&printed.stderr);

@@ -4,9 +4,8 @@
 use crate::every;
 use crate::find;
 use crate::lent::Lent;
-use crate::library::{self, Count, Publishing, Redacting};
+use crate::library::{self, Count, Publishing};
 use crate::note::Note;
-use crate::notes;
 use crate::places;
 use crate::random::Random;
 use crate::refusals::{ILL_FORMED, NO_ROOM};
@@ -28,58 +27,35 @@ pub fn compare(report: &mut Report) {
     });
 }
 
-/// What an accepted call leaves: the starting note's columns, the list of matches, and the published note.
-#[derive(Default)]
-pub struct Redacted {
-    fresh: Note,
-    list: Vec<u8>,
-    pub published: Note,
+/// The lengths of the lent buffers, in the call's order: text, starts, ends.
+type Rooms = [usize; 3];
+
+fn sizes(published: &Note) -> Rooms {
+    [published.normalized.len(), published.starts.len(), published.ends.len()]
 }
 
-/// The lengths of the lent buffers, in the call's order: starts, ends, list, and the published text, starts, ends.
-type Rooms = [usize; 6];
-
-impl Redacted {
-    fn rooms(&self) -> Rooms {
-        let (fresh, published) = (self.fresh.starts.len(), self.published.starts.len());
-        [fresh, fresh, self.list.len(), published, published, published]
-    }
-}
-
-/// What the Rust original makes, or the refusal that docs/RULES.md gives in any room.
-pub fn expected([text, literal, filler]: [&[u8]; 3]) -> Result<Redacted, u32> {
+/// What the Rust original publishes, or the refusal that docs/RULES.md gives in any room.
+pub fn expected([text, literal, filler]: [&[u8]; 3]) -> Result<Note, u32> {
     let list = find::expected(text, literal)?;
-    let fresh = notes::expected_from_text(text)?;
     let filler = from_utf8(filler).map_err(|_| ILL_FORMED)?;
     let [text, literal] = [text, literal].map(|string| from_utf8(string).expect("it was judged"));
     let places = places::read(&list).expect("the second implementation's list");
-    let published = replace::published(NormalizedString::from(text), literal, filler, &places)?;
-    Ok(Redacted { fresh, list, published })
+    replace::published(NormalizedString::from(text), literal, filler, &places)
 }
 
-/// Our answer in these rooms, and which of the six buffers hold what they are to.
-fn in_rooms([text, literal, filler]: [&[u8]; 3], rooms: Rooms, wanted: &Redacted) -> (Count, [bool; 6]) {
-    let [mut starts, mut ends, mut out_starts, mut out_ends] = [0, 1, 4, 5].map(|i| Lent::new(rooms[i]));
-    let [mut list, mut out] = [2, 3].map(|i| Lent::new(rooms[i]));
-    let published = Publishing { text: out.part(), starts: out_starts.part(), ends: out_ends.part() };
-    let lent = Redacting { starts: starts.part(), ends: ends.part(), list: list.part(), out: published };
+/// Our answer in these rooms, and which of the three buffers hold what they are to.
+fn in_rooms([text, literal, filler]: [&[u8]; 3], rooms: Rooms, wanted: &Note) -> (Count, [bool; 3]) {
+    let mut out = Lent::new(rooms[0]);
+    let [mut starts, mut ends] = [1, 2].map(|i| Lent::new(rooms[i]));
+    let lent = Publishing { text: out.part(), starts: starts.part(), ends: ends.part() };
     let ours = library::redact(text, literal, filler, lent);
-    let Redacted { fresh, list: places, published } = wanted;
-    let held = [
-        starts.holds(&fresh.starts),
-        ends.holds(&fresh.ends),
-        list.holds(places),
-        out.holds(&published.normalized),
-        out_starts.holds(&published.starts),
-        out_ends.holds(&published.ends),
-    ];
-    (ours, held)
+    (ours, [out.holds(&wanted.normalized), starts.holds(&wanted.starts), ends.holds(&wanted.ends)])
 }
 
 fn redact(tally: &mut Tally, strings: [&[u8]; 3], rooms: impl FnOnce(Rooms) -> Vec<Rooms>) {
     let result = expected(strings);
-    let nothing = Redacted::default();
-    let sizes = result.as_ref().map_or([strings[0].len().min(300); 6], Redacted::rooms);
+    let nothing = Note::default();
+    let sizes = result.as_ref().map_or([strings[0].len().min(300); 3], sizes);
     for room in rooms(sizes) {
         let (refusal, wanted) = match &result {
             Err(refusal) => (*refusal, &nothing),
@@ -87,8 +63,8 @@ fn redact(tally: &mut Tally, strings: [&[u8]; 3], rooms: impl FnOnce(Rooms) -> V
             Ok(result) => (0, result),
         };
         let (ours, held) = in_rooms(strings, room, wanted);
-        let theirs = Count { refusal, count: wanted.published.normalized.len() as u32 };
-        tally.case(tally::refusal(ours.refusal), ours != theirs || held != [true; 6], || {
+        let theirs = Count { refusal, count: wanted.normalized.len() as u32 };
+        tally.case(tally::refusal(ours.refusal), ours != theirs || held != [true; 3], || {
             let [text, literal, filler] = strings.map(hex);
             format!(
                 "ours {ours:?}, theirs {theirs:?}, buffers equal {held:?}, in rooms {room:?}, {literal} by {filler} in \
@@ -110,7 +86,7 @@ fn rooms(sizes: Rooms) -> Vec<Rooms> {
         room[i] = sizes[i].saturating_sub(1);
         room
     };
-    enough(sizes).into_iter().chain((0..6).map(short)).collect()
+    enough(sizes).into_iter().chain((0..3).map(short)).collect()
 }
 
 fn every_short_text(tally: &mut Tally) {
@@ -143,7 +119,7 @@ fn every_ill_formed_string(tally: &mut Tally) {
     for text in &all {
         for literal in &all {
             for filler in &all {
-                redact(tally, [text, literal, filler], |sizes| vec![sizes, [0; 6]]);
+                redact(tally, [text, literal, filler], |sizes| vec![sizes, [0; 3]]);
             }
         }
     }

@@ -312,49 +312,41 @@ fn alike() -> Answers {
     answers
 }
 
-/// What the six buffers of a redaction hold: list, starting columns, text, its columns.
-type Redaction = (Vec<u8>, Note, Note);
-
-fn redaction(text: &[u8], literal: &[u8], content: &[u8]) -> Result<Redaction, u32> {
+fn redaction(text: &[u8], literal: &[u8], content: &[u8]) -> Result<Note, u32> {
     let list = find::expected(text, literal)?;
     from_utf8(content).map_err(|_| 1_u32)?;
-    let note = notes::expected_from_text(text)?;
-    let result = replace::expected(&note, &list, content)?;
-    Ok((list, note, result))
+    replace::expected(&notes::expected_from_text(text)?, &list, content)
 }
 
-/// A text, a literal, a content, the lent list, starting columns, text and columns; the refusal, the size, the six
-/// buffers.
-fn redact(answers: &mut Answers, strings: [&[u8]; 3], rooms: impl Fn([usize; 6]) -> Vec<[usize; 6]>) {
+/// A text, a literal, a content, the lent text and columns; the refusal, the size, the three buffers.
+fn redact(answers: &mut Answers, strings: [&[u8]; 3], rooms: impl Fn([usize; 3]) -> Vec<[usize; 3]>) {
     let [text, literal, content] = strings;
     let nothing = || Note { original: vec![], normalized: vec![], starts: vec![], ends: vec![], original_shift: 0 };
     let result = redaction(text, literal, content);
-    let sizes = result.as_ref().map_or([9; 6], |(list, note, result)| {
-        [list.len(), note.starts.len(), note.ends.len(), result.normalized.len(), result.starts.len(), result.ends.len()]
-    });
+    let sizes =
+        result.as_ref().map_or([9; 3], |result| [result.normalized.len(), result.starts.len(), result.ends.len()]);
     for room in rooms(sizes) {
-        let (refusal, (list, note, result)) = match &result {
-            Err(refusal) => (*refusal, (vec![], nothing(), nothing())),
-            Ok(_) if room.iter().zip(sizes).any(|(&room, size)| room < size) => (9, (vec![], nothing(), nothing())),
+        let (refusal, result) = match &result {
+            Err(refusal) => (*refusal, nothing()),
+            Ok(_) if room.iter().zip(sizes).any(|(&room, size)| room < size) => (9, nothing()),
             Ok(result) => (0, result.clone()),
         };
-        answers.answer().text(text).text(literal).text(content).lent_text(room[0]).lent_column(room[1]);
-        answers.lent_column(room[2]).lent_text(room[3]).lent_column(room[4]).lent_column(room[5]);
-        answers.number(refusal).number(result.normalized.len() as u32).left_text(room[0], &list);
-        answers.left_column(room[1], &note.starts).left_column(room[2], &note.ends);
-        answers.left_text(room[3], &result.normalized);
-        answers.left_column(room[4], &result.starts).left_column(room[5], &result.ends);
+        answers.answer().text(text).text(literal).text(content);
+        answers.lent_text(room[0]).lent_column(room[1]).lent_column(room[2]);
+        answers.number(refusal).number(result.normalized.len() as u32);
+        answers.left_text(room[0], &result.normalized);
+        answers.left_column(room[1], &result.starts).left_column(room[2], &result.ends);
     }
 }
 
 /// Just large enough, larger, and short by one in each in turn.
-fn six_rooms(sizes: [usize; 6]) -> Vec<[usize; 6]> {
+fn around(sizes: [usize; 3]) -> Vec<[usize; 3]> {
     let short = |i: usize| {
         let mut room = sizes;
         room[i] = sizes[i].saturating_sub(1);
         room
     };
-    [sizes, sizes.map(|size| size + 3)].into_iter().chain((0..6).map(short)).collect()
+    [sizes, sizes.map(|size| size + 3)].into_iter().chain((0..3).map(short)).collect()
 }
 
 fn redacted() -> Answers {
@@ -367,15 +359,23 @@ fn redacted() -> Answers {
             }
         }
     }
-    redact(&mut answers, [&b"nest 12"[..], b"t", b"**"], six_rooms);
-    redact(&mut answers, ["é漢é".as_bytes(), "é".as_bytes(), b"x"], six_rooms);
-    for strings in [[&b"a\xFF"[..], b"a", b"x"], [b"a", b"\xC3", b"x"], [b"a", b"a", b"\xE2\x82"]] {
-        redact(&mut answers, strings, |sizes| vec![sizes, [0; 6]]);
+    redact(&mut answers, [&b"nest 12"[..], b"t", b"**"], around);
+    redact(&mut answers, ["é漢é".as_bytes(), "é".as_bytes(), b"x"], around);
+    let blocks = ["aé漢😀 nest 12 ".repeat(12), format!("{}é{}", "a".repeat(90), "b".repeat(90))];
+    for (text, literal) in blocks.iter().zip(["nest 12", "é"]) {
+        for content in ["", "*****", "nine bytes"] {
+            redact(&mut answers, [text, literal, content].map(str::as_bytes), |sizes| {
+                vec![sizes, sizes.map(|size| size + 90)]
+            });
+        }
     }
-    redact(&mut answers, [&[b'a'; LIMIT + 1], b"a", b"x"], |_| vec![[LIMIT + 1; 6], [0; 6]]);
+    for strings in [[&b"a\xFF"[..], b"a", b"x"], [b"a", b"\xC3", b"x"], [b"a", b"a", b"\xE2\x82"]] {
+        redact(&mut answers, strings, |sizes| vec![sizes, [0; 3]]);
+    }
+    redact(&mut answers, [&[b'a'; LIMIT + 1], b"a", b"x"], |_| vec![[LIMIT + 1; 3], [0; 3]]);
     redact(&mut answers, [&[b'a'; LIMIT], b"b", b"x"], |sizes| vec![sizes]);
     redact(&mut answers, [&[b'a'; LIMIT], &[b'a'; LIMIT], b"x"], |sizes| vec![sizes]);
     redact(&mut answers, [&b"abc"[..], b"b", &[b'x'; LIMIT - 2]], |sizes| vec![sizes]);
-    redact(&mut answers, [&b"abc"[..], b"b", &[b'x'; LIMIT - 1]], |_| vec![[LIMIT + 1; 6]]);
+    redact(&mut answers, [&b"abc"[..], b"b", &[b'x'; LIMIT - 1]], |_| vec![[LIMIT + 1; 3]]);
     answers
 }

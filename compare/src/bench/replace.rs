@@ -2,7 +2,7 @@
 
 use super::layouts::{self, any_list, Marked, FILLER, LITERAL};
 use super::{at_most, side, timed, Bench, Other, Side, Table, NO_AIM};
-use crate::library::{self, Count, Publishing, Redacting};
+use crate::library::{self, Count, Publishing};
 use crate::note::Note;
 use crate::places::Handed;
 use crate::texts::LIMIT;
@@ -49,11 +49,8 @@ pub fn bench(bench: &mut Bench) {
     }
 }
 
-/// Lent buffers: a starting note's columns, a list, and a published note.
+/// Lent buffers for a published note.
 struct Buffers {
-    starts: Vec<u16>,
-    ends: Vec<u16>,
-    list: Vec<u8>,
     out: Vec<u8>,
     out_starts: Vec<u16>,
     out_ends: Vec<u16>,
@@ -61,8 +58,8 @@ struct Buffers {
 
 impl Buffers {
     fn new() -> Self {
-        let [starts, ends, out_starts, out_ends] = [(); 4].map(|()| vec![0; LIMIT]);
-        Buffers { starts, ends, list: any_list(), out: vec![0; LIMIT], out_starts, out_ends }
+        let [out_starts, out_ends] = [(); 2].map(|()| vec![0; LIMIT]);
+        Buffers { out: vec![0; LIMIT], out_starts, out_ends }
     }
 
     fn replace(&mut self, note: &Note, list: &[u8]) -> Count {
@@ -73,8 +70,7 @@ impl Buffers {
     fn redact(&mut self, strings: [&[u8]; 3]) -> Count {
         let [text, literal, filler] = strings.map(black_box);
         let out = Publishing { text: &mut self.out, starts: &mut self.out_starts, ends: &mut self.out_ends };
-        let lent = Redacting { starts: &mut self.starts, ends: &mut self.ends, list: &mut self.list, out };
-        library::redact(text, literal, filler, lent)
+        library::redact(text, literal, filler, out)
     }
 
     /// As many bytes and numbers as a result has.

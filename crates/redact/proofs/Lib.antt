@@ -1,5 +1,7 @@
 -- Laws of blanking, and of lines.
 pub mod BlankedSize
+pub mod Blanks
 pub mod Redacting
+pub mod Keeping
 pub mod Runs
 pub mod Lines

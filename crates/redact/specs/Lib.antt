@@ -1,5 +1,6 @@
 -- Blanking a literal in a fresh text, and the alignments of a text as lines.
 pub mod Redacting
+pub mod Keeping
 pub mod Publishing
-pub mod Rooms
+pub mod Blanks
 pub mod Lines

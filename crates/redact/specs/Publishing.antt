@@ -12,9 +12,7 @@ use Rattle.redact.specs.Redacting.{Redacted}
 -- matches.
 abbrev pub PublishedCall : Type 0
 PublishedCall =
-    (text literal content starts₀ ends₀ list₀ out₀ outStarts₀ outEnds₀ : List ℕ) (m : ℕ)
-    (starts ends list out outStarts outEnds : List ℕ)
-    → Redacted limit text literal content starts₀ ends₀ list₀ out₀ outStarts₀ outEnds₀ (Published m)
-    starts ends list out outStarts outEnds
-    → Replacing limit (starting text) (foundBytes text literal) content out₀ outStarts₀ outEnds₀ (Published m)
-    out outStarts outEnds
+    (text literal content out₀ starts₀ ends₀ : List ℕ) (m : ℕ) (out starts ends : List ℕ)
+    → Redacted limit text literal content out₀ starts₀ ends₀ (Published m) out starts ends
+    → Replacing limit (starting text) (foundBytes text literal) content out₀ starts₀ ends₀ (Published m)
+    out starts ends

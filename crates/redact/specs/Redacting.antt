@@ -22,29 +22,19 @@ blanked text literal content = replaced (placesOf (foundBytes text literal)) con
 abbrev pub inputFaults : ℕ → List ℕ → List ℕ → List ℕ → Refusal → Bool
 inputFaults most text literal content = also (textFaults most text) (also (stringFaults literal) (stringFaults content))
 
--- those of the rooms: for the starting note's columns, for the list, and for what is published
-abbrev pub roomsFaults : ℕ → List ℕ → List ℕ → List ℕ → ℕ → ℕ → ℕ → Refusal → Bool
-roomsFaults most text literal content columns list result =
-    also (roomFaults (length text) columns)
-    (also (roomFaults (length (foundBytes text literal)) list)
-    (roomFaults (length (blanked text literal content .text)) (min most result)))
+-- and those of the room for what is published
+abbrev pub redactFaults : ℕ → List ℕ → List ℕ → List ℕ → ℕ → Refusal → Bool
+redactFaults most text literal content room =
+    also (inputFaults most text literal content)
+    (roomFaults (length (blanked text literal content .text)) (min most room))
 
-abbrev pub redactFaults : ℕ → List ℕ → List ℕ → List ℕ → ℕ → ℕ → ℕ → Refusal → Bool
-redactFaults most text literal content columns list result =
-    also (inputFaults most text literal content) (roomsFaults most text literal content columns list result)
-
--- THE CALL: limit, text, literal and content, the six lent buffers before, the answer, the six after; the last three
--- are published
-pub record Redacted (most : ℕ) (text literal content starts₀ ends₀ list₀ out₀ outStarts₀ outEnds₀ : List ℕ)
-    (r : Publication) (starts ends list out outStarts outEnds : List ℕ) : Type 0 where
+-- THE CALL: limit, text, literal and content, the three lent buffers before, the answer, the three after
+pub record Redacted (most : ℕ) (text literal content out₀ starts₀ ends₀ : List ℕ) (r : Publication)
+    (out starts ends : List ℕ) : Type 0 where
   pub says : Verdict
   pub says-is :
-      says ≡ verdict (redactFaults most text literal content (min (length starts₀) (length ends₀)) (length list₀)
-      (least (length out₀) (length outStarts₀) (length outEnds₀)))
+      says ≡ verdict (redactFaults most text literal content (least (length out₀) (length starts₀) (length ends₀)))
   pub answer : r ≡ publication says (length (blanked text literal content .text))
-  pub starts-are : starts ≡ after says (starting text .starts) starts₀
-  pub ends-are : ends ≡ after says (starting text .ends) ends₀
-  pub list-is : list ≡ after says (foundBytes text literal) list₀
-  pub out-is : out ≡ after says (blanked text literal content .text) out₀
-  pub out-starts-are : outStarts ≡ after says (blanked text literal content .starts) outStarts₀
-  pub out-ends-are : outEnds ≡ after says (blanked text literal content .ends) outEnds₀
+  pub text-is : out ≡ after says (blanked text literal content .text) out₀
+  pub starts-are : starts ≡ after says (blanked text literal content .starts) starts₀
+  pub ends-are : ends ≡ after says (blanked text literal content .ends) ends₀

@@ -1,37 +1,38 @@
-// Blanking a literal in a fresh text (RULES 15.5): the starting note, the matches of the literal, the replacement, in
-// one call. All is judged and measured before the first store, and nothing twice: the starting note is accepted
-// (`StartingAccepted`), and a found list covers its text (`FoundCovers`).
+// Blanking a literal in a fresh text (RULES 15.5): what `replace` makes of the starting note by the literal's matches,
+// laid stretch by stretch straight from the text: neither the starting note nor a list is written. All is judged and
+// measured before the first store, and nothing twice: the starting note is accepted (`StartingAccepted`), and what is
+// found covers its text (`FoundCovers`).
 pub mod alignments;
+pub mod stretches;
 
 use buffers::Offset;
+use buffers::copy_bytes;
 use checks::check_string;
 use checks::check_text;
 use checks::least_of_two;
 use checks::least_room;
-use find::list_fits;
 use find::search::first_match;
 use find::search::next_match;
-use find::write_list;
-use from_text::columns::write_ends;
-use from_text::columns::write_starts;
 use note::LIMIT;
 use note::Refusal;
 use note::Verdict;
 use note::answers::earlier;
 use replace::Publication;
-use replace::laying::lay_out;
+use stretches::fill;
+use stretches::keep;
+use validity::is_ascii;
+ghost use mathlib.Core.Bool.{cond};
 ghost use mathlib.Core.Path.{_≡_};
 ghost use Prim.Native.Nat.{_+_, _≤_, min};
 ghost use lib.Dec.{leb};
 ghost use lib.ListN.{length};
-ghost use Rattle.note.specs.declared.Verdict.the-variants.{Accepted};
 ghost use Rattle.note.specs.Notes.{limit};
-ghost use Rattle.note.specs.Refusals.{least, verdict};
+ghost use Rattle.note.specs.Refusals.{verdict};
 ghost use Rattle.find.specs.Matching.{foundPlaces};
 ghost use Rattle.find.specs.Searching.{firstMatch};
 ghost use Rattle.replace.specs.Sizes.{sizes};
-ghost use Rattle.redact.specs.Redacting.{Redacted, inputFaults, redactFaults};
-ghost use Rattle.redact.specs.Rooms.{Searchable, allFit};
+ghost use Rattle.redact.specs.Redacting.{Redacted, inputFaults};
+ghost use Rattle.redact.specs.Blanks.{Blankable, Fitting, FoundLaid, Margin};
 
 // Whether text, literal or content is refused.
 fn check_inputs(text: &[u8], literal: &[u8], content: &[u8]) -> Verdict
@@ -85,114 +86,166 @@ fn result_fits(text: &[u8], literal: &[u8], first: usize, wide: usize, room: usi
     blanked_size(text, literal, first, wide) <= room
 }
 
-// Whether each lent buffer holds what is to be written there.
-fn all_fit(
-    text: &[u8],
-    literal: &[u8],
-    content: &[u8],
-    first: usize,
-    columns: usize,
-    list_room: usize,
-    room: usize,
-) -> bool
-    requires { ⌜ Searchable (now text) (now literal) first ⌝ }
-    ensures { λ r. ⌜ r ≡ allFit limit (now (text .entry)) (now (literal .entry)) (now (content .entry))
-        columns «list_room» room ⌝ }
+// How many bytes have to be left of a text of so many, from a match on, that a block can be laid before it and end
+// within the result.
+fn margin_of(size: usize, literal: usize, wide: usize) -> usize
+    requires { ⌜ size ≤ limit ⌝ }
+    ensures { λ r. ⌜ Margin size literal wide r ⌝ }
 {
-    if columns < text.len() {
-        return false;
+    if size < literal {
+        return size + 1;
     }
-    if !list_fits(text, literal, first, list_room) {
-        return false;
+    let share = least_of_two(wide, literal);
+    if share == 0 {
+        return size + 1;
     }
-    result_fits(
-        text,
-        literal,
-        first,
-        content.len(),
-        least_of_two(LIMIT, room),
-    )
+    64 * literal / share + 1
 }
 
-// Every match of the literal blanked, where nothing is refused.
+// Up to where blocks may be laid before a match at `at`, from which on `left` bytes are left.
+fn bound_at(left: usize, margin: usize, at: usize, until: usize) -> usize
+    requires { ⌜ at ≤ limit ⌝ }
+    ensures { λ r. ⌜ r ≡ cond (leb margin left) (at + 64) until ⌝ }
+{
+    if margin <= left {
+        return at + 64;
+    }
+    until
+}
+
+// Every match gives way to the content, which is what `filler` has in front; how many bytes there are then.
 fn blank(
     text: &[u8],
+    plain: bool,
     literal: &[u8],
     content: &[u8],
+    filler: &[u8],
     first: usize,
-    starts: &mut [Offset],
-    ends: &mut [Offset],
-    list: &mut [u8],
+    margin: usize,
+    until: usize,
     out: &mut [u8],
     out_starts: &mut [Offset],
     out_ends: &mut [Offset],
-) -> Publication
-    requires { ⌜ (verdict (redactFaults limit (now text) (now literal) (now content)
-        (min (length (now starts)) (length (now ends))) (length (now list))
-        (least (length (now out)) (length (now «out_starts»)) (length (now «out_ends»)))) ≡ Accepted)
-        × (first ≡ firstMatch (now text) (now literal)) ⌝ }
-    ensures { λ r. ⌜ Redacted limit (now (text .entry)) (now (literal .entry)) (now (content .entry))
-        (now (starts .entry)) (now (ends .entry)) (now (list .entry))
+) -> usize
+    requires { ⌜ Blankable (now text) plain (now literal) (now content) (now filler) first margin until
+        (now out) (now «out_starts») (now «out_ends») ⌝ }
+    ensures { λ r. ⌜ FoundLaid (now (text .entry)) (now (literal .entry)) (now (content .entry))
         (now (out .entry)) (now («out_starts» .entry)) (now («out_ends» .entry))
-        r (now (starts .exit)) (now (ends .exit)) (now (list .exit))
-        (now (out .exit)) (now («out_starts» .exit)) (now («out_ends» .exit)) ⌝ }
+        r (now (out .exit)) (now («out_starts» .exit)) (now («out_ends» .exit)) ⌝ }
 {
-    write_starts(text, starts);
-    write_ends(text, ends);
-    let n = write_list(text, literal, first, list);
-    let found = &list[..n];
-    let size = text.len();
-    Publication::Published(lay_out(
+    let mut at = 0;
+    let mut i = 0;
+    let mut p = first;
+    while p < text.len() {
+        let here = at + (p - i);
+        let bound = bound_at(text.len() - p, margin, here, until);
+        keep(text, plain, i, p, bound, out, out_starts, out_ends, at);
+        i = p + literal.len();
+        fill(
+            text,
+            i,
+            filler,
+            content.len(),
+            bound,
+            out,
+            out_starts,
+            out_ends,
+            here,
+        );
+        at = here + content.len();
+        p = next_match(text, literal, i);
+    }
+    keep(text, plain, i, p, until, out, out_starts, out_ends, at);
+    at + (p - i)
+}
+
+// A size that the result has at least: its own, where it is not sure soon enough that blocks can be laid.
+fn sure_size(text: &[u8], literal: &[u8], first: usize, wide: usize, margin: usize) -> usize
+    requires { ⌜ first ≡ firstMatch (now text) (now literal) ⌝ }
+    ensures { λ r. ⌜ r ≤ sizes wide (foundPlaces (now (text .entry)) (now (literal .entry))) ⌝ }
+{
+    if margin <= 1024 {
+        return 0;
+    }
+    blanked_size(text, literal, first, wide)
+}
+
+// Every match gives way to the content; a short one is padded, so that a block of it can be laid.
+fn blank_found(
+    text: &[u8],
+    literal: &[u8],
+    content: &[u8],
+    first: usize,
+    out: &mut [u8],
+    out_starts: &mut [Offset],
+    out_ends: &mut [Offset],
+) -> usize
+    requires { ⌜ Fitting (now text) (now literal) (now content) first
+        (now out) (now «out_starts») (now «out_ends») ⌝ }
+    ensures { λ r. ⌜ FoundLaid (now (text .entry)) (now (literal .entry)) (now (content .entry))
+        (now (out .entry)) (now («out_starts» .entry)) (now («out_ends» .entry))
+        r (now (out .exit)) (now («out_starts» .exit)) (now («out_ends» .exit)) ⌝ }
+{
+    let plain = is_ascii(text);
+    let margin = margin_of(text.len(), literal.len(), content.len());
+    let until = sure_size(text, literal, first, content.len(), margin);
+    if 16 < content.len() {
+        return blank(
+            text,
+            plain,
+            literal,
+            content,
+            content,
+            first,
+            margin,
+            until,
+            out,
+            out_starts,
+            out_ends,
+        );
+    }
+    let mut padded = [0u8; 80];
+    copy_bytes(content, &mut padded, 0);
+    blank(
         text,
-        &starts[..size],
-        &ends[..size],
-        found,
+        plain,
+        literal,
         content,
+        &padded,
+        first,
+        margin,
+        until,
         out,
         out_starts,
         out_ends,
-    ))
+    )
 }
 
-// Blanks every match of the literal in the starting note of the text: its columns stand in front of `starts` and
-// `ends`, the list of the matches in front of `list`, and what is published in front of `out`, `out_starts` and
-// `out_ends`. It judges, in this order: `TooLong` (the text), `IllFormed` (text, literal or content), `NoRoom`.
+// Blanks every match of the literal in the starting note of the text: what is published stands in front of `out`,
+// `out_starts` and `out_ends`. It judges, in this order: `TooLong` (the text), `IllFormed` (text, literal or content),
+// `NoRoom`.
 pub fn redact(
     text: &[u8],
     literal: &[u8],
     content: &[u8],
-    starts: &mut [Offset],
-    ends: &mut [Offset],
-    list: &mut [u8],
     out: &mut [u8],
     out_starts: &mut [Offset],
     out_ends: &mut [Offset],
 ) -> Publication
     ensures { λ r. ⌜ Redacted limit (now (text .entry)) (now (literal .entry)) (now (content .entry))
-        (now (starts .entry)) (now (ends .entry)) (now (list .entry))
         (now (out .entry)) (now («out_starts» .entry)) (now («out_ends» .entry))
-        r (now (starts .exit)) (now (ends .exit)) (now (list .exit))
-        (now (out .exit)) (now («out_starts» .exit)) (now («out_ends» .exit)) ⌝ }
+        r (now (out .exit)) (now («out_starts» .exit)) (now («out_ends» .exit)) ⌝ }
 {
     if let Verdict::Refused(k) = check_inputs(text, literal, content) {
         return Publication::Refused(k);
     }
     let first = first_match(text, literal);
-    let columns = least_of_two(starts.len(), ends.len());
-    let room = least_room(out.len(), out_starts.len(), out_ends.len());
-    if !all_fit(text, literal, content, first, columns, list.len(), room) {
+    let room = least_of_two(
+        LIMIT,
+        least_room(out.len(), out_starts.len(), out_ends.len()),
+    );
+    if !result_fits(text, literal, first, content.len(), room) {
         return Publication::Refused(Refusal::NoRoom);
     }
-    blank(
-        text,
-        literal,
-        content,
-        first,
-        starts,
-        ends,
-        list,
-        out,
-        out_starts,
-        out_ends,
-    )
+    Publication::Published(blank_found(text, literal, content, first, out, out_starts, out_ends))
 }

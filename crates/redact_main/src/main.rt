@@ -10,14 +10,10 @@ use input::asks_alignments;
 use input::read_note;
 use lines::write_alignments;
 use note::LIMIT;
-use pattern::MOST;
 use redact::redact;
 use refusals::refuse;
 use refusals::say;
 use replace::Publication;
-
-// Room for the list of any literal's matches: one place for each, one before each, and one behind the last (RULES 9.6).
-const LIST: usize = MOST * (2 * LIMIT + 1);
 
 fn usage() {
     say(
@@ -36,9 +32,6 @@ fn judge_written(written: bool) {
 
 // The note in `text`, blanked and published.
 fn publish(text: &[u8], literal: &[u8], content: &[u8], alignments: bool) {
-    let mut starts = [0; LIMIT];
-    let mut ends = [0; LIMIT];
-    let mut list = [0u8; LIST];
     let mut out = [0u8; LIMIT];
     let mut out_starts = [0; LIMIT];
     let mut out_ends = [0; LIMIT];
@@ -46,9 +39,6 @@ fn publish(text: &[u8], literal: &[u8], content: &[u8], alignments: bool) {
         text,
         literal,
         content,
-        &mut starts,
-        &mut ends,
-        &mut list,
         &mut out,
         &mut out_starts,
         &mut out_ends,

@@ -106,9 +106,6 @@ pub fn published_alike(case: &[u8], starts: &[Offset], ends: &[Offset]) -> bool 
 
 fn blanked(
     case: &[u8],
-    starts: &mut [Offset],
-    ends: &mut [Offset],
-    list: &mut [u8],
     out: &mut [u8],
     out_starts: &mut [Offset],
     out_ends: &mut [Offset],
@@ -117,55 +114,25 @@ fn blanked(
         field(case, 0),
         field(case, 1),
         field(case, 2),
-        starts,
-        ends,
-        list,
         out,
         out_starts,
         out_ends,
     );
-    is_published(case, 9, answer, list, starts, ends)
-        & are_published(case, 14, out, out_starts, out_ends)
+    is_published(case, 6, answer, out, out_starts, out_ends)
 }
 
-// The lent list and text, beside all columns.
-fn blanked_texts(
-    case: &[u8],
-    starts: &mut [Offset],
-    ends: &mut [Offset],
-    out_starts: &mut [Offset],
-    out_ends: &mut [Offset],
-) -> bool {
-    let mut list = io::large_buffer();
+// The lent text, beside both columns.
+fn blanked_text(case: &[u8], out_starts: &mut [Offset], out_ends: &mut [Offset]) -> bool {
     let mut out = io::large_buffer();
-    let l = bytes(case, 3, &mut list);
-    let o = bytes(case, 6, &mut out);
-    blanked(
-        case,
-        starts,
-        ends,
-        &mut list[..l],
-        &mut out[..o],
-        out_starts,
-        out_ends,
-    )
+    let o = bytes(case, 3, &mut out);
+    blanked(case, &mut out[..o], out_starts, out_ends)
 }
 
-// The lent columns, beside those of the starting note.
-fn blanked_beside(case: &[u8], starts: &mut [Offset], ends: &mut [Offset]) -> bool {
+// A text, a literal, a content, the lent text, starts and ends; the refusal, the size, the three buffers.
+pub fn redact(case: &[u8]) -> bool {
     let mut out_starts = zeros();
     let mut out_ends = zeros();
-    let s = offsets(case, 7, &mut out_starts);
-    let e = offsets(case, 8, &mut out_ends);
-    blanked_texts(case, starts, ends, &mut out_starts[..s], &mut out_ends[..e])
-}
-
-// A text, a literal, a content, the lent list, the columns of the starting note, text, starts and ends; the refusal,
-// the size, all six buffers.
-pub fn redact(case: &[u8]) -> bool {
-    let mut starts = zeros();
-    let mut ends = zeros();
-    let s = offsets(case, 4, &mut starts);
-    let e = offsets(case, 5, &mut ends);
-    blanked_beside(case, &mut starts[..s], &mut ends[..e])
+    let s = offsets(case, 4, &mut out_starts);
+    let e = offsets(case, 5, &mut out_ends);
+    blanked_text(case, &mut out_starts[..s], &mut out_ends[..e])
 }

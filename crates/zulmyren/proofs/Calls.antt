@@ -46,8 +46,8 @@ pub replaced-short : (v : Publication) {n : Note} {list content out₀ starts₀
 replaced-short (Published a) call = published-short call
 replaced-short (Refused k) call = tt {0}
 
-pub redacted-short : (v : Publication) {text literal content starts₀ ends₀ list₀ out₀ outStarts₀ outEnds₀ starts ends list out outStarts outEnds : List ℕ} → Redacted limit text literal content starts₀ ends₀ list₀ out₀ outStarts₀ outEnds₀ v starts ends list out outStarts outEnds → PublishedShort v
-redacted-short (Published a) call = published-short (published-call _ _ _ _ _ _ _ _ _ _ _ _ _ _ _ _ call)
+pub redacted-short : (v : Publication) {text literal content out₀ starts₀ ends₀ out starts ends : List ℕ} → Redacted limit text literal content out₀ starts₀ ends₀ v out starts ends → PublishedShort v
+redacted-short (Published a) call = published-short (published-call _ _ _ _ _ _ _ _ _ _ call)
 redacted-short (Refused k) call = tt {0}
 
 pub published-within : {v : Publication} {n : ℕ} → v ≡ Published n → PublishedShort v → n ≤ limit

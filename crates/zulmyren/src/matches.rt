@@ -99,29 +99,14 @@ pub extern "C" fn zulmyren_redact(
     text: &[u8],
     literal: &[u8],
     content: &[u8],
-    starts: &mut [Offset],
-    ends: &mut [Offset],
-    list: &mut [u8],
     out: &mut [u8],
     out_starts: &mut [Offset],
     out_ends: &mut [Offset],
 ) -> Count
     ensures { λ r. ⌜ Told publishedOf (λ v. Redacted limit
         (now (text .entry)) (now (literal .entry)) (now (content .entry))
-        (now (starts .entry)) (now (ends .entry)) (now (list .entry))
         (now (out .entry)) (now («out_starts» .entry)) (now («out_ends» .entry))
-        v (now (starts .exit)) (now (ends .exit)) (now (list .exit))
-        (now (out .exit)) (now («out_starts» .exit)) (now («out_ends» .exit))) r ⌝ }
+        v (now (out .exit)) (now («out_starts» .exit)) (now («out_ends» .exit))) r ⌝ }
 {
-    published_told(redact::redact(
-        text,
-        literal,
-        content,
-        starts,
-        ends,
-        list,
-        out,
-        out_starts,
-        out_ends,
-    ))
+    published_told(redact::redact(text, literal, content, out, out_starts, out_ends))
 }

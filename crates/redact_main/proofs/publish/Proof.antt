@@ -9,7 +9,7 @@ use Rattle.redact_main.proofs.publish.Tie as tie
 
 write-alignments-requires : tie.Need-write-alignments-requires
 write-alignments-requires c κs =
-    let fits = published-fits (c .before .before .before .before .before .before .before .before .before .before .before .before .redact .ensures) (c .before .before .before .before .n .given .1) in
+    let fits = published-fits (c .before .before .before .before .before .before .before .before .before .redact .ensures) (c .before .before .before .before .n .given .1) in
     let starts = length-take-le _ _ (fits .starts-fit) in
     (starts ∙ sym (length-take-le _ _ (fits .ends-fit)), omega (arith, starts, fits .within))
 
@@ -20,19 +20,16 @@ publish-spec =
     (λ c. search needs)
     (λ c. search needs)
     (λ c. search needs)
-    (λ c. search needs)
-    (λ c. search needs)
-    (λ c. search needs)
     (λ c κs. search needs)
     (λ c. search needs)
-    (λ c. published-fits (c .before .before .before .before .before .before .before .before .before .before .redact .ensures) (c .before .before .n .given .1) .starts-fit)
-    (λ c. sym (length-take-le _ _ (published-fits (c .before .before .before .before .before .before .before .before .before .before .before .redact .ensures) (c .before .before .before .n .given .1) .starts-fit)))
-    (λ c. published-fits (c .before .before .before .before .before .before .before .before .before .before .before .redact .ensures) (c .before .before .before .n .given .1) .ends-fit)
-    (λ c. sym (length-take-le _ _ (published-fits (c .before .before .before .before .before .before .before .before .before .before .before .before .redact .ensures) (c .before .before .before .before .n .given .1) .ends-fit)))
+    (λ c. published-fits (c .before .before .before .before .before .before .before .redact .ensures) (c .before .before .n .given .1) .starts-fit)
+    (λ c. sym (length-take-le _ _ (published-fits (c .before .before .before .before .before .before .before .before .redact .ensures) (c .before .before .before .n .given .1) .starts-fit)))
+    (λ c. published-fits (c .before .before .before .before .before .before .before .before .redact .ensures) (c .before .before .before .n .given .1) .ends-fit)
+    (λ c. sym (length-take-le _ _ (published-fits (c .before .before .before .before .before .before .before .before .before .redact .ensures) (c .before .before .before .before .n .given .1) .ends-fit)))
     write-alignments-requires
     (λ c κs. search needs)
-    (λ c. published-fits (c .before .before .before .before .before .before .before .before .before .before .redact .ensures) (c .before .before .n .given .1) .text-fits)
-    (λ c. sym (length-take-le _ _ (published-fits (c .before .before .before .before .before .before .before .before .before .before .before .redact .ensures) (c .before .before .before .n .given .1) .text-fits)))
+    (λ c. published-fits (c .before .before .before .before .before .before .before .redact .ensures) (c .before .before .n .given .1) .text-fits)
+    (λ c. sym (length-take-le _ _ (published-fits (c .before .before .before .before .before .before .before .before .redact .ensures) (c .before .before .before .n .given .1) .text-fits)))
     (λ c κs. search needs)
     (λ c κs. search needs)
     (λ c. search needs)

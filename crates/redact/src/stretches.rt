@@ -1,0 +1,157 @@
+// The starting note of a text, laid stretch by stretch straight from the text: its bytes, and the alignments that it
+// would have, counted from the bytes beside them. Blocks of 64 are laid below `until`, which is within the result.
+// Each function here is an inner one: text and room were judged before.
+use buffers::Offset;
+use buffers::blocks::copy_bytes_block;
+use buffers::blocks::copy_bytes_over;
+use buffers::blocks::fill_offsets_over;
+use from_text::columns::char_end;
+use from_text::columns::char_start;
+use from_text::columns::ends_block;
+use from_text::columns::starts_block;
+ghost use mathlib.Core.Path.{_≡_};
+ghost use mathlib.Core.Bool.{true};
+ghost use Prim.Native.Nat.{_+_, _-_, _≤_, _<_};
+ghost use lib.ListN.{length};
+ghost use Rattle.buffers.specs.Columns.{Filled};
+ghost use Rattle.validity.specs.Texts.{ascii};
+ghost use Rattle.note.specs.Notes.{limit};
+ghost use Rattle.redact.specs.Keeping.{BlockFits, FillerLaid, FillerRoom, Stretch, StretchRoom};
+
+// The byte at `i` with its alignment.
+fn lay_byte(
+    text: &[u8],
+    i: usize,
+    out: &mut [u8],
+    out_starts: &mut [Offset],
+    out_ends: &mut [Offset],
+    at: usize,
+)
+    requires { ⌜ StretchRoom (now text) i (i + 1) (now out) (now «out_starts») (now «out_ends») at ⌝ }
+    ensures { λ _. ⌜ Stretch (now (text .entry)) i (i + 1)
+        (now (out .entry)) (now («out_starts» .entry)) (now («out_ends» .entry)) at 0
+        (now (out .exit)) (now («out_starts» .exit)) (now («out_ends» .exit)) ⌝ }
+{
+    let start = char_start(text, i);
+    let end = char_end(text, i);
+    out[at] = text[i];
+    out_starts[at] = start as Offset;
+    out_ends[at] = end as Offset;
+}
+
+// 64 numbers from `first` on.
+fn count_up(first: Offset, out: &mut [Offset], at: usize)
+    requires { ⌜ (at + 64 ≤ length (now out)) × (first + 63 ≤ limit) ⌝ }
+    ensures { λ _. ⌜ Filled (λ k. first + (k - at)) (now (out .entry)) at (at + 64) (now (out .exit)) ⌝ }
+{
+    let mut k = 0;
+    while k < 64 {
+        out[at + k] = first + k as Offset;
+        k += 1;
+    }
+}
+
+// The 64 bytes from `i` on with their alignments; `plain` where the text is known to be ASCII.
+fn lay_block(
+    text: &[u8],
+    plain: bool,
+    i: usize,
+    out: &mut [u8],
+    out_starts: &mut [Offset],
+    out_ends: &mut [Offset],
+    at: usize,
+)
+    requires { ⌜ StretchRoom (now text) i (i + 64) (now out) (now «out_starts») (now «out_ends») at
+        × ((3 ≤ i) × (i + 67 ≤ length (now text))) ⌝ }
+    requires { ⌜ (plain ≡ true → ascii (now text) ≡ true) ⌝ }
+    ensures { λ _. ⌜ Stretch (now (text .entry)) i (i + 64)
+        (now (out .entry)) (now («out_starts» .entry)) (now («out_ends» .entry)) at 0
+        (now (out .exit)) (now («out_starts» .exit)) (now («out_ends» .exit)) ⌝ }
+{
+    copy_bytes_block(text, i, out, at);
+    if plain {
+        count_up(i as Offset, out_starts, at);
+        count_up(i as Offset + 1, out_ends, at);
+        return;
+    }
+    starts_block(text, i, out_starts, at);
+    ends_block(text, i, out_ends, at);
+}
+
+// Whether a block can be laid: the bytes that its alignments are counted from are there, and it ends within the
+// stretch or below `until`.
+fn block_fits(size: usize, i: usize, to: usize, at: usize, until: usize) -> bool
+    requires { ⌜ (i ≤ size) × (i < to) ⌝ }
+    ensures { λ r. ⌜ (r ≡ true → BlockFits size i to at until) ⌝ }
+{
+    if i < 3 {
+        return false;
+    }
+    if size - i < 67 {
+        return false;
+    }
+    if 64 <= to - i {
+        return true;
+    }
+    if until < at {
+        return false;
+    }
+    64 <= until - at
+}
+
+// The bytes from `from` up to `to` with their alignments, in the buffers from `at` on.
+pub fn keep(
+    text: &[u8],
+    plain: bool,
+    from: usize,
+    to: usize,
+    until: usize,
+    out: &mut [u8],
+    out_starts: &mut [Offset],
+    out_ends: &mut [Offset],
+    at: usize,
+)
+    requires { ⌜ StretchRoom (now text) from to (now out) (now «out_starts») (now «out_ends») at ⌝ }
+    requires { ⌜ (until ≤ length (now out))
+        × (until ≤ length (now «out_starts»)) × (until ≤ length (now «out_ends»)) ⌝ }
+    requires { ⌜ (plain ≡ true → ascii (now text) ≡ true) ⌝ }
+    ensures { λ _. ⌜ Stretch (now (text .entry)) from to
+        (now (out .entry)) (now («out_starts» .entry)) (now («out_ends» .entry)) at until
+        (now (out .exit)) (now («out_starts» .exit)) (now («out_ends» .exit)) ⌝ }
+{
+    let mut i = from;
+    while i < to {
+        let here = at + (i - from);
+        if block_fits(text.len(), i, to, here, until) {
+            lay_block(text, plain, i, out, out_starts, out_ends, here);
+            i += 64;
+        } else {
+            lay_byte(text, i, out, out_starts, out_ends, here);
+            i += 1;
+        }
+    }
+}
+
+// The content, which is what `filler` has in front, in the place of a match that ends at `end`.
+pub fn fill(
+    text: &[u8],
+    end: usize,
+    filler: &[u8],
+    wide: usize,
+    until: usize,
+    out: &mut [u8],
+    out_starts: &mut [Offset],
+    out_ends: &mut [Offset],
+    at: usize,
+)
+    requires { ⌜ FillerRoom (now text) end (now filler) wide until (now out) (now «out_starts») (now «out_ends») at ⌝ }
+    ensures { λ _. ⌜ FillerLaid (now (text .entry)) end (now (filler .entry)) wide
+        (now (out .entry)) (now («out_starts» .entry)) (now («out_ends» .entry)) at until
+        (now (out .exit)) (now («out_starts» .exit)) (now («out_ends» .exit)) ⌝ }
+{
+    let first = char_start(text, end - 1) as Offset;
+    let last = char_end(text, end - 1) as Offset;
+    copy_bytes_over(filler, 0, wide, out, at, until);
+    fill_offsets_over(first, wide, out_starts, at, until);
+    fill_offsets_over(last, wide, out_ends, at, until);
+}
