@@ -14,8 +14,13 @@ use Rattle.char_offsets.specs.Positions.{indexOf, endIndex, pairOf, charOffsets
 use Rattle.pattern.specs.Entries.{positionAt, placeAt, entryAt, placesFrom, placesOf, wholeFrom, whole}
 use Rattle.pattern.specs.Places.{fitsAt, coversFrom, covers}
 use Rattle.replace.specs.Replacing.{piece, laid, replaced}
-use Rattle.examples.specs.Worked.{aéb, nest, blank, worked, every, WorkedNotes}
+use Rattle.utf8.specs.Scalar.{scalar, encoded, bytesOf}
+use Rattle.script.specs.Scripts.{sizeOf}
+use Rattle.transform.specs.Edits.{skipped, starves, moved as stepTo, starved, carries, given, placed, begins, relaid, edited, transformed}
+use Rattle.edits.specs.Characters.{codeAt, codesFrom, codesOf}
+use Rattle.edits.specs.Whole.{allAdding, prependEdit, clearEdit}
+use Rattle.examples.specs.Worked.{aé, moved, aéb, nest, blank, worked, every, WorkedNotes}
 
 pub worked-notes : WorkedNotes
-unfolding every worked aéb nest blank starting column charStart charEnd announced second asked formed within continues boundary fits paired textsFormed inside onBoundaries shared forward aligned everyBelow verdict converted toOriginal toNormalized expanded begun stepped walkFrom walked answered convertOffsets indexOf endIndex pairOf charOffsets valueOf positionAt placeAt entryAt placesFrom placesOf wholeFrom whole fitsAt coversFrom covers piece laid beforeEnd replaced same
+unfolding every worked aé moved aéb nest blank starting column charStart charEnd announced second asked formed within continues boundary fits paired textsFormed inside onBoundaries shared forward aligned everyBelow verdict converted toOriginal toNormalized expanded begun stepped walkFrom walked answered convertOffsets indexOf endIndex pairOf charOffsets valueOf positionAt placeAt entryAt placesFrom placesOf wholeFrom whole fitsAt coversFrom covers piece laid beforeEnd replaced same scalar encoded bytesOf sizeOf skipped starves stepTo starved carries given placed begins relaid edited transformed codeAt codesFrom codesOf allAdding prependEdit clearEdit
 worked-notes = refl

@@ -1,4 +1,4 @@
--- Worked notes of RULES 4, 10 and 12, of what the calls answer: one list, and one claim about the list.
+-- Worked notes of RULES 4, 8, 10 and 12, of what the calls answer: one list, and one claim about the list.
 use Prim.Native.Nat.{ℕ}
 use mathlib.Core.Path.{_≡_}
 use mathlib.Core.Bool.{Bool, true, false, _&&_}
@@ -21,6 +21,10 @@ use Rattle.char_offsets.specs.declared.CharOffsets.the-variants.{Chars, Refused
 use Rattle.char_offsets.specs.Positions.{charOffsets}
 use Rattle.pattern.specs.Entries.{placesOf}
 use Rattle.replace.specs.Replacing.{PublishedNote, replaced, replaceFaults}
+use Rattle.transform.specs.Edits.{transformed}
+use Rattle.edits.specs.declared.Clearing.{Clearing}
+use Rattle.edits.specs.declared.Clearing.the-variants.{Cleared, Refused as Uncleared}
+use Rattle.edits.specs.Whole.{prependEdit, joinFaults, clearEdit, clearFaults, clearing}
 
 -- whether an answer is this range, of this text
 abbrev pub sameRange : Range → Range → Bool
@@ -50,6 +54,22 @@ abbrev pub publishes : Note → List ℕ → List ℕ → List ℕ → List ℕ 
 publishes n list content text starts ends =
     accepts (verdict (replaceFaults limit n list content (length text)))
     && isNote (replaced (placesOf list) content n) text starts ends
+
+-- whether a note has this text with these alignments
+abbrev pub holds : Note → List ℕ → List ℕ → List ℕ → Bool
+holds n text starts ends = same (n .normalized) text && same (n .starts) starts && same (n .ends) ends
+
+-- whether clearing answers these two lengths
+abbrev pub clears : Clearing → ℕ → ℕ → Bool
+clears (Cleared before left) a b = eqb before a && eqb left b
+clears (Uncleared k) a b = false
+
+-- the starting note of `aé`, and that note after `prepend("")`
+unfoldable pub aé : Note
+aé = starting (0x61 ∷ 0xC3 ∷ 0xA9 ∷ [])
+
+unfoldable pub moved : Note
+moved = transformed aé (prependEdit aé [])
 
 -- the starting note of `aéb`
 unfoldable pub aéb : Note
@@ -81,6 +101,12 @@ worked =
     -- an empty matched place at the beginning of `ab`, filled by `x`
     ∷ publishes (starting (0x61 ∷ 0x62 ∷ [])) (12 ∷ 0 ∷ 0 ∷ 0 ∷ 0 ∷ 11 ∷ 0 ∷ 0 ∷ 2 ∷ 0 ∷ []) (0x78 ∷ [])
     (0x78 ∷ 0x61 ∷ 0x62 ∷ []) (0 ∷ 0 ∷ 1 ∷ []) (0 ∷ 1 ∷ 2 ∷ [])
+    -- `prepend("")` on `aé` keeps the text, and its first letter loses its alignment; `clear` then leaves that letter
+    ∷ accepts (verdict (joinFaults limit aé [] (prependEdit aé []) 3))
+    ∷ holds moved (0x61 ∷ 0xC3 ∷ 0xA9 ∷ []) (0 ∷ 1 ∷ 1 ∷ []) (0 ∷ 3 ∷ 3 ∷ [])
+    ∷ clears (clearing (verdict (clearFaults limit moved 1)) (length (moved .normalized))
+    (length (transformed moved (clearEdit moved) .normalized))) 3 1
+    ∷ holds (transformed moved (clearEdit moved)) (0x61 ∷ []) (0 ∷ []) (0 ∷ [])
     ∷ []
 
 unfoldable pub every : List Bool → Bool
