@@ -19,8 +19,13 @@ use Rattle.get_range.specs.Reading.{asOriginal, asNormalized}
 use Rattle.slice.specs.Slicing.{sliceOf, sliced, lowered, slicedColumn}
 use Rattle.behaviors.specs.Splits.{unremoved, spanning, endMoved, folded, splits, goes, isPiece, remaining, pieces}
 use Rattle.split.specs.Splitting.{pieceOf, transcriptLength, cut}
-use Rattle.examples.specs.Worked.{aéb, nest, blank, final, hyphens, worked, every, WorkedNotes}
+use Rattle.utf8.specs.Scalar.{scalar, encoded, bytesOf}
+use Rattle.script.specs.Scripts.{sizeOf}
+use Rattle.transform.specs.Edits.{skipped, starves, moved as stepTo, starved, carries, given, placed, begins, relaid, edited, transformed}
+use Rattle.edits.specs.Characters.{codeAt, codesFrom, codesOf}
+use Rattle.edits.specs.Whole.{allAdding, prependEdit, clearEdit}
+use Rattle.examples.specs.Worked.{aéb, nest, blank, final, hyphens, worked, every, WorkedNotes, aé, moved}
 
 pub worked-notes : WorkedNotes
-unfolding every worked aéb nest blank final hyphens flatMap asOriginal asNormalized sliceOf sliced lowered slicedColumn unremoved spanning endMoved folded splits goes isPiece remaining pieces pieceOf transcriptLength cut starting column charStart charEnd announced second asked formed within continues boundary fits paired textsFormed inside onBoundaries shared forward aligned everyBelow verdict converted toOriginal toNormalized expanded begun stepped walkFrom walked answered convertOffsets indexOf endIndex pairOf charOffsets valueOf positionAt placeAt entryAt placesFrom placesOf wholeFrom whole fitsAt coversFrom covers piece laid beforeEnd replaced same
+unfolding every worked aéb nest blank final hyphens flatMap asOriginal asNormalized sliceOf sliced lowered slicedColumn unremoved spanning endMoved folded splits goes isPiece remaining pieces pieceOf transcriptLength cut starting column charStart charEnd announced second asked formed within continues boundary fits paired textsFormed inside onBoundaries shared forward aligned everyBelow verdict converted toOriginal toNormalized expanded begun stepped walkFrom walked answered convertOffsets indexOf endIndex pairOf charOffsets valueOf positionAt placeAt entryAt placesFrom placesOf wholeFrom whole fitsAt coversFrom covers piece laid beforeEnd replaced same aé moved scalar encoded bytesOf sizeOf skipped starves stepTo starved carries given placed begins relaid edited transformed codeAt codesFrom codesOf allAdding prependEdit clearEdit
 worked-notes = refl

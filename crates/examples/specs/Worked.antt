@@ -1,4 +1,4 @@
--- Worked notes of RULES 4, 10, 11 and 12, of what the calls answer: one list, and one claim about the list.
+-- Worked notes of RULES 4, 8, 10, 11 and 12, of what the calls answer: one list, and one claim about the list.
 use Prim.Native.Nat.{ℕ}
 use mathlib.Core.Path.{_≡_}
 use mathlib.Core.Bool.{Bool, true, false, _&&_}
@@ -30,6 +30,10 @@ use Rattle.behaviors.specs.declared.SplitDelimiterBehavior.the-variants.{
 }
 use Rattle.behaviors.specs.declared.EmptyPieces.the-variants.{Kept}
 use Rattle.split.specs.Splitting.{Columns, cutBy, splitFaults}
+use Rattle.transform.specs.Edits.{transformed}
+use Rattle.edits.specs.declared.Clearing.{Clearing}
+use Rattle.edits.specs.declared.Clearing.the-variants.{Cleared, Refused as Uncleared}
+use Rattle.edits.specs.Whole.{prependEdit, joinFaults, clearEdit, clearFaults, clearing}
 
 -- whether an answer is this range, of this text
 abbrev pub sameRange : Range → Range → Bool
@@ -69,6 +73,22 @@ cutsInto n list behavior from to =
     accepts (verdict (splitFaults limit n list behavior Kept (length from)
     (length (cutBy n list behavior Kept .alignment-starts))))
     && areSpans (cutBy n list behavior Kept) from to
+
+-- whether a note has this text with these alignments
+abbrev pub holds : Note → List ℕ → List ℕ → List ℕ → Bool
+holds n text starts ends = same (n .normalized) text && same (n .starts) starts && same (n .ends) ends
+
+-- whether clearing answers these two lengths
+abbrev pub clears : Clearing → ℕ → ℕ → Bool
+clears (Cleared before left) a b = eqb before a && eqb left b
+clears (Uncleared k) a b = false
+
+-- the starting note of `aé`, and that note after `prepend("")`
+unfoldable pub aé : Note
+aé = starting (0x61 ∷ 0xC3 ∷ 0xA9 ∷ [])
+
+unfoldable pub moved : Note
+moved = transformed aé (prependEdit aé [])
 
 -- the starting note of `aéb`
 unfoldable pub aéb : Note
@@ -117,6 +137,12 @@ worked =
     ∷ cutsInto final hyphens Isolated (0 ∷ 3 ∷ 4 ∷ 9 ∷ 10 ∷ 11 ∷ []) (3 ∷ 4 ∷ 9 ∷ 10 ∷ 11 ∷ 20 ∷ [])
     ∷ cutsInto final hyphens MergedWithPrevious (0 ∷ 4 ∷ 10 ∷ 11 ∷ []) (4 ∷ 10 ∷ 11 ∷ 20 ∷ [])
     ∷ cutsInto final hyphens Contiguous (0 ∷ 3 ∷ 4 ∷ 9 ∷ 11 ∷ []) (3 ∷ 4 ∷ 9 ∷ 11 ∷ 20 ∷ [])
+    -- `prepend("")` on `aé` keeps the text, and its first letter loses its alignment; `clear` then leaves that letter
+    ∷ accepts (verdict (joinFaults limit aé [] (prependEdit aé []) 3))
+    ∷ holds moved (0x61 ∷ 0xC3 ∷ 0xA9 ∷ []) (0 ∷ 1 ∷ 1 ∷ []) (0 ∷ 3 ∷ 3 ∷ [])
+    ∷ clears (clearing (verdict (clearFaults limit moved 1)) (length (moved .normalized))
+    (length (transformed moved (clearEdit moved) .normalized))) 3 1
+    ∷ holds (transformed moved (clearEdit moved)) (0x61 ∷ []) (0 ∷ []) (0 ∷ [])
     ∷ []
 
 unfoldable pub every : List Bool → Bool
