@@ -1,24 +1,22 @@
 -- What a slice that is neither off a boundary nor missing is of: its range in both texts, and what the alignments of its bytes are there.
-use Prim.Native.Nat.{ℕ, zero, suc, _+_, _-_, _≤_, _<_}
+use Prim.Native.Nat.{ℕ, suc, _-_, _≤_, _<_}
 use mathlib.Core.Path.{_≡_, _∙_, ap, refl, sym}
-use mathlib.Core.Bool.{Bool, true, false, cond, _&&_, _||_}
-use mathlib.Core.List.{List, []}
+use mathlib.Core.Bool.{Bool, true, false, _||_}
+use mathlib.Core.List.{List}
 use mathlib.Core.Logic.{_⊎_, inl, inr, ⊎-elim}
 use mathlib.Mathlib.Data.Bool.Basic.{and-elim-left, and-elim-right}
 use native.Mathlib.Omega.{arith}
-use lib.Dec.{leb, ltb, eqb}
+use lib.Dec.{ltb}
 use lib.ListN.{length, getD}
-use borrow.Author.Tests.{eqb-true, eqb-false, ltb-true, ltb-false, leb-true, lt-ltb, le-leb, eq-eqb, ne-eqb, le-ltb}
+use borrow.Author.Tests.{ltb-false, lt-ltb, eq-eqb, ne-eqb, le-ltb}
 use Rattle.buffers.specs.Splice.{part}
-use Rattle.buffers.proofs.Cases.{true-or-false, le-or-lt, clash}
+use Rattle.buffers.proofs.Cases.{le-or-lt, clash}
 use Rattle.utf8.specs.Formed.{wellFormed, formed, boundary}
 use Rattle.utf8.proofs.Boundaries.{boundary-most, formed-part}
-use Rattle.note.specs.declared.OriginalByte.{OriginalByte}
-use Rattle.note.specs.declared.NormalizedByte.{NormalizedByte}
 use Rattle.note.specs.declared.Refusal.the-variants.{Missing}
 use Rattle.note.specs.Notes.{Note, startAt, endAt, beforeEnd, Sound}
 use Rattle.note.proofs.BeforeEnd.{before-some}
-use Rattle.note.proofs.Sound.{length-starts, length-ends, original-formed, normalized-formed, inside-at, boundaries-at}
+use Rattle.note.proofs.Sound.{length-starts, length-ends, original-formed, normalized-formed, inside-at}
 use Rattle.note.proofs.Stretch.{before-le}
 use Rattle.convert.specs.declared.Range.{Range}
 use Rattle.convert.specs.declared.Range.the-variants.{Original, Normalized}

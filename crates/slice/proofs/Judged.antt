@@ -8,9 +8,9 @@ use mathlib.Mathlib.Data.Bool.Basic.{and-elim-left, and-elim-right}
 use native.Mathlib.Omega.{arith}
 use lib.Dec.{leb}
 use lib.ListN.{length}
-use borrow.Author.Tests.{leb-true, not-false, not-true}
+use borrow.Author.Tests.{leb-true, not-false}
 use Rattle.buffers.specs.Splice.{part, splice}
-use Rattle.buffers.proofs.Cases.{true-or-false, clash}
+use Rattle.buffers.proofs.Cases.{true-or-false}
 use Rattle.buffers.proofs.Splice.{length-part, part-index, splice-overlay}
 use Rattle.note.specs.declared.Refusal.{Refusal}
 use Rattle.note.specs.declared.Refusal.the-variants.{NotBoundary, Missing, NoRoom}
@@ -30,7 +30,7 @@ use Rattle.get_range.specs.Reading.{asOriginal, asNormalized}
 use Rattle.slice.specs.declared.NoteSlice.{NoteSlice}
 use Rattle.slice.specs.declared.Sliced.{Sliced}
 use Rattle.slice.specs.declared.Sliced.the-variants.{Cut, Refused}
-use Rattle.slice.specs.Slicing.{valid, sliceOf, sliced, unplaced, sliceMissing, sliceSize, sliceFaults, slicedColumn, slicedUnlessRefused, Slicing, lowered, originalStart, originalEnd, normalizedStart, normalizedEnd}
+use Rattle.slice.specs.Slicing.{valid, sliceOf, sliced, unplaced, sliceMissing, sliceSize, sliceFaults, slicedColumn, slicedUnlessRefused, Slicing, lowered, originalStart, normalizedStart, normalizedEnd}
 use Rattle.slice.specs.Writing.{SliceJudged, Shiftable, Lowerable}
 use Rattle.slice.proofs.Cutting.{Cutting, cutting, start-near}
 
@@ -163,9 +163,6 @@ module _ (most : ℕ) (n : Note) (range : Range) (room : ℕ) where
 
 -- WHAT AN ACCEPTED CALL TELLS
 module _ (most : ℕ) (n : Note) (range : Range) (room : ℕ) (e : verdict (sliceFaults most n range room) ≡ Accepted) where
-  abbrev lent-faults : Refusal → Bool
-  lent-faults = noteFaults most n
-
   pub accepted-note : Sound n × (fits most n ≡ true)
   accepted-note = accepted-sound most n (accepted-first (noteFaults most n) (also (off most n range room) (also (gone most n range room) (small most n range room))) e)
 

@@ -1,10 +1,9 @@
 -- Laws of `valid`, `unplaced` and `sliceOf`, case by case as the code comes to them.
 use Prim.Native.Nat.{ℕ, _+_, _≤_, _<_}
 use mathlib.Core.Path.{_≡_}
-use mathlib.Core.Bool.{Bool, true, false, cond, _&&_, _||_, or-true}
+use mathlib.Core.Bool.{Bool, false, cond, _&&_, _||_, or-true}
 use mathlib.Core.List.{List}
 use native.Mathlib.Omega.{arith}
-use lib.Dec.{ltb}
 use borrow.Author.Tests.{lt-ltb, le-ltb}
 use Rattle.utf8.specs.Formed.{boundary}
 use Rattle.note.specs.declared.OriginalByte.{OriginalByte}
@@ -15,7 +14,7 @@ use Rattle.convert.specs.declared.Range.{Range}
 use Rattle.convert.specs.declared.Range.the-variants.{Original, Normalized}
 use Rattle.convert.specs.declared.Converted.{Converted}
 use Rattle.convert.specs.declared.Converted.the-variants.{Found, Refused as Unfound}
-use Rattle.convert.specs.Converting.{startOf, endOf, endIn, missing}
+use Rattle.convert.specs.Converting.{startOf, endOf, missing}
 use Rattle.slice.specs.declared.Sliced.{Sliced}
 use Rattle.slice.specs.declared.Sliced.the-variants.{Cut, Refused}
 use Rattle.slice.specs.Slicing.{valid, sliceOf, unplaced}

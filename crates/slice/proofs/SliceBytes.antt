@@ -1,14 +1,14 @@
 -- Which bytes an accepted slice has.
-use Prim.Native.Nat.{ℕ, _-_, _≤_, _<_}
+use Prim.Native.Nat.{_-_, _≤_, _<_}
 use mathlib.Core.Path.{_≡_, _∙_, ap, refl, sym}
 use native.Mathlib.Omega.{arith}
 use lib.ListN.{length}
 use Rattle.buffers.proofs.Cases.{le-or-lt, clash}
-use Rattle.note.specs.Notes.{Note, startAt, endAt, Sound}
+use Rattle.note.specs.Notes.{Note, Sound}
 use Rattle.note.proofs.Sound.{length-ends}
 use Rattle.convert.specs.declared.Range.{Range}
 use Rattle.convert.specs.declared.Range.the-variants.{Original, Normalized}
-use Rattle.convert.specs.Converting.{inNormalized, startOf, endOf, startIn, endIn, missing}
+use Rattle.convert.specs.Converting.{startOf, endOf, startIn, endIn, missing}
 use Rattle.get_range.specs.Reading.{asOriginal, asNormalized}
 use Rattle.slice.specs.Slicing.{sliceOf, sliced}
 use Rattle.slice.specs.Bytes.{Has, HasBytes, SliceBytes}

@@ -1,27 +1,26 @@
 -- The slice as a note: it is sound, it stands in its note where its numbers say, and a slice of it is one of the note.
 use Prim.Native.Nat.{ℕ, suc, _+_, _-_, _≤_, _<_}
 use mathlib.Core.Path.{_≡_, _∙_, ap, refl, sym}
-use mathlib.Core.Bool.{Bool, true, false, _&&_}
+use mathlib.Core.Bool.{true}
 use mathlib.Core.List.{List}
-use mathlib.Mathlib.Data.Bool.Basic.{and-intro, and-elim-left, and-elim-right}
+use mathlib.Mathlib.Data.Bool.Basic.{and-intro, and-elim-right}
 use native.Mathlib.Omega.{arith}
-use lib.ListN.{length, getD, take, drop, length-take, length-drop}
-use lib.Seq.{drop-drop, ext-getD}
+use lib.ListN.{length, getD, length-take}
+use lib.Seq.{ext-getD}
 use borrow.Author.Tests.{eq-eqb, le-leb}
 use Rattle.buffers.specs.Splice.{part}
 use Rattle.buffers.proofs.Cases.{le-or-lt}
 use Rattle.buffers.proofs.Splice.{length-part, part-index, part-at}
-use Rattle.utf8.specs.Formed.{wellFormed, continues, boundary}
+use Rattle.utf8.specs.Formed.{boundary}
 use Rattle.utf8.proofs.Boundaries.{boundary-most, boundary-begins, boundary-at, boundary-length}
 use Rattle.note.specs.Notes.{Note, lent, paired, textsFormed, startAt, endAt, Sound}
 use Rattle.note.proofs.Sound.{length-starts, length-ends, inside-at, boundaries-at, shared-at, forward-at, aligned-from}
 use Rattle.convert.specs.declared.Range.{Range}
-use Rattle.convert.specs.declared.Range.the-variants.{Original, Normalized}
 use Rattle.convert.specs.declared.Converted.the-variants.{Found}
-use Rattle.convert.specs.Converting.{inOriginal, inNormalized, startOf, endOf, startIn, endIn}
+use Rattle.convert.specs.Converting.{inOriginal, inNormalized}
 use Rattle.convert.specs.Inside.{Lies}
 use Rattle.convert.proofs.Conversions.{expanded-inside}
-use Rattle.slice.specs.Slicing.{valid, sliceOf, sliced, lowered, slicedColumn, sliceNote, originalStart, normalizedStart, SliceSound}
+use Rattle.slice.specs.Slicing.{valid, sliceOf, sliced, lowered, slicedColumn, sliceNote, SliceSound}
 use Rattle.slice.specs.Bytes.{Stands, SliceStands, cleanedSlice, SliceOfSlice}
 use Rattle.slice.proofs.Lowered.{length-lowered, getD-lowered, part-lowered, lowered-lowered}
 use Rattle.slice.proofs.Cutting.{Cutting, alignments-on, original-found, normalized-own}

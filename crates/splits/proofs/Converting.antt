@@ -1,7 +1,7 @@
 -- Columns of spans that become offsets, one piece after the other: none yet, one more, all of them.
 use Prim.Native.Nat.{ℕ, suc, _+_, _-_, _≤_, _<_}
 use mathlib.Core.Path.{_≡_, _∙_, ap, refl, sym}
-use mathlib.Core.Bool.{Bool, true, false, _&&_}
+use mathlib.Core.Bool.{true, _&&_}
 use mathlib.Core.List.{List, [], _∷_, _++_}
 use mathlib.Mathlib.Data.Bool.Basic.{and-elim-left, and-elim-right}
 use native.Mathlib.Numerals.{add-one}
@@ -10,7 +10,6 @@ use lib.Dec.{leb, ltb}
 use lib.ListN.{length, getD, set, take, drop, length-take, drop-of-length-le}
 use lib.Seq.{drop-cons, getD-take, getD-drop, length-take-le}
 use borrow.Author.Tests.{leb-true, ltb-true}
-use Rattle.buffers.specs.Splice.{splice, overlay}
 use Rattle.buffers.proofs.Cases.{clash}
 use Rattle.buffers.proofs.Splice.{Laying, none-laid, piece-laid, all-laid}
 use Rattle.behaviors.proofs.Runs.{store-one}

@@ -1,6 +1,6 @@
 -- Laws of `fromByte`, `toByte`, `startNumber` and `endNumber`: the numbers of one piece, case by case as the code comes to them.
 use Prim.Native.Nat.{ℕ, _+_, _-_, _≤_, _<_}
-use mathlib.Core.Path.{_≡_, ap}
+use mathlib.Core.Path.{_≡_}
 use mathlib.Core.List.{List}
 use native.Mathlib.Omega.{arith}
 use lib.ListN.{length, getD}

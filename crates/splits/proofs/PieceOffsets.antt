@@ -1,16 +1,16 @@
 -- The pieces that remain: they stand in order, and their offsets go by their cleaned starts and ends.
 use Prim.Native.Nat.{ℕ, suc, _+_, _-_, _≤_, _<_, min}
 use mathlib.Core.Path.{_≡_, _∙_, ap, refl, sym}
-use mathlib.Core.Bool.{Bool, true, false, _&&_, not}
+use mathlib.Core.Bool.{true, _&&_, not}
 use mathlib.Core.List.{List, [], _∷_, map}
-use mathlib.Mathlib.Data.Bool.Basic.{and-intro, and-elim-left, and-elim-right}
+use mathlib.Mathlib.Data.Bool.Basic.{and-intro, and-elim-right}
 use native.Mathlib.Omega.{arith}
 use lib.Dec.{leb, ltb, eqb}
-use lib.ListN.{length, getD, take, length-map}
-use borrow.Author.Tests.{le-leb, lt-ltb, eqb-true, eqb-false, not-true}
+use lib.ListN.{length, take, length-map}
+use borrow.Author.Tests.{le-leb, lt-ltb, eqb-false, not-true}
 use Rattle.buffers.specs.Splice.{overlay}
-use Rattle.buffers.proofs.Cases.{true-or-false, clash}
-use Rattle.buffers.proofs.Splice.{take-overlay, overlay-overlay, length-overlay, overlay-long}
+use Rattle.buffers.proofs.Cases.{true-or-false}
+use Rattle.buffers.proofs.Splice.{take-overlay, overlay-overlay, overlay-long}
 use Rattle.note.specs.declared.Refusal.{Refusal}
 use Rattle.note.specs.declared.Verdict.{Verdict}
 use Rattle.note.specs.declared.Verdict.the-variants.{Accepted, Refused as Rejected}
@@ -34,7 +34,7 @@ use Rattle.behaviors.specs.declared.SplitDelimiterBehavior.{SplitDelimiterBehav
 use Rattle.behaviors.specs.declared.EmptyPieces.the-variants.{Dropped}
 use Rattle.behaviors.specs.Splits.{splits, goes, isPiece, remaining, pieces}
 use Rattle.behaviors.specs.Joining.{startsOf, endsOf}
-use Rattle.behaviors.specs.Runs.{Listed, SpansRoom, SpansLaid}
+use Rattle.behaviors.specs.Runs.{SpansRoom, SpansLaid}
 use Rattle.behaviors.proofs.Gathered.{splits-cover}
 use Rattle.split.specs.Splitting.{pieceOf, transcriptLength}
 use Rattle.splits.specs.declared.OffsetType.{OffsetType}

@@ -1,7 +1,6 @@
 -- Each turn turns one more piece's span into its offsets.
 use Prim.Native.Nat.{_-_}
 use native.Mathlib.Omega.{arith}
-use borrow.Author.Needs.{needs}
 use Rattle.note.specs.Notes.{limit}
 use Rattle.splits.proofs.Converting.{Converting, none-converted, piece-here, in-columns, one-converted, all-converted}
 use Rattle.splits.proofs.convert_spans.Statement.{statement}
