@@ -25,8 +25,8 @@ pub enum CharOffsets {
     Refused(Refusal),
 }
 
-// The index of the character of the byte `to`, from that of the byte `at`, wherever the two stand. An inner function: the
-// text was judged before.
+// The index of the character of the byte `to`, from that of the byte `at`, wherever the two stand. An inner function:
+// the text was judged before.
 pub fn index_from(text: &[u8], at: usize, index: u32, to: usize) -> u32
     requires { ⌜ IndexKnown limit (now text) at index ⌝ }
     requires { ⌜ to < length (now text) ⌝ }

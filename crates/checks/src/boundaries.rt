@@ -58,8 +58,8 @@ fn width_of(b: u8) -> u8
 fn read_at(original: &[u8], starts: &[Offset], bytes: &mut [u8])
     requires { ⌜ length (now bytes) ≤ length (now starts) ⌝ }
     requires { ⌜ Inside (now original) (now starts) ⌝ }
-    ensures { λ _. ⌜ Filled (λ k. getD (now (original .entry)) (getD (now (starts .entry)) k 0) 0) (now (bytes .entry)) 0
-        (length (now (bytes .entry))) (now (bytes .exit)) ⌝ }
+    ensures { λ _. ⌜ Filled (λ k. getD (now (original .entry)) (getD (now (starts .entry)) k 0) 0)
+        (now (bytes .entry)) 0 (length (now (bytes .entry))) (now (bytes .exit)) ⌝ }
 {
     let mut j = 0;
     while j < bytes.len() {
@@ -101,7 +101,8 @@ fn all_span(widths: &[u8], starts: &[Offset], ends: &[Offset]) -> bool
 fn one_each(original: &[u8], starts: &[Offset], ends: &[Offset]) -> bool
     requires { ⌜ (length (now starts) ≡ 128) × (length (now ends) ≡ 128) ⌝ }
     requires { ⌜ Inside (now original) (now starts) ⌝ }
-    ensures { λ r. ⌜ (r ≡ true → uncutBelow (now (original .entry)) (now (starts .entry)) (now (ends .entry)) 128 ≡ true) ⌝ }
+    ensures { λ r. ⌜ (r ≡ true
+        → uncutBelow (now (original .entry)) (now (starts .entry)) (now (ends .entry)) 128 ≡ true) ⌝ }
 {
     let mut bytes = [0u8; 128];
     read_at(original, starts, &mut bytes);

@@ -1,7 +1,7 @@
 // Where a literal stands next in a text. Of 64 positions at once the first is named at which its first byte and, as
 // far on as it is long, its last one stand together, and it is tried there; where there is none, blocks of 64 are
-// passed until there is one; fewer than 64 are tried one by one. The worst case is the text's length times the literal's, where they nearly match everywhere: a literal a..aba..a in a
-// text a..a.
+// passed until there is one; fewer than 64 are tried one by one. The worst case is the text's length times the
+// literal's, where they nearly match everywhere: a literal a..aba..a in a text a..a.
 use buffers::equality::same_bytes;
 ghost use mathlib.Core.Path.{_≡_};
 ghost use mathlib.Core.Bool.{cond, not};

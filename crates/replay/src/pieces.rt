@@ -94,7 +94,8 @@ fn cut_spans(
     )
 }
 
-// 1 where empty pieces are dropped, the six lent columns; the refusal, how many pieces, how many alignments, the columns.
+// 1 where empty pieces are dropped, the six lent columns; the refusal, how many pieces, how many alignments, the
+// columns.
 pub fn split(case: &[u8], starts: &[Offset], ends: &[Offset]) -> bool {
     let mut piece_starts = zeros();
     let mut piece_ends = zeros();
