@@ -11,12 +11,10 @@ pub fn say(words: &[u8]) {
 }
 
 pub fn usage() {
-    say(
-        b"usage: redact LITERAL FILLER [LITERAL FILLER]... < NOTE             the note, every LITERAL blanked by its FILLER\n",
-    );
-    say(
-        b"usage: redact LITERAL FILLER [LITERAL FILLER]... alignments < NOTE  its alignments: first byte, count, transcript start, transcript end\n",
-    );
+    say(b"usage: redact LITERAL FILLER [LITERAL FILLER]... < NOTE             ");
+    say(b"the note, every LITERAL blanked by its FILLER\n");
+    say(b"usage: redact LITERAL FILLER [LITERAL FILLER]... alignments < NOTE  ");
+    say(b"its alignments: first byte, count, transcript start, transcript end\n");
 }
 
 // The literals are numbered from 1 on, as they were given.
@@ -89,8 +87,9 @@ pub fn refuse_note(k: Refusal) {
         return;
     }
     say(
-        b"the note has more than 65,535 bytes; split it between two words that belong to no literal, since a literal that is cut in two is not found\n",
+        b"the note has more than 65,535 bytes; split it between two words that belong to no literal, ",
     );
+    say(b"since a literal that is cut in two is not found\n");
 }
 
 // Why a literal cannot be blanked, and what to do: it or its filler is `IllFormed`, or there is `NoRoom`.
@@ -109,9 +108,8 @@ pub fn refuse_literal(k: Refusal, number: usize, literal: &[u8], content: &[u8])
     }
     say(b"with ");
     say_literal(number);
-    say(
-        b" blanked the text has more than 65,535 bytes; take a shorter filler, or split the note between two words that belong to no literal\n",
-    );
+    say(b" blanked the text has more than 65,535 bytes; take a shorter filler, ");
+    say(b"or split the note between two words that belong to no literal\n");
 }
 
 // The program takes no longer ones.

@@ -4,14 +4,12 @@
 mod matches;
 mod notes;
 mod pairs;
-mod pieces;
-mod printing;
 mod ranges;
-mod slices;
 mod texts;
 mod told;
 
 use libc::STDOUT_FILENO;
+use replayed_pieces::printing::printed;
 use stored_answers::fields::field;
 use stored_answers::unpack::unpack;
 
@@ -34,7 +32,7 @@ fn agrees(call: u8, case: &[u8]) -> bool {
         12 => ranges::part(case),
         13 => matches::find_matches(case),
         14 => matches::redact(case),
-        18 => printing::printed(case),
+        18 => printed(case),
         _ => notes::on_note(call, case),
     }
 }

@@ -2,14 +2,14 @@
 use crate::matches::published_alike;
 use crate::matches::replace;
 use crate::pairs::on_pairs;
-use crate::pieces::get_splits;
-use crate::pieces::split;
 use crate::ranges::convert_offsets;
 use crate::ranges::get_range;
 use crate::ranges::get_range_original;
-use crate::slices::slice;
 use crate::told::are_columns;
 use buffers::Offset;
+use replayed_pieces::pieces::get_splits;
+use replayed_pieces::pieces::split;
+use replayed_pieces::slices::slice;
 use stored_answers::columns::offsets;
 use stored_answers::columns::zeros;
 use stored_answers::fields::field;

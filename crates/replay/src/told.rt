@@ -6,10 +6,8 @@ use stored_answers::fields::is_number;
 use stored_answers::fields::is_text;
 use stored_answers::fields::value;
 use zulmyren::answers::Count;
-use zulmyren::answers::Cut;
 use zulmyren::answers::Listed;
 use zulmyren::answers::Offsets;
-use zulmyren::answers::Slice;
 ghost use mathlib.Core.Path.{_≡_};
 ghost use mathlib.Core.Bool.{_&&_};
 ghost use Prim.Native.Nat.{_+_, _<_};
@@ -28,49 +26,6 @@ pub fn is_range(case: &[u8], index: usize, answer: Offsets) -> bool
     is_number(case, index, answer.refusal)
         & is_number(case, index + 1, answer.start)
         & is_number(case, index + 2, answer.end)
-}
-
-// The refusal, the two ranges of a slice, its shift.
-pub fn is_slice(case: &[u8], index: usize, answer: Slice) -> bool
-    requires { ⌜ index < 100 ⌝ }
-{
-    is_number(case, index, answer.refusal)
-        & is_number(case, index + 1, answer.original_start)
-        & is_number(case, index + 2, answer.original_end)
-        & is_number(case, index + 3, answer.normalized_start)
-        & is_number(case, index + 4, answer.normalized_end)
-        & is_number(case, index + 5, answer.original_shift)
-}
-
-// The refusal, how many pieces and alignments there are, the four columns of pieces.
-pub fn are_pieces(
-    case: &[u8],
-    index: usize,
-    answer: Cut,
-    starts: &[Offset],
-    ends: &[Offset],
-    shifts: &[u32],
-    lengths: &[Offset],
-) -> bool
-    requires { ⌜ index < 100 ⌝ }
-{
-    is_number(case, index, answer.refusal)
-        & (value(case, index + 1) as usize == answer.pieces)
-        & (value(case, index + 2) as usize == answer.alignments)
-        & are_offsets(case, index + 3, starts)
-        & are_offsets(case, index + 4, ends)
-        & are_numbers(case, index + 5, shifts)
-        & are_offsets(case, index + 6, lengths)
-}
-
-// The refusal, how many there are, their starts and ends.
-pub fn are_splits(case: &[u8], index: usize, answer: Listed, starts: &[u32], ends: &[u32]) -> bool
-    requires { ⌜ index < 100 ⌝ }
-{
-    is_number(case, index, answer.refusal)
-        & (value(case, index + 1) as usize == answer.len)
-        & are_numbers(case, index + 2, starts)
-        & are_numbers(case, index + 3, ends)
 }
 
 // The refusal, the list's size, the list.

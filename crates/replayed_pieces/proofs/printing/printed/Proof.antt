@@ -3,8 +3,8 @@ use mathlib.Core.Path.{sym}
 use lib.Seq.{length-take-le}
 use borrow.Author.Needs.{needs}
 use Rattle.piece_lines.proofs.Answering.{printed-within}
-use Rattle.replay.proofs.printing.printed.Statement.{statement}
-use Rattle.replay.proofs.printing.printed.Tie as tie
+use Rattle.replayed_pieces.proofs.printing.printed.Statement.{statement}
+use Rattle.replayed_pieces.proofs.printing.printed.Tie as tie
 
 pub printed-spec : {M : Type 1} → statement M
 printed-spec =
