@@ -1,0 +1,71 @@
+-- Laws of the refusals before the edit of `filter`, and of the edit that the whole range asks for.
+use Prim.Native.Nat.{ℕ}
+use mathlib.Core.Path.{_≡_, _∙_, refl, sym}
+use mathlib.Core.Bool.{Bool, not}
+use mathlib.Core.List.{List, []}
+use lib.Dec.{eqb}
+use lib.ListN.{length}
+use borrow.Author.Tests.{eq-eqb, ne-eqb}
+use Rattle.utf8.specs.Letters.{letters, leads}
+use Rattle.utf8.proofs.Letters.{letters-leads}
+use Rattle.note.specs.declared.Refusal.{Refusal}
+use Rattle.note.specs.declared.Refusal.the-variants.{CountMismatch}
+use Rattle.note.specs.declared.Verdict.{Verdict}
+use Rattle.note.specs.declared.Verdict.the-variants.{Accepted, Refused as Rejected}
+use Rattle.note.specs.Refusals.{none, meets, also, verdict}
+use Rattle.note.specs.Notes.{Note}
+use Rattle.note.specs.Faults.{noteFaults}
+use Rattle.note.proofs.Verdicts.{refused-then, accepted-then}
+use Rattle.note.proofs.Sound.{normalized-formed}
+use Rattle.note.proofs.Faults.{accepted-sound}
+use Rattle.convert.specs.declared.Range.{Range}
+use Rattle.convert.specs.declared.Converted.{Converted}
+use Rattle.convert.specs.declared.Converted.the-variants.{Found, Refused}
+use Rattle.convert.specs.Converting.{startOf, endOf}
+use Rattle.script.specs.Scripts.{commandsOf}
+use Rattle.transform.specs.Edits.{skipped, Edit}
+use Rattle.transform.specs.Transforming.{target}
+use Rattle.transform.proofs.Verdicts.{edit-found, edit-none}
+use Rattle.edits.specs.Whole.{wholeRange, filterEdit}
+use Rattle.filters.specs.Flags.{skips, begun, kept}
+
+abbrev pub flagFaults : List ℕ → List ℕ → Refusal → Bool
+flagFaults text flags = meets CountMismatch (not (eqb (length flags) (letters text))) none
+
+pub begun-skipped : (s : List ℕ) (b from : ℕ) (flags : List ℕ) → begun s b from flags ≡ skipped s b (skips flags) from
+unfolding begun
+begun-skipped s b from flags = refl
+
+module _ (most : ℕ) (n : Note) (flags : List ℕ) {v : Verdict} (noted : v ≡ verdict (noteFaults most n)) where
+  pub note-first : {k : Refusal} → v ≡ Rejected k → Rejected k ≡ verdict (also (noteFaults most n) (flagFaults (n .normalized) flags))
+  note-first e = refused-then 4 (noteFaults most n) (flagFaults (n .normalized) flags) refl refl noted e
+
+  module _ (ok : v ≡ Accepted) {m : ℕ} (counted : m ≡ leads (n .normalized)) where
+    number : m ≡ letters (n .normalized)
+    number = counted ∙ sym (letters-leads (n .normalized) (normalized-formed n (accepted-sound most n (sym noted ∙ ok) .0)))
+
+    pub flag-each : length flags ≡ m → length flags ≡ letters (n .normalized)
+    flag-each h = h ∙ number
+
+    uneven : (length flags ≡ m → ⊥) → Rejected CountMismatch ≡ verdict (flagFaults (n .normalized) flags)
+    unfolding verdict
+    uneven h = rw (ne-eqb (length flags) (letters (n .normalized)) (λ z. h (z ∙ sym number)))
+
+    even : length flags ≡ m → Accepted ≡ verdict (flagFaults (n .normalized) flags)
+    unfolding verdict
+    even h = rw (eq-eqb (length flags) (letters (n .normalized)) (h ∙ number))
+
+    pub miscounted : (length flags ≡ m → ⊥) → Rejected CountMismatch ≡ verdict (also (noteFaults most n) (flagFaults (n .normalized) flags))
+    miscounted h = accepted-then 4 (noteFaults most n) (flagFaults (n .normalized) flags) refl refl noted ok (uneven h)
+
+    pub well-counted : length flags ≡ m → Accepted ≡ verdict (also (noteFaults most n) (flagFaults (n .normalized) flags))
+    well-counted h = accepted-then 4 (noteFaults most n) (flagFaults (n .normalized) flags) refl refl noted ok (even h)
+
+module _ (n : Note) (flags : List ℕ) {x : Converted} (is : x ≡ target (n .starts) (n .ends) (wholeRange n)) where
+  pub filter-found : {r : Range} {a b : ℕ} → x ≡ Found r → a ≡ startOf r → b ≡ endOf r → record { from = a; to = b; skip = skips flags; commands = kept (n .normalized) flags } ≡ filterEdit n flags
+  unfolding filterEdit skips kept
+  filter-found found from to = edit-found _ _ is found from to
+
+  pub filter-none : {k : Refusal} → x ≡ Refused k → record { from = 0; to = 0; skip = 0; commands = commandsOf [] } ≡ filterEdit n flags
+  unfolding filterEdit
+  filter-none none = edit-none _ _ is none

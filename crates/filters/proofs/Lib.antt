@@ -1,0 +1,4 @@
+-- Laws of filtering.
+pub mod Kept
+pub mod Flagged
+pub mod Counted

@@ -1,0 +1,91 @@
+-- The range first, then whether there are characters enough, then the room; past these the result is laid down.
+use Prim.Native.Nat.{_+_, _-_, _^_, _≤_, _<_}
+use lib.ListN.{length}
+use native.Mathlib.Omega.{arith}
+use borrow.Author.Needs.{needs}
+use Rattle.note.specs.Notes.{limit}
+use Rattle.transform.proofs.Verdicts.{not-placed, range-inside, skip-ready, starved-refused, refused-kept, refused-size, edit-room, edit-made}
+use Rattle.filters.specs.Flags.{skips, kept}
+use Rattle.filters.proofs.Counted.{begun-skipped}
+use Rattle.filters.proofs.edit_flags.Statement.{statement}
+use Rattle.filters.proofs.edit_flags.Tie as tie
+
+returns : tie.Need-returns
+returns c =
+    let entry = c .before .before .before .before .before .before .before .before .before in
+    not-placed limit (entry .pre .0) (entry .args .from) (entry .args .to) (skips (entry .args .flags .now)) (kept (entry .args .text .now) (entry .args .flags .now)) (entry .args .out .now) (entry .args .out-starts .now) (entry .args .out-ends .now) (c .before .placed .ensures) (c .if1 .taken)
+
+measure-flags-requires : tie.Need-measure-flags-requires
+measure-flags-requires c κs =
+    let entry = c .before .before .before .before .before .before .before .before .before .before .before in
+    record { tabled = skip-ready limit (entry .pre .0) (entry .args .from) (entry .args .to) (skips (entry .args .flags .now)) (kept (entry .args .text .now) (entry .args .flags .now)) (entry .args .out .now) (entry .args .out-starts .now) (entry .args .out-ends .now) (c .before .before .before .placed .ensures) (c .before .before .if1 .left) (c .before .lengths .ensures); counted = entry .pre .1 }
+
+sub-kept : tie.Need-sub-kept
+sub-kept c =
+    let m = c .before .before .before .before .before in
+    let entry = m .before .before .before .before .before .before .before .before .before .before .before .before in
+    range-inside limit (entry .pre .0) (entry .args .from) (entry .args .to) (skips (entry .args .flags .now)) (kept (entry .args .text .now) (entry .args .flags .now)) (entry .args .out .now) (entry .args .out-starts .now) (entry .args .out-ends .now) (m .before .before .before .before .placed .ensures) (m .before .before .before .if1 .left) (m .before .before .lengths .ensures) .1
+
+add-kept : tie.Need-add-kept
+add-kept c =
+    let m = c .before .before .before .before .before in
+    let entry = m .before .before .before .before .before .before .before .before .before .before .before .before in
+    let range = range-inside limit (entry .pre .0) (entry .args .from) (entry .args .to) (skips (entry .args .flags .now)) (kept (entry .args .text .now) (entry .args .flags .now)) (entry .args .out .now) (entry .args .out-starts .now) (entry .args .out-ends .now) (m .before .before .before .before .placed .ensures) (m .before .before .before .if1 .left) (m .before .before .lengths .ensures) in
+    let long : length (entry .args .text .now) < 2 ^ 64 = entry .good .0 .0 in
+    omega (arith, long, range .0, range .1)
+
+returns-2 : tie.Need-returns-2
+returns-2 c =
+    let m = c .before .before .before .before .before .before in
+    let entry = m .before .before .before .before .before .before .before .before .before .before .before .before in
+    refused-kept limit (entry .pre .0) (entry .args .from) (entry .args .to) (skips (entry .args .flags .now)) (kept (entry .args .text .now) (entry .args .flags .now)) (entry .args .out .now) (entry .args .out-starts .now) (entry .args .out-ends .now) (m .before .before .before .before .placed .ensures) (m .before .before .before .if1 .left) (m .before .before .lengths .ensures) (begun-skipped (entry .args .text .now) (entry .args .to) (entry .args .from) (entry .args .flags .now)) (m .measure-flags .ensures) (c .before .before .before .before .size .given .1) (c .before .before .least-room .ensures) (c .before .least-of-two .ensures) (c .if2 .taken)
+
+returns-3 : tie.Need-returns-3
+returns-3 c =
+    let m = c .before .before .before .before .before .before .before in
+    let entry = m .before .before .before .before .before .before .before .before .before .before .before .before in
+    refused-size limit (entry .pre .0) (entry .args .from) (entry .args .to) (skips (entry .args .flags .now)) (kept (entry .args .text .now) (entry .args .flags .now)) (entry .args .out .now) (entry .args .out-starts .now) (entry .args .out-ends .now) (m .before .before .before .before .placed .ensures) (m .before .before .before .if1 .left) (m .before .before .lengths .ensures) (begun-skipped (entry .args .text .now) (entry .args .to) (entry .args .from) (entry .args .flags .now)) (m .measure-flags .ensures) (c .before .before .before .before .before .size .given .1) (c .before .before .before .least-room .ensures) (c .before .before .least-of-two .ensures) (c .before .if2 .left) (c .if3 .taken)
+
+lay-filtered-requires : tie.Need-lay-filtered-requires
+lay-filtered-requires c κs =
+    let m = c .before .before .before .before .before .before .before .before .before .before .before in
+    let entry = m .before .before .before .before .before .before .before .before .before .before .before .before in
+    record {
+      ready = record { tabled = skip-ready limit (entry .pre .0) (entry .args .from) (entry .args .to) (skips (entry .args .flags .now)) (kept (entry .args .text .now) (entry .args .flags .now)) (entry .args .out .now) (entry .args .out-starts .now) (entry .args .out-ends .now) (m .before .before .before .before .placed .ensures) (m .before .before .before .if1 .left) (m .before .before .lengths .ensures); counted = entry .pre .1 };
+      rooms = edit-room limit (entry .pre .0) (entry .args .from) (entry .args .to) (skips (entry .args .flags .now)) (kept (entry .args .text .now) (entry .args .flags .now)) (entry .args .out .now) (entry .args .out-starts .now) (entry .args .out-ends .now) (m .before .before .before .before .placed .ensures) (m .before .before .before .if1 .left) (m .before .before .lengths .ensures) (begun-skipped (entry .args .text .now) (entry .args .to) (entry .args .from) (entry .args .flags .now)) (m .measure-flags .ensures) (c .before .before .before .before .before .before .before .before .before .size .given .1) (c .before .before .before .before .before .before .before .least-room .ensures) (c .before .before .before .before .before .before .least-of-two .ensures) (c .before .before .before .before .before .if2 .left) (c .before .before .before .before .if3 .left);
+    }
+
+returns-4 : tie.Need-returns-4
+returns-4 c =
+    let m = c .before .before in
+    let entry = m .before .before .before .before .before .before .before .before .before .before .before .before in
+    starved-refused limit (entry .pre .0) (entry .args .from) (entry .args .to) (skips (entry .args .flags .now)) (kept (entry .args .text .now) (entry .args .flags .now)) (entry .args .out .now) (entry .args .out-starts .now) (entry .args .out-ends .now) (m .before .before .before .before .placed .ensures) (m .before .before .before .if1 .left) (m .before .before .lengths .ensures) (begun-skipped (entry .args .text .now) (entry .args .to) (entry .args .from) (entry .args .flags .now)) (m .measure-flags .ensures) (c .enum-told .given .1)
+
+returns-5 : tie.Need-returns-5
+returns-5 c =
+    let m = c .before .before .before .before .before .before .before .before .before .before .before .before .before .before .before .before .before .before in
+    let entry = m .before .before .before .before .before .before .before .before .before .before .before .before in
+    edit-made limit (entry .pre .0) (entry .args .from) (entry .args .to) (skips (entry .args .flags .now)) (kept (entry .args .text .now) (entry .args .flags .now)) (entry .args .out .now) (entry .args .out-starts .now) (entry .args .out-ends .now) (m .before .before .before .before .placed .ensures) (m .before .before .before .if1 .left) (m .before .before .lengths .ensures) (begun-skipped (entry .args .text .now) (entry .args .to) (entry .args .from) (entry .args .flags .now)) (m .measure-flags .ensures) (c .before .before .before .before .before .before .before .before .before .before .before .before .before .before .before .before .size .given .1) (c .before .before .before .before .before .before .before .before .before .before .before .before .before .before .least-room .ensures) (c .before .before .before .before .before .before .before .before .before .before .before .before .before .least-of-two .ensures) (c .before .before .before .before .before .before .before .before .before .before .before .before .if2 .left) (c .before .before .before .before .before .before .before .before .before .before .before .if3 .left) (c .before .before .before .before .before .before .lay-filtered .ensures)
+
+pub edit-flags-spec : {M : Type 1} → statement M
+edit-flags-spec =
+    tie.close
+    (tie.spec
+    (λ c κs. search needs)
+    returns
+    (λ c κs. search needs)
+    measure-flags-requires
+    (λ c. search needs)
+    (λ c. search needs)
+    (λ c κs. search needs)
+    (λ c κs. search needs)
+    sub-kept
+    add-kept
+    returns-2
+    returns-3
+    lay-filtered-requires
+    returns-4
+    (λ c. search needs)
+    (λ c. search needs)
+    (λ c. search needs)
+    returns-5)

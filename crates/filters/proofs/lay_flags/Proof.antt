@@ -1,0 +1,59 @@
+-- Each turn lays down what one flag keeps.
+use Prim.Native.Nat.{_+_, _-_, _^_, _≤_, _<_}
+use lib.ListN.{length}
+use native.Mathlib.Omega.{arith}
+use borrow.Author.Needs.{needs}
+use Rattle.filters.proofs.Kept.{char-there}
+use Rattle.filters.proofs.Flagged.{Flagged, none-flagged, flag-room, next-flagged, all-flagged}
+use Rattle.filters.proofs.lay_flags.Statement.{statement}
+use Rattle.filters.proofs.lay_flags.Tie as tie
+
+abbrev Inv-loop : tie.InvT-loop
+Inv-loop text starts ends to from flags table out₀ out-starts₀ out-ends₀ at q₀ p₀ written₀ i₀ out out-starts out-ends q p written i =
+    Flagged text starts ends to from flags out₀ out-starts₀ out-ends₀ at q p written i out out-starts out-ends
+
+abbrev μ-loop : tie.MeasureT-loop
+μ-loop text starts ends to from flags table out₀ out-starts₀ out-ends₀ at q₀ p₀ written₀ i₀ out out-starts out-ends q p written i =
+    length flags - i
+
+lay-flag-requires : tie.Need-lay-flag-requires Inv-loop μ-loop
+lay-flag-requires c κs = flag-room (c .before .before .before .before .before .before .before .before .before .before .before .before .before .before .pre) (c .before .before .before .before .before .before .loop .inv) (c .before .before .before .before .before .loop-test .taken) (c .before .before .before .before .char-len .ensures)
+
+skip-requires : tie.Need-skip-requires Inv-loop μ-loop
+skip-requires c κs = record { standing = c .before .before .before .before .before .before .before .before .before .before .before .before .before .loop .inv .beside .standing; lent = c .before .before .before .before .before .before .before .before .before .before .before .before .before .before .before .before .before .before .before .before .before .pre .ready .tabled .lent }
+
+add-q : tie.Need-add-q Inv-loop μ-loop
+add-q c =
+    let head = c .before .before .before .before .before .before .before .before .before .before .before .before .before .before in
+    let entry = c .before .before .before .before .before .before .before .before .before .before .before .before .before .before .before .before .before .before .before .before .before .before in
+    let long : length (entry .args .text .now) < 2 ^ 64 = entry .good .0 .0 in
+    let inside : head .loop .q + c .before .before .before .before .before .before .before .before .before .before .before .before .char-len .result ≤ length (entry .args .text .now) = c .before .before .before .before .before .before .before .before .before .before .before .before .char-len .ensures .inside in
+    omega (arith, long, inside)
+
+add-i : tie.Need-add-i Inv-loop μ-loop
+add-i c =
+    let head = c .before .before .before .before .before .before .before .before .before .before .before .before .before .before in
+    let entry = c .before .before .before .before .before .before .before .before .before .before .before .before .before .before .before .before .before .before .before .before .before .before in
+    let long : length (entry .args .flags .now) < 2 ^ 64 = entry .good .1 .1 .1 .1 .1 .0 .0 in
+    let less : head .loop .i < length (entry .args .flags .now) = c .before .before .before .before .before .before .before .before .before .before .before .before .before .loop-test .taken in
+    omega (arith, long, less)
+
+pub lay-flags-spec : {M : Type 1} → statement M
+lay-flags-spec =
+    tie.close
+    (tie.spec
+    Inv-loop
+    μ-loop
+    (λ c. none-flagged (c .before .before .before .before .before .before .before .pre))
+    (λ c κs. char-there (c .before .loop .inv .beside) (c .loop-test .taken) (c .before .before .before .before .before .before .before .before .before .pre .ready .tabled))
+    (λ c. search needs)
+    lay-flag-requires
+    skip-requires
+    add-q
+    add-i
+    (λ c. omega arith)
+    (λ c. next-flagged (c .before .before .before .before .before .before .before .before .before .before .before .before .before .before .before .before .before .before .before .before .before .before .pre) (c .before .before .before .before .before .before .before .before .before .before .before .before .before .before .loop .inv) (c .before .before .before .before .before .before .before .before .before .before .before .before .before .loop-test .taken) (c .before .before .before .before .before .before .before .before .before .before .before .before .char-len .ensures) (c .before .before .before .before .before .before .before .lay-flag .ensures) (c .skip .ensures))
+    (λ c. c .before .loop .inv .going .text-laid .same)
+    (λ c. c .before .loop .inv .going .starts-laid .same)
+    (λ c. c .before .loop .inv .going .ends-laid .same)
+    (λ c. all-flagged (c .before .before .before .before .before .before .before .before .before .pre) (c .before .loop .inv) (c .loop-test .left)))

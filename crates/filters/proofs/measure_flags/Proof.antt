@@ -1,0 +1,53 @@
+-- Each turn passes one character of the text and one of the range, unless a kept one finds none.
+use Prim.Native.Nat.{_+_, _-_, _^_, _≤_, _<_}
+use lib.ListN.{length, getD}
+use native.Mathlib.Omega.{arith}
+use borrow.Author.Needs.{needs}
+use Rattle.filters.proofs.Kept.{char-there, Filtering, none-filtered, flag-starves, next-filtered, all-filtered, counts-most}
+use Rattle.filters.proofs.measure_flags.Statement.{statement}
+use Rattle.filters.proofs.measure_flags.Tie as tie
+
+abbrev Inv-loop : tie.InvT-loop
+Inv-loop text to from flags table q₀ p₀ written₀ i₀ q p written i = Filtering text to from flags q p written i
+
+abbrev μ-loop : tie.MeasureT-loop
+μ-loop text to from flags table q₀ p₀ written₀ i₀ q p written i = length flags - i
+
+add-written : tie.Need-add-written Inv-loop μ-loop
+add-written c =
+    let head = c .before .before .before .before .before .before .before in
+    let entry = head .before .before .before in
+    let long : length (entry .args .text .now) < 2 ^ 64 = entry .good .0 .0 in
+    omega (arith, long, counts-most _ _ (c .counts .ensures), c .before .before .before .before .before .char-len .ensures .inside, head .loop .inv .small)
+
+skip-requires : tie.Need-skip-requires Inv-loop μ-loop
+skip-requires c κs =
+    let head = c .before .before .before .before .before .before .before in
+    record { standing = head .loop .inv .beside .standing; lent = head .before .before .before .pre .tabled .lent }
+
+add-q : tie.Need-add-q Inv-loop μ-loop
+add-q c =
+    let entry = c .before .before .before .before .before .before .before .before .before .before .before in
+    let long : length (entry .args .text .now) < 2 ^ 64 = entry .good .0 .0 in
+    omega (arith, long, c .before .before .before .before .before .before .char-len .ensures .inside)
+
+pub measure-flags-spec : {M : Type 1} → statement M
+measure-flags-spec =
+    tie.close
+    (tie.spec
+    Inv-loop
+    μ-loop
+    (λ c. none-filtered (c .before .before .pre))
+    (λ c κs. char-there (c .before .loop .inv .beside) (c .loop-test .taken) (c .before .before .before .before .pre .tabled))
+    (λ c. search needs)
+    (λ c κs. search needs)
+    (λ c. flag-starves (c .before .before .before .before .before .loop .inv) (c .before .before .before .before .loop-test .taken) (c .before .before .before .char-len .ensures) (c .before .wants .ensures) (c .if1 .taken))
+    (λ c. search needs)
+    (λ c κs. search needs)
+    add-written
+    skip-requires
+    add-q
+    (λ c. omega arith)
+    (λ c. omega arith)
+    (λ c. next-filtered (c .before .before .before .before .before .before .before .before .loop .inv) (c .before .before .before .before .before .before .before .loop-test .taken) (c .before .before .before .before .before .before .char-len .ensures) (c .before .before .before .before .wants .ensures) (c .before .before .before .if1 .left) (c .before .counts .ensures) (c .skip .ensures))
+    (λ c. all-filtered (c .before .loop .inv) (c .loop-test .left)))

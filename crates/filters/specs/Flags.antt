@@ -1,0 +1,66 @@
+-- RULES 8: what the functions of `filter` are told and say: flags beside the characters of a text.
+use Prim.Native.Nat.{ℕ, _+_, _≤_, _<_}
+use mathlib.Core.Path.{_≡_}
+use mathlib.Core.Bool.{Bool, true, false, cond, _&&_, not}
+use mathlib.Core.List.{List, []}
+use lib.Dec.{leb, eqb}
+use lib.ListN.{length, getD, replicate}
+use Rattle.buffers.specs.Splice.{part, splice}
+use Rattle.utf8.specs.Letters.{letters}
+use Rattle.script.specs.declared.Command.{Command}
+use Rattle.transform.specs.Edits.{skipped}
+use Rattle.transform.specs.Walking.{Tabled}
+use Rattle.transform.specs.Laying.{CommandsRoom, EditRoom}
+use Rattle.edits.specs.Characters.{codesOf}
+use Rattle.edits.specs.Whole.{droppedAhead, anyKept, keptCommands}
+
+-- how many characters of the range are skipped at first, and where that leads
+unfoldable pub skips : List ℕ → ℕ
+skips flags = cond (anyKept flags) (droppedAhead flags) 0
+
+unfoldable pub begun : List ℕ → ℕ → ℕ → List ℕ → ℕ
+begun s b from flags = skipped s b (skips flags) from
+
+-- the commands of the flags beside a text
+unfoldable pub kept : List ℕ → List ℕ → List Command
+kept s flags = keptCommands (codesOf s) flags
+
+-- a flag that keeps its character finds no character left at the position
+unfoldable pub wants : ℕ → ℕ → ℕ → Bool
+wants flag b p = not (eqb flag 0) && leb b p
+
+-- how many bytes a flag keeps of so many
+unfoldable pub counts : ℕ → ℕ → ℕ
+counts flag wide = cond (eqb flag 0) 0 wide
+
+-- a flag for each character of a text, and the range's first position
+pub record FlagsReady (s : List ℕ) (b from : ℕ) (flags table : List ℕ) : Type 0 where
+  pub tabled : Tabled s b from table
+  pub counted : length flags ≡ letters s
+
+-- a character's bytes from q on, a position whose alignment they take, and room for them
+pub record FlagRoom (flag : ℕ) (s starts ends : List ℕ) (q wide p : ℕ) (out starts₀ ends₀ : List ℕ) (at : ℕ)
+    : Type 0 where
+  pub inside : q + wide ≤ length s
+  pub start-found : eqb flag 0 ≡ false → p < length starts
+  pub end-found : eqb flag 0 ≡ false → p < length ends
+  pub text-room : at + counts flag wide ≤ length out
+  pub starts-room : at + counts flag wide ≤ length starts₀
+  pub ends-room : at + counts flag wide ≤ length ends₀
+
+pub record FlagLaid (flag : ℕ) (s starts ends : List ℕ) (q wide p : ℕ) (out₀ starts₀ ends₀ : List ℕ) (at r : ℕ)
+    (out starts₁ ends₁ : List ℕ) : Type 0 where
+  pub reached : r ≡ at + counts flag wide
+  pub text-is : out ≡ splice out₀ at (cond (eqb flag 0) [] (part s q (q + wide)))
+  pub starts-are : starts₁ ≡ splice starts₀ at (cond (eqb flag 0) [] (replicate wide (getD starts p 0)))
+  pub ends-are : ends₁ ≡ splice ends₀ at (cond (eqb flag 0) [] (replicate wide (getD ends p 0)))
+
+-- flags none of which wants a character that is not left, and room for what they keep
+pub record FlagsRoom (s starts ends : List ℕ) (b from : ℕ) (flags table out starts₀ ends₀ : List ℕ) (at : ℕ)
+    : Type 0 where
+  pub ready : FlagsReady s b from flags table
+  pub rooms : CommandsRoom s starts ends b (begun s b from flags) (kept s flags) table out starts₀ ends₀ at
+
+pub record FilterRoom (s starts ends : List ℕ) (a b : ℕ) (flags table out starts₀ ends₀ : List ℕ) : Type 0 where
+  pub ready : FlagsReady s b a flags table
+  pub rooms : EditRoom s starts ends a b (begun s b a flags) (kept s flags) table out starts₀ ends₀

@@ -1,0 +1,2 @@
+-- Filtering (RULES 8).
+pub mod Flags
