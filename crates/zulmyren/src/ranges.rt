@@ -13,7 +13,7 @@ ghost use Rattle.convert_list.specs.ConvertList.{ConvertedList};
 ghost use Rattle.zulmyren.specs.Calls.{Told, offsetsOf, sideOf};
 
 // The text that a range is in.
-fn side_of(original: bool) -> OffsetReferential
+pub fn side_of(original: bool) -> OffsetReferential
     ensures { λ r. ⌜ r ≡ sideOf original ⌝ }
 {
     if original {
