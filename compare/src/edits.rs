@@ -27,6 +27,7 @@ pub fn compare(report: &mut Report) {
             every_range(tally, &Note::from(&NormalizedString::from(text.as_str())), 3, &['é']);
         }
     });
+    report.call("editing", "the inputs of docs/DIFFERENCES.md", differences);
     report.call("zulmyren_transform", "NormalizedString::transform", |tally| {
         tally.family("every script of up to 2 commands, every offset, on short sound notes");
         for note in short_notes() {
@@ -59,6 +60,55 @@ pub fn compare(report: &mut Report) {
         );
     });
     report.call("zulmyren_clear", "NormalizedString::clear", every_clear);
+}
+
+/// Where the Rust panics, leaves a note that is not sound, or departs from its comment.
+fn differences(tally: &mut Tally) {
+    tally.family("no character left, and characters before the whole transcript's range");
+    let fresh = |text: &str| NormalizedString::from(text);
+    let moved = |text: &str| {
+        let mut note = NormalizedString::from(text);
+        note.prepend("");
+        note
+    };
+    let panics = |run: fn()| std::panic::catch_unwind(run).is_err();
+    let mut says = |name: &str, holds: bool| tally.case("accepted", !holds, || format!("{name} is not so"));
+    let hook = std::panic::take_hook();
+    std::panic::set_hook(Box::new(|_| {}));
+    let three: [Change; 3] = [('x', 0), ('y', 0), ('z', 0)];
+    says(
+        "three replacing characters in two panic",
+        panics(|| {
+            NormalizedString::from("ab").transform_range(Range::Normalized(0..2), [('x', 0), ('y', 0), ('z', 0)], 0);
+        }),
+    );
+    says(
+        "map after prepend panics",
+        panics(|| {
+            let mut note = NormalizedString::from("ab");
+            note.prepend("").map(|c| c);
+        }),
+    );
+    std::panic::set_hook(hook);
+    let refused = |note: &NormalizedString, end: u32, changes: &[Change]| {
+        let (mut text, mut starts, mut ends) = (Lent::new(9), Lent::new(9), Lent::new(9));
+        let out = Publishing { text: text.part(), starts: starts.part(), ends: ends.part() };
+        library::transform_range(&Note::from(note), (false, 0, end), &bytes(changes), 0, out).refusal
+    };
+    says("here that is 7", refused(&fresh("ab"), 2, &three) == EXHAUSTED);
+    let behind: [Change; 3] = [('x', 0), ('y', 0), ('z', 1)];
+    let mut note = fresh("ab");
+    note.transform_range(Range::Normalized(0..1), behind, 0);
+    says("xyzb", note.get() == "xyzb" && note.alignments() == [(0, 1), (1, 2), (0, 1), (1, 2)]);
+    says("which is not sound", Note::from(&note).refusal() != 0);
+    says("and here 7", refused(&fresh("ab"), 1, &behind) == EXHAUSTED);
+    let mut note = moved("ab");
+    note.filter(|c| c == 'a');
+    says("filter keeps aa", note.get() == "aa" && note.alignments() == [(0, 0), (1, 2)]);
+    let mut note = moved("aé");
+    says("prepend moves", note.alignments() == [(0, 0), (1, 3), (1, 3)]);
+    says("clear answers 3", note.clear() == 3);
+    says("clear leaves a", note.get() == "a" && note.alignments() == [(0, 0)]);
 }
 
 fn short_notes() -> Vec<Note> {
