@@ -33,7 +33,7 @@
  * WHAT A CALL ANSWERS
  *   zulmyren_well_formed answers true or false. Every other call answers 0 where it accepts, and else refuses with one
  *   of these numbers; all other numbers of the answer are then 0, or false.
- *      1  torn           a text, the literal or the filler is not well-formed
+ *      1  torn           a text, the literal, the filler, or a string to append or prepend is not well-formed
  *      2  overlong       a text has more than 65,535 bytes, or original_shift + original_len is more than 65,535
  *      3  uneven         starts_len, ends_len and normalized_len are not all equal; or a list of ranges or
  *                        pairs has more starts than ends, or fewer
@@ -42,13 +42,17 @@
  *                        character of the cleaned text have the same alignment; starts[i] <= starts[i + 1] and
  *                        ends[i] <= ends[i + 1]
  *      5  off place      either end of a range is greater than the text's length or within a character;
- *                        zulmyren_letter_count gives it for start > end too
+ *                        zulmyren_letter_count and zulmyren_transform_range give it for start > end too
+ *      6  bad script     an edit script has an unknown command, a cut one, a number that is no code point of a
+ *                        character, or a removal of 0; or so has the list of code points of zulmyren_map
+ *      7  nothing left   a replacing command of an edit finds no character left in its range
  *      8  broken list    a match list (below) does not cover the cleaned text
  *      9  no room        a buffer is too small for the result, or the resulting text has more than 65,535 bytes
  *     10  nothing there  a range or a pair has no answer; each call says when
- *   (6, 7 and 11 belong to calls that do not exist yet.) A comment names the refusals of its call in the order in
- *   which they are checked, which is always 2, 3, 1, 4, 8, 5, 10, 9; the first that applies is given. A literal, a
- *   filler and any list may be of any length.
+ *     11  miscounted     code points or flags are not one for each character of the cleaned text
+ *   A comment names the refusals of its call in the order in which they are checked, which is always 2, 3, 1, 4, 6, 8,
+ *   11, 5, 10, 7, 9; the first that applies is given. A literal, a filler, a string to append or prepend, a script and
+ *   any list may be of any length.
  *
  * WHAT A CALL WRITES
  *   Nothing where it refuses. Where it accepts, the front of each written buffer; what stands behind the result stays.
@@ -246,6 +250,97 @@ zulmyren_count zulmyren_replace(
 zulmyren_count zulmyren_redact(
     const uint8_t *text, size_t text_len, const uint8_t *literal, size_t literal_len,
     const uint8_t *content, size_t content_len,
+    uint8_t *out, size_t out_len,
+    uint16_t *out_starts, size_t out_starts_len, uint16_t *out_ends, size_t out_ends_len);
+
+/* EDITING
+ *   An edit writes what the cleaned text and its alignments are afterwards to the first count elements of out,
+ *   out_starts and out_ends; the transcript and the shift stay. Together that is a note again, which every call takes.
+ *   A script is bytes, one command behind the other:
+ *     1  replace             the number 1, a code point in four bytes, the lower first
+ *     2  add                 the number 2, a code point in four bytes, the lower first
+ *     3  replace and remove  the number 3, a code point in four bytes, then a count in two bytes, the lower first, 1 or
+ *                            more
+ *   A position goes through the range from character to character, from its start on. An added character leaves it
+ *   there and carries the alignment of the byte before it, 0..0 at the beginning of the text. A replacing one carries
+ *   the alignment of the byte at the position and takes one character, command 3 as many more as its count says, at
+ *   most the rest of the range. The range gives way to the characters of the commands: what no command reached is
+ *   gone. */
+
+/* Edits a range (Rust: transform_range): of the transcript where of_original is true, else of the cleaned text. A range
+ * of the transcript is converted as by zulmyren_convert_offsets; where that says 10, the note is written as it is. The
+ * first initial_offset characters of the range are passed over, and are gone.
+ * Refusals: 2, 3, 1, 4, 6 (the script, whole), 5 (the range in the cleaned text), 7 (a replacing command finds no
+ * character left in the range), 9 (any of the three buffers is too small, or count would be over 65,535). */
+zulmyren_count zulmyren_transform_range(
+    const uint8_t *original, size_t original_len, const uint8_t *normalized, size_t normalized_len,
+    const uint16_t *starts, size_t starts_len, const uint16_t *ends, size_t ends_len, uint32_t original_shift,
+    bool of_original, uint32_t start, uint32_t end,
+    const uint8_t *script, size_t script_len, uint32_t initial_offset,
+    uint8_t *out, size_t out_len,
+    uint16_t *out_starts, size_t out_starts_len, uint16_t *out_ends, size_t out_ends_len);
+
+/* The same with the whole transcript for its range (Rust: transform). Refusals: 2, 3, 1, 4, 6, 7, 9. */
+zulmyren_count zulmyren_transform(
+    const uint8_t *original, size_t original_len, const uint8_t *normalized, size_t normalized_len,
+    const uint16_t *starts, size_t starts_len, const uint16_t *ends, size_t ends_len, uint32_t original_shift,
+    const uint8_t *script, size_t script_len, uint32_t initial_offset,
+    uint8_t *out, size_t out_len,
+    uint16_t *out_starts, size_t out_starts_len, uint16_t *out_ends, size_t out_ends_len);
+
+/* Replaces the characters of the cleaned text (Rust: map): codes has one code point for each of them, in order. The
+ * range is the whole transcript, converted, which begins at the first byte whose alignment is not empty.
+ * Refusals: 2, 3, 1, 4, 6 (a number that is no code point of a character), 11 (codes_len is not the number of cleaned
+ * characters), 7, 9. */
+zulmyren_count zulmyren_map(
+    const uint8_t *original, size_t original_len, const uint8_t *normalized, size_t normalized_len,
+    const uint16_t *starts, size_t starts_len, const uint16_t *ends, size_t ends_len, uint32_t original_shift,
+    const uint32_t *codes, size_t codes_len,
+    uint8_t *out, size_t out_len,
+    uint16_t *out_starts, size_t out_starts_len, uint16_t *out_ends, size_t out_ends_len);
+
+/* Drops characters of the cleaned text (Rust: filter): flags has one byte for each of them, in order, 0 to drop it and
+ * any other to keep it. The range is that of zulmyren_map; a kept character carries the alignment that stands in the
+ * range where its turn comes.
+ * Refusals: 2, 3, 1, 4, 11 (flags_len is not the number of cleaned characters), 7, 9. */
+zulmyren_count zulmyren_filter(
+    const uint8_t *original, size_t original_len, const uint8_t *normalized, size_t normalized_len,
+    const uint16_t *starts, size_t starts_len, const uint16_t *ends, size_t ends_len, uint32_t original_shift,
+    const uint8_t *flags, size_t flags_len,
+    uint8_t *out, size_t out_len,
+    uint16_t *out_starts, size_t out_starts_len, uint16_t *out_ends, size_t out_ends_len);
+
+/* Puts a string behind the cleaned text (Rust: append). Its bytes carry the alignment of the text's last byte, 0..0
+ * where the text is empty. Refusals: 2, 3, 1 (either text or the string), 4, 9. */
+zulmyren_count zulmyren_append(
+    const uint8_t *original, size_t original_len, const uint8_t *normalized, size_t normalized_len,
+    const uint16_t *starts, size_t starts_len, const uint16_t *ends, size_t ends_len, uint32_t original_shift,
+    const uint8_t *string, size_t string_len,
+    uint8_t *out, size_t out_len,
+    uint16_t *out_starts, size_t out_starts_len, uint16_t *out_ends, size_t out_ends_len);
+
+/* Puts a string before the cleaned text (Rust: prepend). Its bytes carry the alignment of the text's first character.
+ * An empty text stays empty. An empty string leaves the text, but its first character then has the alignment 0..0.
+ * Refusals: 2, 3, 1 (either text or the string), 4, 9. */
+zulmyren_count zulmyren_prepend(
+    const uint8_t *original, size_t original_len, const uint8_t *normalized, size_t normalized_len,
+    const uint16_t *starts, size_t starts_len, const uint16_t *ends, size_t ends_len, uint32_t original_shift,
+    const uint8_t *string, size_t string_len,
+    uint8_t *out, size_t out_len,
+    uint16_t *out_starts, size_t out_starts_len, uint16_t *out_ends, size_t out_ends_len);
+
+/* How many bytes the cleaned text had, and how many are left; 0 and 0 where the call refuses. */
+typedef struct {
+    uint32_t refusal;
+    uint32_t before;
+    uint32_t left;
+} zulmyren_lengths;
+
+/* Removes the range of zulmyren_map (Rust: clear, which answers before). What stands before the first byte whose
+ * alignment is not empty is left, and all of the text where there is none. Refusals: 2, 3, 1, 4, 9. */
+zulmyren_lengths zulmyren_clear(
+    const uint8_t *original, size_t original_len, const uint8_t *normalized, size_t normalized_len,
+    const uint16_t *starts, size_t starts_len, const uint16_t *ends, size_t ends_len, uint32_t original_shift,
     uint8_t *out, size_t out_len,
     uint16_t *out_starts, size_t out_starts_len, uint16_t *out_ends, size_t out_ends_len);
 

@@ -82,6 +82,15 @@ calls! {
         note, read u8, plain u32, plain bool, write u16, write u16, write u32, write u16, write u16, write u16
     ) -> Cut;
     fn zulmyren_get_splits(note, read u8, plain u32, plain bool, plain bool, write u32, write u32) -> Listed;
+    fn zulmyren_transform_range(
+        note, plain bool, plain u32, plain u32, read u8, plain u32, write u8, write u16, write u16
+    ) -> Count;
+    fn zulmyren_transform(note, read u8, plain u32, write u8, write u16, write u16) -> Count;
+    fn zulmyren_map(note, read u32, write u8, write u16, write u16) -> Count;
+    fn zulmyren_filter(note, read u8, write u8, write u16, write u16) -> Count;
+    fn zulmyren_append(note, read u8, write u8, write u16, write u16) -> Count;
+    fn zulmyren_prepend(note, read u8, write u8, write u16, write u16) -> Count;
+    fn zulmyren_clear(note, write u8, write u16, write u16) -> Lengths;
 }
 
 #[repr(C)]
@@ -89,6 +98,15 @@ calls! {
 pub struct Count {
     pub refusal: u32,
     pub count: u32,
+}
+
+/// How long a cleaned text was and is, or a refusal beside 0 and 0.
+#[repr(C)]
+#[derive(Clone, Copy, Debug, PartialEq, Eq)]
+pub struct Lengths {
+    pub refusal: u32,
+    pub before: u32,
+    pub left: u32,
 }
 
 /// Whether two notes are published alike, or a refusal beside `false`.
@@ -248,6 +266,46 @@ pub fn char_offsets_all(text: &[u8], starts: &[u32], ends: &[u32], out: Columns)
 
 pub fn find_matches(text: &[u8], literal: &[u8], out: &mut [u8]) -> Count {
     Count::from(unsafe { lend!(zulmyren_find_matches; read text, read literal, write out) })
+}
+
+pub fn transform_range(
+    note: &Note,
+    (of_original, start, end): (bool, u32, u32),
+    script: &[u8],
+    initial_offset: u32,
+    out: Publishing,
+) -> Count {
+    unsafe {
+        lend!(zulmyren_transform_range; note note, plain of_original, plain start, plain end, read script,
+            plain initial_offset, write out.text, write out.starts, write out.ends)
+    }
+}
+
+pub fn transform(note: &Note, script: &[u8], initial_offset: u32, out: Publishing) -> Count {
+    unsafe {
+        lend!(zulmyren_transform; note note, read script, plain initial_offset, write out.text, write out.starts,
+            write out.ends)
+    }
+}
+
+pub fn map(note: &Note, codes: &[u32], out: Publishing) -> Count {
+    unsafe { lend!(zulmyren_map; note note, read codes, write out.text, write out.starts, write out.ends) }
+}
+
+pub fn filter(note: &Note, flags: &[u8], out: Publishing) -> Count {
+    unsafe { lend!(zulmyren_filter; note note, read flags, write out.text, write out.starts, write out.ends) }
+}
+
+pub fn append(note: &Note, string: &[u8], out: Publishing) -> Count {
+    unsafe { lend!(zulmyren_append; note note, read string, write out.text, write out.starts, write out.ends) }
+}
+
+pub fn prepend(note: &Note, string: &[u8], out: Publishing) -> Count {
+    unsafe { lend!(zulmyren_prepend; note note, read string, write out.text, write out.starts, write out.ends) }
+}
+
+pub fn clear(note: &Note, out: Publishing) -> Lengths {
+    unsafe { lend!(zulmyren_clear; note note, write out.text, write out.starts, write out.ends) }
 }
 
 pub fn replace(note: &Note, list: &[u8], filler: &[u8], out: Publishing) -> Count {

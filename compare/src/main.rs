@@ -8,6 +8,7 @@ mod blanking;
 mod characters;
 mod comments;
 mod convert;
+mod edits;
 mod every;
 mod find;
 mod lent;
@@ -55,6 +56,7 @@ fn compare() -> ExitCode {
     find::compare(&mut report);
     replace::compare(&mut report);
     blanking::compare(&mut report);
+    edits::compare(&mut report);
     redact::compare(&mut report);
     slice::compare(&mut report);
     split::compare(&mut report);

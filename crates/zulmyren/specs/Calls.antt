@@ -38,7 +38,12 @@ use Rattle.splits.specs.declared.OffsetType.{OffsetType}
 use Rattle.splits.specs.declared.OffsetType.the-variants.{Byte, Char}
 use Rattle.splits.specs.declared.Splits.{Splits}
 use Rattle.splits.specs.declared.Splits.the-variants.{Listed as Offered, Refused as Unoffered}
+use Rattle.transform.specs.declared.Editing.{Editing}
+use Rattle.transform.specs.declared.Editing.the-variants.{Edited, Refused as Unedited}
+use Rattle.edits.specs.declared.Clearing.{Clearing}
+use Rattle.edits.specs.declared.Clearing.the-variants.{Cleared, Refused as Uncleared}
 use Rattle.zulmyren.specs.declared.answers.Count.{Count}
+use Rattle.zulmyren.specs.declared.answers.Lengths.{Lengths}
 use Rattle.zulmyren.specs.declared.answers.Offsets.{Offsets}
 use Rattle.zulmyren.specs.declared.answers.Listed.{Listed}
 use Rattle.zulmyren.specs.declared.answers.Comparison.{Comparison}
@@ -116,6 +121,14 @@ abbrev pub unitOf : Bool → OffsetType
 unitOf true = Char
 unitOf false = Byte
 
+abbrev pub editedOf : Editing → Count
+editedOf (Edited n) = record { refusal = 0; count = n }
+editedOf (Unedited k) = record { refusal = numberOf k; count = 0 }
+
+abbrev pub clearedOf : Clearing → Lengths
+clearedOf (Cleared before left) = record { refusal = 0; before = before; left = left }
+clearedOf (Uncleared k) = record { refusal = numberOf k; before = 0; left = 0 }
+
 -- the text that a range is in
 abbrev pub sideOf : Bool → OffsetReferential
 sideOf true = Original
@@ -125,3 +138,12 @@ sideOf false = Normalized
 abbrev pub PublishedShort : Publication → Type 0
 PublishedShort (Published n) = n ≤ limit
 PublishedShort (Unpublished k) = Unit {0}
+
+-- what an edit leaves, and what clearing tells, is within the limit
+abbrev pub EditingShort : Editing → Type 0
+EditingShort (Edited n) = n ≤ limit
+EditingShort (Unedited k) = Unit {0}
+
+abbrev pub ClearingShort : Clearing → Type 0
+ClearingShort (Cleared before left) = (before ≤ limit) × (left ≤ limit)
+ClearingShort (Uncleared k) = Unit {0}

@@ -4,14 +4,17 @@ use char_offsets::letters::LetterCount;
 use convert::Converted;
 use convert::end_of;
 use convert::start_of;
+use edits::Clearing;
 use find::Matches;
 use note::answers::number;
 use replace::Publication;
 use slice::Sliced;
 use split::Pieces;
 use splits::Splits;
+use transform::Editing;
 ghost use mathlib.Core.Path.{_≡_};
-ghost use Rattle.zulmyren.specs.Calls.{PublishedShort, charsOf, comparedOf, cutNumbers, lettersOf, listedOf};
+ghost use Rattle.zulmyren.specs.Calls.{ClearingShort, EditingShort, PublishedShort, charsOf, clearedOf};
+ghost use Rattle.zulmyren.specs.Calls.{comparedOf, cutNumbers, editedOf, lettersOf, listedOf};
 ghost use Rattle.zulmyren.specs.Calls.{offsetsOf, publishedOf, sliceNumbers, splitsNumbers};
 
 // A count, 0 where the call is refused.
@@ -60,6 +63,50 @@ pub struct Cut {
     pub refusal: u32,
     pub pieces: usize,
     pub alignments: usize,
+}
+
+// How long a text was and is, 0 and 0 where the call is refused.
+#[repr(C)]
+pub struct Lengths {
+    pub refusal: u32,
+    pub before: u32,
+    pub left: u32,
+}
+
+// An inner function: what is left is within the limit.
+pub fn edited_told(answer: Editing) -> Count
+    requires { ⌜ EditingShort answer ⌝ }
+    ensures { λ r. ⌜ r ≡ editedOf answer ⌝ }
+{
+    match answer {
+        Editing::Edited(size) => Count {
+            refusal: 0,
+            count: size as u32,
+        },
+        Editing::Refused(k) => Count {
+            refusal: number(k),
+            count: 0,
+        },
+    }
+}
+
+// An inner function: both lengths are within the limit.
+pub fn cleared_told(answer: Clearing) -> Lengths
+    requires { ⌜ ClearingShort answer ⌝ }
+    ensures { λ r. ⌜ r ≡ clearedOf answer ⌝ }
+{
+    match answer {
+        Clearing::Cleared(before, left) => Lengths {
+            refusal: 0,
+            before: before as u32,
+            left: left as u32,
+        },
+        Clearing::Refused(k) => Lengths {
+            refusal: number(k),
+            before: 0,
+            left: 0,
+        },
+    }
 }
 
 pub fn letters_told(answer: LetterCount) -> Count

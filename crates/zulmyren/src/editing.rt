@@ -1,0 +1,319 @@
+// Editing: scripts, and the edits of a whole note.
+use crate::answers::Count;
+use crate::answers::Lengths;
+use crate::answers::cleared_told;
+use crate::answers::edited_told;
+use crate::ranges::side_of;
+use buffers::Offset;
+use convert::range_of;
+ghost use lib.ListN.{length};
+ghost use Rattle.note.specs.Notes.{lent, limit};
+ghost use Rattle.note.specs.Refusals.{least, verdict};
+ghost use Rattle.convert.specs.Converting.{rangeOf};
+ghost use Rattle.transform.specs.Edits.{transformed};
+ghost use Rattle.transform.specs.Transforming.{Rewritten, scriptEdit, transformFaults, wholeTranscript};
+ghost use Rattle.edits.specs.Whole.{appendEdit, clearEdit, clearFaults, Emptied, filterEdit, filterFaults};
+ghost use Rattle.edits.specs.Whole.{joinFaults, mapEdit, mapFaults, prependEdit};
+ghost use Rattle.zulmyren.specs.Calls.{Told, clearedOf, editedOf, sideOf};
+
+#[no_mangle]
+pub extern "C" fn zulmyren_transform_range(
+    original: &[u8],
+    normalized: &[u8],
+    starts: &[Offset],
+    ends: &[Offset],
+    original_shift: u32,
+    of_original: bool,
+    start: u32,
+    end: u32,
+    script: &[u8],
+    initial_offset: u32,
+    out: &mut [u8],
+    out_starts: &mut [Offset],
+    out_ends: &mut [Offset],
+) -> Count
+    ensures { λ r. ⌜ Told editedOf (λ v. Rewritten
+        (verdict (transformFaults limit
+        (lent (now (original .entry)) (now (normalized .entry)) (now (starts .entry)) (now (ends .entry))
+        «original_shift»)
+        (rangeOf (sideOf «of_original») start end) (now (script .entry)) «initial_offset»
+        (least (length (now (out .entry))) (length (now («out_starts» .entry))) (length (now («out_ends» .entry))))))
+        (transformed
+        (lent (now (original .entry)) (now (normalized .entry)) (now (starts .entry)) (now (ends .entry))
+        «original_shift»)
+        (scriptEdit
+        (lent (now (original .entry)) (now (normalized .entry)) (now (starts .entry)) (now (ends .entry))
+        «original_shift»)
+        (rangeOf (sideOf «of_original») start end) (now (script .entry)) «initial_offset»))
+        (now (out .entry)) (now («out_starts» .entry)) (now («out_ends» .entry))
+        v (now (out .exit)) (now («out_starts» .exit)) (now («out_ends» .exit))) r ⌝ }
+{
+    let range = range_of(side_of(of_original), start, end);
+    edited_told(transform::transform_range(
+        original,
+        normalized,
+        starts,
+        ends,
+        original_shift,
+        range,
+        script,
+        initial_offset,
+        out,
+        out_starts,
+        out_ends,
+    ))
+}
+
+#[no_mangle]
+pub extern "C" fn zulmyren_transform(
+    original: &[u8],
+    normalized: &[u8],
+    starts: &[Offset],
+    ends: &[Offset],
+    original_shift: u32,
+    script: &[u8],
+    initial_offset: u32,
+    out: &mut [u8],
+    out_starts: &mut [Offset],
+    out_ends: &mut [Offset],
+) -> Count
+    ensures { λ r. ⌜ Told editedOf (λ v. Rewritten
+        (verdict (transformFaults limit
+        (lent (now (original .entry)) (now (normalized .entry)) (now (starts .entry)) (now (ends .entry))
+        «original_shift»)
+        (wholeTranscript (now (original .entry))) (now (script .entry)) «initial_offset»
+        (least (length (now (out .entry))) (length (now («out_starts» .entry))) (length (now («out_ends» .entry))))))
+        (transformed
+        (lent (now (original .entry)) (now (normalized .entry)) (now (starts .entry)) (now (ends .entry))
+        «original_shift»)
+        (scriptEdit
+        (lent (now (original .entry)) (now (normalized .entry)) (now (starts .entry)) (now (ends .entry))
+        «original_shift»)
+        (wholeTranscript (now (original .entry))) (now (script .entry)) «initial_offset»))
+        (now (out .entry)) (now («out_starts» .entry)) (now («out_ends» .entry))
+        v (now (out .exit)) (now («out_starts» .exit)) (now («out_ends» .exit))) r ⌝ }
+{
+    edited_told(transform::transform(
+        original,
+        normalized,
+        starts,
+        ends,
+        original_shift,
+        script,
+        initial_offset,
+        out,
+        out_starts,
+        out_ends,
+    ))
+}
+
+#[no_mangle]
+pub extern "C" fn zulmyren_map(
+    original: &[u8],
+    normalized: &[u8],
+    starts: &[Offset],
+    ends: &[Offset],
+    original_shift: u32,
+    codes: &[u32],
+    out: &mut [u8],
+    out_starts: &mut [Offset],
+    out_ends: &mut [Offset],
+) -> Count
+    ensures { λ r. ⌜ Told editedOf (λ v. Rewritten
+        (verdict (mapFaults limit
+        (lent (now (original .entry)) (now (normalized .entry)) (now (starts .entry)) (now (ends .entry))
+        «original_shift»)
+        (now (codes .entry))
+        (least (length (now (out .entry))) (length (now («out_starts» .entry))) (length (now («out_ends» .entry))))))
+        (transformed
+        (lent (now (original .entry)) (now (normalized .entry)) (now (starts .entry)) (now (ends .entry))
+        «original_shift»)
+        (mapEdit
+        (lent (now (original .entry)) (now (normalized .entry)) (now (starts .entry)) (now (ends .entry))
+        «original_shift»)
+        (now (codes .entry))))
+        (now (out .entry)) (now («out_starts» .entry)) (now («out_ends» .entry))
+        v (now (out .exit)) (now («out_starts» .exit)) (now («out_ends» .exit))) r ⌝ }
+{
+    edited_told(edits::mapping::map(
+        original,
+        normalized,
+        starts,
+        ends,
+        original_shift,
+        codes,
+        out,
+        out_starts,
+        out_ends,
+    ))
+}
+
+#[no_mangle]
+pub extern "C" fn zulmyren_filter(
+    original: &[u8],
+    normalized: &[u8],
+    starts: &[Offset],
+    ends: &[Offset],
+    original_shift: u32,
+    flags: &[u8],
+    out: &mut [u8],
+    out_starts: &mut [Offset],
+    out_ends: &mut [Offset],
+) -> Count
+    ensures { λ r. ⌜ Told editedOf (λ v. Rewritten
+        (verdict (filterFaults limit
+        (lent (now (original .entry)) (now (normalized .entry)) (now (starts .entry)) (now (ends .entry))
+        «original_shift»)
+        (now (flags .entry))
+        (least (length (now (out .entry))) (length (now («out_starts» .entry))) (length (now («out_ends» .entry))))))
+        (transformed
+        (lent (now (original .entry)) (now (normalized .entry)) (now (starts .entry)) (now (ends .entry))
+        «original_shift»)
+        (filterEdit
+        (lent (now (original .entry)) (now (normalized .entry)) (now (starts .entry)) (now (ends .entry))
+        «original_shift»)
+        (now (flags .entry))))
+        (now (out .entry)) (now («out_starts» .entry)) (now («out_ends» .entry))
+        v (now (out .exit)) (now («out_starts» .exit)) (now («out_ends» .exit))) r ⌝ }
+{
+    edited_told(filters::filter(
+        original,
+        normalized,
+        starts,
+        ends,
+        original_shift,
+        flags,
+        out,
+        out_starts,
+        out_ends,
+    ))
+}
+
+#[no_mangle]
+pub extern "C" fn zulmyren_append(
+    original: &[u8],
+    normalized: &[u8],
+    starts: &[Offset],
+    ends: &[Offset],
+    original_shift: u32,
+    string: &[u8],
+    out: &mut [u8],
+    out_starts: &mut [Offset],
+    out_ends: &mut [Offset],
+) -> Count
+    ensures { λ r. ⌜ Told editedOf (λ v. Rewritten
+        (verdict (joinFaults limit
+        (lent (now (original .entry)) (now (normalized .entry)) (now (starts .entry)) (now (ends .entry))
+        «original_shift»)
+        (now (string .entry))
+        (appendEdit
+        (lent (now (original .entry)) (now (normalized .entry)) (now (starts .entry)) (now (ends .entry))
+        «original_shift»)
+        (now (string .entry)))
+        (least (length (now (out .entry))) (length (now («out_starts» .entry))) (length (now («out_ends» .entry))))))
+        (transformed
+        (lent (now (original .entry)) (now (normalized .entry)) (now (starts .entry)) (now (ends .entry))
+        «original_shift»)
+        (appendEdit
+        (lent (now (original .entry)) (now (normalized .entry)) (now (starts .entry)) (now (ends .entry))
+        «original_shift»)
+        (now (string .entry))))
+        (now (out .entry)) (now («out_starts» .entry)) (now («out_ends» .entry))
+        v (now (out .exit)) (now («out_starts» .exit)) (now («out_ends» .exit))) r ⌝ }
+{
+    edited_told(joins::append(
+        original,
+        normalized,
+        starts,
+        ends,
+        original_shift,
+        string,
+        out,
+        out_starts,
+        out_ends,
+    ))
+}
+
+#[no_mangle]
+pub extern "C" fn zulmyren_prepend(
+    original: &[u8],
+    normalized: &[u8],
+    starts: &[Offset],
+    ends: &[Offset],
+    original_shift: u32,
+    string: &[u8],
+    out: &mut [u8],
+    out_starts: &mut [Offset],
+    out_ends: &mut [Offset],
+) -> Count
+    ensures { λ r. ⌜ Told editedOf (λ v. Rewritten
+        (verdict (joinFaults limit
+        (lent (now (original .entry)) (now (normalized .entry)) (now (starts .entry)) (now (ends .entry))
+        «original_shift»)
+        (now (string .entry))
+        (prependEdit
+        (lent (now (original .entry)) (now (normalized .entry)) (now (starts .entry)) (now (ends .entry))
+        «original_shift»)
+        (now (string .entry)))
+        (least (length (now (out .entry))) (length (now («out_starts» .entry))) (length (now («out_ends» .entry))))))
+        (transformed
+        (lent (now (original .entry)) (now (normalized .entry)) (now (starts .entry)) (now (ends .entry))
+        «original_shift»)
+        (prependEdit
+        (lent (now (original .entry)) (now (normalized .entry)) (now (starts .entry)) (now (ends .entry))
+        «original_shift»)
+        (now (string .entry))))
+        (now (out .entry)) (now («out_starts» .entry)) (now («out_ends» .entry))
+        v (now (out .exit)) (now («out_starts» .exit)) (now («out_ends» .exit))) r ⌝ }
+{
+    edited_told(joins::prepend(
+        original,
+        normalized,
+        starts,
+        ends,
+        original_shift,
+        string,
+        out,
+        out_starts,
+        out_ends,
+    ))
+}
+
+#[no_mangle]
+pub extern "C" fn zulmyren_clear(
+    original: &[u8],
+    normalized: &[u8],
+    starts: &[Offset],
+    ends: &[Offset],
+    original_shift: u32,
+    out: &mut [u8],
+    out_starts: &mut [Offset],
+    out_ends: &mut [Offset],
+) -> Lengths
+    ensures { λ r. ⌜ Told clearedOf (λ v. Emptied
+        (verdict (clearFaults limit
+        (lent (now (original .entry)) (now (normalized .entry)) (now (starts .entry)) (now (ends .entry))
+        «original_shift»)
+        (least (length (now (out .entry))) (length (now («out_starts» .entry))) (length (now («out_ends» .entry))))))
+        (lent (now (original .entry)) (now (normalized .entry)) (now (starts .entry)) (now (ends .entry))
+        «original_shift»)
+        (transformed
+        (lent (now (original .entry)) (now (normalized .entry)) (now (starts .entry)) (now (ends .entry))
+        «original_shift»)
+        (clearEdit
+        (lent (now (original .entry)) (now (normalized .entry)) (now (starts .entry)) (now (ends .entry))
+        «original_shift»)))
+        (now (out .entry)) (now («out_starts» .entry)) (now («out_ends» .entry))
+        v (now (out .exit)) (now («out_starts» .exit)) (now («out_ends» .exit))) r ⌝ }
+{
+    cleared_told(edits::clear(
+        original,
+        normalized,
+        starts,
+        ends,
+        original_shift,
+        out,
+        out_starts,
+        out_ends,
+    ))
+}
