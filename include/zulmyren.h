@@ -19,8 +19,9 @@
  * WHAT THE NUMBERS COUNT
  *   Positions, ranges, alignments, shifts and the lengths of texts count bytes, from 0 at the beginning of the text.
  *   Characters are counted only by the count of zulmyren_letter_count, by what zulmyren_char_offsets and
- *   zulmyren_char_offsets_all answer, and by zulmyren_get_splits where they are asked for. In C all of these are plain
- *   numbers: the compiler will not tell them apart.
+ *   zulmyren_char_offsets_all answer, and by zulmyren_get_splits where they are asked for; and, in what is lent, by an
+ *   edit's initial_offset, by the removals of a script, and by the code points and flags of zulmyren_map and
+ *   zulmyren_filter, one for each character. In C all of these are plain numbers: the compiler will not tell them apart.
  *
  * WHAT A CALL DEMANDS OF THE CALLER (it cannot be checked, and where it does not hold anything may happen)
  *   - A pointer is valid for as many elements as are lent with it. Where that is 0 it may be anything, NULL too.
@@ -42,7 +43,7 @@
  *                        character of the cleaned text have the same alignment; starts[i] <= starts[i + 1] and
  *                        ends[i] <= ends[i + 1]
  *      5  off place      either end of a range is greater than the text's length or within a character;
- *                        zulmyren_letter_count and zulmyren_transform_range give it for start > end too
+ *                        start > end too, of a letter count and of a cleaned range to edit
  *      6  bad script     an edit script has an unknown command, a cut one, a number that is no code point of a
  *                        character, or a removal of 0; or so has the list of code points of zulmyren_map
  *      7  nothing left   a replacing command of an edit finds no character left in its range
