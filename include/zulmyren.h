@@ -46,7 +46,7 @@
  *                        start > end too, of a letter count and of a cleaned range to edit
  *      6  bad script     an edit script has an unknown command, a cut one, a number that is no code point of a
  *                        character, or a removal of 0; or so has the list of code points of zulmyren_map
- *      7  nothing left   a replacing command of an edit finds no character left in its range
+ *      7  nothing left   an edit is to replace a character, and its range has none any more
  *      8  broken list    a match list (below) does not cover the cleaned text
  *      9  no room        a buffer is too small for the result, or the resulting text has more than 65,535 bytes
  *     10  nothing there  a range or a pair has no answer; each call says when
