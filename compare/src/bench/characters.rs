@@ -22,7 +22,7 @@ const LETTER_COUNT: Table = Table::new("`letter_count`, which checks the text", 
 const CHAR_OFFSETS: Table = Table::new("`char_offsets_all`, 8,000 pairs in order", &[(RUST, everywhere(0.01))]);
 
 const CHAR_OFFSETS_SHUFFLED: Table =
-    Table::new("`char_offsets_all`, 8,000 pairs in random order, where ours is no longer one pass", &[(RUST, NO_AIM)]);
+    Table::new("`char_offsets_all`, 8,000 pairs in random order", &[(RUST, NO_AIM)]);
 
 pub fn bench(bench: &mut Bench) {
     bench.table(&WELL_FORMED, well_formed);

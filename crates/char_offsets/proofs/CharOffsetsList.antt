@@ -20,9 +20,9 @@ use Rattle.note.proofs.Uneven.{beside-list}
 use Rattle.note.proofs.Faults.{no-room, enough-room}
 use Rattle.char_offsets.specs.declared.CharOffsets.{CharOffsets}
 use Rattle.char_offsets.specs.declared.CharOffsets.the-variants.{Refused}
-use Rattle.char_offsets.specs.declared.Step.{Step}
+use Rattle.char_offsets.specs.declared.Pair.{Pair}
 use Rattle.char_offsets.specs.Positions.{indexOf, mapped, chars, endIndex, pairOf, pairUnlessRefused, charOffsets, pairNumber, pairStart, pairEnd, pairAt, CharOffsetsList}
-use Rattle.char_offsets.specs.Steps.{IndexKnown, PairStepped, PairRoom, PairsWritten}
+use Rattle.char_offsets.specs.Steps.{IndexKnown, PairTold, PairRoom, PairsWritten}
 
 -- nothing is read yet
 pub known-none : {most : ℕ} {s : List ℕ} → length s ≤ most → IndexKnown most s 0 0
@@ -52,7 +52,7 @@ module _ (most : ℕ) (s : List ℕ) (a e : ℕ) {v : Verdict} (is : v ≡ verdi
         let off : Rejected Missing ≡ verdict starts-there = sym (missing-verdict s a ∙ rw (le-ltb a (length s) past)) in
         ap answer (accepted-then 3 (textFaults most s) starts-there refl refl is ok off)
 
-    pub pair-chars : {r : Step} → a < length s → PairStepped most s a e r → chars (r .start) (r .end) ≡ charOffsets most s a e
+    pub pair-chars : {r : Pair} → a < length s → PairTold s a e r → chars (r .start) (r .end) ≡ charOffsets most s a e
     unfolding charOffsets pairOf
     pair-chars {r} below t =
         let start : r .start ≡ indexOf s a = rw (lt-ltb a (length s) below) at (t .start-is) in
@@ -61,27 +61,20 @@ module _ (most : ℕ) (s : List ℕ) (a e : ℕ) {v : Verdict} (is : v ≡ verdi
         let on : Accepted ≡ verdict starts-there = sym (missing-verdict s a ∙ rw (lt-ltb a (length s) below)) in
         pair ∙ ap answer (accepted-then 3 (textFaults most s) starts-there refl refl is ok on)
 
--- the first i answers are written, and a byte's character is known
-pub record PairsWriting (most : ℕ) (s starts ends n₀ a₀ e₀ n a e : List ℕ) (at index i : ℕ) : Type 0 where
-  pub from : IndexKnown most s at index
-  pub columns : Filling (λ k. pairNumber (pairAt s starts ends k)) (λ k. pairStart (pairAt s starts ends k)) (λ k. pairEnd (pairAt s starts ends k)) (length starts) n₀ a₀ e₀ n a e i
+-- the first i answers are written
+abbrev pub PairsWriting : List ℕ → List ℕ → List ℕ → List ℕ → List ℕ → List ℕ → List ℕ → List ℕ → List ℕ → ℕ → Type 0
+PairsWriting s starts ends n₀ a₀ e₀ n a e i =
+    Filling (λ k. pairNumber (pairAt s starts ends k)) (λ k. pairStart (pairAt s starts ends k)) (λ k. pairEnd (pairAt s starts ends k)) (length starts) n₀ a₀ e₀ n a e i
 
-module _ {most : ℕ} {s starts ends n₀ a₀ e₀ : List ℕ} (room : PairRoom most s starts ends n₀ a₀ e₀) where
-  pub writing-none : PairsWriting most s starts ends n₀ a₀ e₀ n₀ a₀ e₀ 0 0 0
-  writing-none = record { from = known-none (room .short); columns = none-filling }
+module _ {s starts ends n₀ a₀ e₀ : List ℕ} (room : PairRoom starts ends n₀ a₀ e₀) {n a e : List ℕ} {i : ℕ} (w : PairsWriting s starts ends n₀ a₀ e₀ n a e i) where
+  pub writing-more : {r : Pair} → i < length starts → PairTold s (getD starts i 0) (getD ends i 0) r → PairsWriting s starts ends n₀ a₀ e₀ (set n i (r .number)) (set a i (r .start)) (set e i (r .end)) (i + 1)
+  writing-more below t =
+      one-filling w below (room .numbers-fit) (room .starts-fit) (room .ends-fit) (t .number-is) (t .start-is) (t .end-is)
 
-  module _ {n a e : List ℕ} {at index i : ℕ} (w : PairsWriting most s starts ends n₀ a₀ e₀ n a e at index i) where
-    pub writing-more : {r : Step} → i < length starts → PairStepped most s (getD starts i 0) (getD ends i 0) r → PairsWriting most s starts ends n₀ a₀ e₀ (set n i (r .number)) (set a i (r .start)) (set e i (r .end)) (r .at) (r .index) (i + 1)
-    writing-more below t =
-        record {
-          from = t .known;
-          columns = one-filling (w .columns) below (room .numbers-fit) (room .starts-fit) (room .ends-fit) (t .number-is) (t .start-is) (t .end-is);
-        }
-
-    pub writing-all : length starts ≤ i → PairsWritten s starts ends n₀ a₀ e₀ n a e
-    writing-all past =
-        let three = all-filling (w .columns) past (room .numbers-fit) (room .starts-fit) (room .ends-fit) in
-        record { numbers-are = three .0; starts-are = three .1; ends-are = three .2 }
+  pub writing-all : length starts ≤ i → PairsWritten s starts ends n₀ a₀ e₀ n a e
+  writing-all past =
+      let three = all-filling w past (room .numbers-fit) (room .starts-fit) (room .ends-fit) in
+      record { numbers-are = three .0; starts-are = three .1; ends-are = three .2 }
 
 -- a list of pairs
 abbrev inputs : ℕ → List ℕ → List ℕ → List ℕ → Refusal → Bool

@@ -1,5 +1,6 @@
 -- Laws of character positions and letter counts.
 pub mod IndexOf
-pub mod PairStepped
+pub mod PairTold
+pub mod Marked
 pub mod CharOffsetsList
 pub mod LetterCounts

@@ -1,12 +1,13 @@
--- Working forms: one pair after the other, each from a byte whose character is known.
-use Prim.Native.Nat.{ℕ, _-_, _≤_}
+-- Working forms: the index of a byte from that of another, one pair, and a list of pairs.
+use Prim.Native.Nat.{ℕ, _+_, _-_, _≤_, _<_}
 use mathlib.Core.Path.{_≡_}
 use mathlib.Core.List.{List}
 use lib.ListN.{length}
 use Rattle.buffers.specs.Columns.{column}
 use Rattle.buffers.specs.Splice.{overlay}
-use Rattle.char_offsets.specs.declared.Step.{Step}
-use Rattle.char_offsets.specs.Positions.{indexOf, pairOf, pairAt, pairNumber, pairStart, pairEnd}
+use Rattle.char_offsets.specs.declared.EndByte.{EndByte}
+use Rattle.char_offsets.specs.declared.Pair.{Pair}
+use Rattle.char_offsets.specs.Positions.{indexOf, endIndex, pairOf, pairAt, pairNumber, pairStart, pairEnd}
 
 -- a byte of a text within a limit (0 of an empty one), and its character
 pub record IndexKnown (most : ℕ) (s : List ℕ) (at index : ℕ) : Type 0 where
@@ -14,16 +15,20 @@ pub record IndexKnown (most : ℕ) (s : List ℕ) (at index : ℕ) : Type 0 wher
   pub inside : at ≤ length s - 1
   pub so-far : index ≡ indexOf s at
 
--- one pair: its answer in numbers, and what the next one goes on from
-pub record PairStepped (most : ℕ) (s : List ℕ) (a e : ℕ) (r : Step) : Type 0 where
+-- the byte by which an end is told in a text of so many bytes, and what is added to its index
+pub record EndTold (size a e : ℕ) (r : EndByte) : Type 0 where
+  pub inside : r .byte < size
+  pub right : (s : List ℕ) → length s ≡ size → endIndex s a e ≡ indexOf s (r .byte) + r .more
+  pub little : r .more ≤ 2
+
+-- one pair: its answer in numbers
+pub record PairTold (s : List ℕ) (a e : ℕ) (r : Pair) : Type 0 where
   pub number-is : r .number ≡ pairNumber (pairOf s a e)
   pub start-is : r .start ≡ pairStart (pairOf s a e)
   pub end-is : r .end ≡ pairEnd (pairOf s a e)
-  pub known : IndexKnown most s (r .at) (r .index)
 
 -- what writing a list asks: pairs, and room for their answers
-pub record PairRoom (most : ℕ) (s starts ends n a e : List ℕ) : Type 0 where
-  pub short : length s ≤ most
+pub record PairRoom (starts ends n a e : List ℕ) : Type 0 where
   pub paired : length starts ≡ length ends
   pub numbers-fit : length starts ≤ length n
   pub starts-fit : length starts ≤ length a

@@ -1,10 +1,16 @@
 // Character positions (RULES 12; Rust: `BytesToCharOffsetConverter::convert`): the character that a byte belongs to.
-// A walk over the text, no table: from a byte whose character is known, the bytes between that begin a character are
-// counted.
+// A walk over the text: from a byte whose character is known, the bytes between that begin a character are counted.
+// For a list the walk is made once, and every 16th byte's character kept.
 pub mod letters;
+pub mod marks;
 
+use buffers::Offset;
 use checks::check_text;
 use checks::least_room;
+use marks::blank_marks;
+use marks::index_at;
+use marks::ladder;
+use marks::write_marks;
 use note::CharIndex;
 use note::OriginalByte;
 use note::Refusal;
@@ -13,11 +19,12 @@ use note::answers::earlier;
 use note::answers::refused_if;
 use utf8::count::count_leads;
 ghost use mathlib.Core.Path.{_≡_};
-ghost use Prim.Native.Nat.{_<_};
+ghost use Prim.Native.Nat.{_≤_, _<_};
 ghost use lib.ListN.{length};
 ghost use Rattle.note.specs.Notes.{limit};
 ghost use Rattle.char_offsets.specs.Positions.{charOffsets, CharOffsetsList, indexOf};
-ghost use Rattle.char_offsets.specs.Steps.{IndexKnown, PairRoom, PairsWritten, PairStepped};
+ghost use Rattle.char_offsets.specs.Marks.{MarksLent};
+ghost use Rattle.char_offsets.specs.Steps.{EndTold, IndexKnown, PairRoom, PairsWritten, PairTold};
 
 // What converting a pair answers.
 pub enum CharOffsets {
@@ -38,63 +45,92 @@ pub fn index_from(text: &[u8], at: usize, index: u32, to: usize) -> u32
     index - count_leads(&text[to + 1..at + 1]) as u32
 }
 
-// One pair's answer in numbers, and a byte whose character is known: where the next pair starts from.
-pub struct Step {
+// The byte by which a pair's end is told, and how much is added to its index.
+pub struct EndByte {
+    pub byte: usize,
+    pub more: u32,
+}
+
+// Of an end in a text of `size` bytes: itself, or the byte before it, or the start.
+fn end_byte(size: usize, start: usize, end: usize) -> EndByte
+    requires { ⌜ start < size ⌝ }
+    ensures { λ r. ⌜ EndTold size start end r ⌝ }
+{
+    if end < size {
+        return EndByte { byte: end, more: 0 };
+    }
+    if end == size {
+        return EndByte {
+            byte: end - 1,
+            more: 1,
+        };
+    }
+    EndByte {
+        byte: start,
+        more: 2,
+    }
+}
+
+// A pair's answer in numbers.
+pub struct Pair {
     pub number: u8,
     pub start: u32,
     pub end: u32,
-    pub at: usize,
-    pub index: u32,
 }
 
-// One pair of a well-formed text, from a byte whose character is known.
-fn convert_from(text: &[u8], at: usize, index: u32, start: u32, end: u32) -> Step
-    requires { ⌜ IndexKnown limit (now text) at index ⌝ }
-    ensures { λ r. ⌜ PairStepped limit (now (text .entry)) start end r ⌝ }
+// One pair of a text whose marks are lent.
+fn convert_pair(text: &[u8], marks: &[Offset], ladder: &[u8], start: u32, end: u32) -> Pair
+    requires { ⌜ MarksLent limit (now text) (now marks) (now ladder) ⌝ }
+    ensures { λ r. ⌜ PairTold (now (text .entry)) start end r ⌝ }
 {
     let from = start as usize;
-    let to = end as usize;
     if text.len() <= from {
-        return Step {
+        return Pair {
             number: 10,
             start: 0,
             end: 0,
-            at,
-            index,
         };
     }
-    let first = index_from(text, at, index, from);
-    if to < text.len() {
-        let last = index_from(text, from, first, to);
-        return Step {
-            number: 0,
-            start: first,
-            end: last,
-            at: to,
-            index: last,
-        };
-    }
-    if to == text.len() {
-        let last = index_from(text, from, first, to - 1);
-        return Step {
-            number: 0,
-            start: first,
-            end: last + 1,
-            at: to - 1,
-            index: last,
-        };
-    }
-    Step {
+    let last = end_byte(text.len(), from, end as usize);
+    let to = last.byte;
+    let first = index_at(text, marks, ladder, from);
+    let past = index_at(text, marks, ladder, to);
+    Pair {
         number: 0,
         start: first,
-        end: first + 2,
-        at: from,
-        index: first,
+        end: past + last.more,
     }
 }
 
-// The answers of a list of pairs, in three columns. An inner call: text, pairs and room were judged before.
+// The answers of a list of pairs, in three columns. An inner call: pairs and room were judged before.
 fn write_pairs(
+    text: &[u8],
+    marks: &[Offset],
+    ladder: &[u8],
+    starts: &[u32],
+    ends: &[u32],
+    numbers: &mut [u8],
+    char_starts: &mut [u32],
+    char_ends: &mut [u32],
+)
+    requires { ⌜ MarksLent limit (now text) (now marks) (now ladder) ⌝ }
+    requires { ⌜ PairRoom (now starts) (now ends) (now numbers) (now «char_starts») (now «char_ends») ⌝ }
+    ensures { λ _. ⌜ PairsWritten (now (text .entry)) (now (starts .entry)) (now (ends .entry))
+        (now (numbers .entry)) (now («char_starts» .entry)) (now («char_ends» .entry))
+        (now (numbers .exit)) (now («char_starts» .exit)) (now («char_ends» .exit)) ⌝ }
+{
+    let mut i = 0;
+    while i < starts.len() {
+        let pair = convert_pair(text, marks, ladder, starts[i], ends[i]);
+        numbers[i] = pair.number;
+        char_starts[i] = pair.start;
+        char_ends[i] = pair.end;
+        i += 1;
+    }
+}
+
+// The same, by marks of its own. An inner call: text, pairs and room were judged before.
+fn mark_and_write(
     text: &[u8],
     starts: &[u32],
     ends: &[u32],
@@ -102,24 +138,25 @@ fn write_pairs(
     char_starts: &mut [u32],
     char_ends: &mut [u32],
 )
-    requires { ⌜ PairRoom limit (now text) (now starts) (now ends)
-        (now numbers) (now «char_starts») (now «char_ends») ⌝ }
+    requires { ⌜ length (now text) ≤ limit ⌝ }
+    requires { ⌜ PairRoom (now starts) (now ends) (now numbers) (now «char_starts») (now «char_ends») ⌝ }
     ensures { λ _. ⌜ PairsWritten (now (text .entry)) (now (starts .entry)) (now (ends .entry))
         (now (numbers .entry)) (now («char_starts» .entry)) (now («char_ends» .entry))
         (now (numbers .exit)) (now («char_starts» .exit)) (now («char_ends» .exit)) ⌝ }
 {
-    let mut at = 0;
-    let mut index: u32 = 0;
-    let mut i = 0;
-    while i < starts.len() {
-        let step = convert_from(text, at, index, starts[i], ends[i]);
-        numbers[i] = step.number;
-        char_starts[i] = step.start;
-        char_ends[i] = step.end;
-        at = step.at;
-        index = step.index;
-        i += 1;
-    }
+    let ladder = ladder();
+    let mut marks = blank_marks();
+    write_marks(text, &ladder, &mut marks);
+    write_pairs(
+        text,
+        &marks,
+        &ladder,
+        starts,
+        ends,
+        numbers,
+        char_starts,
+        char_ends,
+    );
 }
 
 // A pair of bytes of the text as a pair of its characters. Refusals: those of a text, then `Missing`.
@@ -129,14 +166,18 @@ pub fn char_offsets(text: &[u8], start: OriginalByte, end: OriginalByte) -> Char
     if let Verdict::Refused(k) = check_text(text) {
         return CharOffsets::Refused(k);
     }
-    if text.len() <= start.0 as usize {
+    let from = start.0 as usize;
+    if text.len() <= from {
         return CharOffsets::Refused(Refusal::Missing);
     }
-    let step = convert_from(text, 0, 0, start.0, end.0);
-    CharOffsets::Chars(CharIndex(step.start), CharIndex(step.end))
+    let last = end_byte(text.len(), from, end.0 as usize);
+    let to = last.byte;
+    let first = index_from(text, 0, 0, from);
+    let past = index_from(text, from, first, to);
+    CharOffsets::Chars(CharIndex(first), CharIndex(past + last.more))
 }
 
-// A list of pairs (RULES 15.4), in one pass where they are in order: for each 0 and its two characters, or the number
+// A list of pairs (RULES 15.4), in whatever order: for each 0 and its two characters, or the number
 // of `Missing` beside 0 and 0. Refusals: those of a text and, beside them, `LengthMismatch` where the list has not as
 // many ends as starts; then `NoRoom`.
 pub fn char_offsets_list(
@@ -159,6 +200,6 @@ pub fn char_offsets_list(
     if least_room(numbers.len(), char_starts.len(), char_ends.len()) < starts.len() {
         return Verdict::Refused(Refusal::NoRoom);
     }
-    write_pairs(text, starts, ends, numbers, char_starts, char_ends);
+    mark_and_write(text, starts, ends, numbers, char_starts, char_ends);
     Verdict::Accepted
 }

@@ -18,25 +18,26 @@ returns-2 c =
     let inputs = told .before .before in
     too-little-room _ _ _ _ _ _ _ (inputs .before .before .check-text .ensures) (inputs .before .refused-if .ensures) (inputs .earlier .ensures) (told .enum-told .given .1) (omega arith)
 
-write-pairs-requires : tie.Need-write-pairs-requires
-write-pairs-requires c κs =
+mark-and-write-requires : tie.Need-mark-and-write-requires
+mark-and-write-requires c κs =
     let told = c .before .before .before .before .before in
     let inputs = told .before .before in
-    let entry = inputs .before .before .before .before .before .before .before .before .before in
-    record {
-      short = text-short _ _ (input-accepted _ (entry .args .starts .now) (entry .args .ends .now) (inputs .before .before .check-text .ensures) (inputs .before .refused-if .ensures) (inputs .earlier .ensures) (told .enum-told .given .1));
-      paired = list-even _ (entry .args .starts .now) (entry .args .ends .now) (inputs .before .before .check-text .ensures) (inputs .before .refused-if .ensures) (inputs .earlier .ensures) (told .enum-told .given .1);
-      numbers-fit = omega arith;
-      starts-fit = omega arith;
-      ends-fit = omega arith;
-    }
+    let entry = inputs .before .before .before .before .before .before .before .before .before in (
+      text-short _ _ (input-accepted _ (entry .args .starts .now) (entry .args .ends .now) (inputs .before .before .check-text .ensures) (inputs .before .refused-if .ensures) (inputs .earlier .ensures) (told .enum-told .given .1)),
+      record {
+        paired = list-even _ (entry .args .starts .now) (entry .args .ends .now) (inputs .before .before .check-text .ensures) (inputs .before .refused-if .ensures) (inputs .earlier .ensures) (told .enum-told .given .1);
+        numbers-fit = omega arith;
+        starts-fit = omega arith;
+        ends-fit = omega arith;
+      },
+    )
 
 returns-3 : tie.Need-returns-3
 returns-3 c =
     let written = c .before .before .before .before .before .before in
     let told = written .before .before .before .before .before .before in
     let inputs = told .before .before in
-    list-written _ _ _ _ _ _ _ (inputs .before .before .check-text .ensures) (inputs .before .refused-if .ensures) (inputs .earlier .ensures) (told .enum-told .given .1) (omega arith) (written .write-pairs .ensures)
+    list-written _ _ _ _ _ _ _ (inputs .before .before .check-text .ensures) (inputs .before .refused-if .ensures) (inputs .earlier .ensures) (told .enum-told .given .1) (omega arith) (written .mark-and-write .ensures)
 
 pub char-offsets-list-spec : {M : Type 1} → statement M
 char-offsets-list-spec =
@@ -50,7 +51,7 @@ char-offsets-list-spec =
     (λ c. search needs)
     (λ c κs. search needs)
     returns-2
-    write-pairs-requires
+    mark-and-write-requires
     (λ c. search needs)
     (λ c. search needs)
     (λ c. search needs)

@@ -2,7 +2,7 @@
 use native.Mathlib.Omega.{arith}
 use borrow.Author.Needs.{needs}
 use Rattle.char_offsets.proofs.IndexOf.{index-most}
-use Rattle.char_offsets.proofs.PairStepped.{moved-on, moved-back}
+use Rattle.char_offsets.proofs.PairTold.{moved-on, moved-back}
 use Rattle.char_offsets.proofs.index_from.Statement.{statement}
 use Rattle.char_offsets.proofs.index_from.Tie as tie
 

@@ -1,9 +1,10 @@
 -- A start past the text; an end past it, at its end, inside it.
 use Prim.Native.Nat.{_-_}
+use mathlib.Core.Path.{refl}
 use native.Mathlib.Omega.{arith}
 use borrow.Author.Needs.{needs}
 use Rattle.char_offsets.proofs.IndexOf.{index-most}
-use Rattle.char_offsets.proofs.PairStepped.{end-inside, end-last, end-past}
+use Rattle.char_offsets.proofs.PairTold.{end-inside, end-last, end-past}
 use Rattle.splits.proofs.Numbered.{cursor-at, unmapped, mapped-chars}
 use Rattle.splits.proofs.in_chars.Statement.{statement}
 use Rattle.splits.proofs.in_chars.Tie as tie
@@ -17,8 +18,9 @@ returns-2 : tie.Need-returns-2
 returns-2 c =
     let entry = c .before .before .before .before in
     let args = entry .args in
+    let below = c .before .before .if1 .left in
     let first = c .before .index-from .ensures in
-    mapped-chars _ _ _ (record { first-known = cursor-at (entry .pre .first-known .short) (c .before .before .if1 .left) first; last-known = entry .pre .last-known }) (c .before .before .if1 .left) first (omega (arith, end-past (args .text .now) (args .start) (args .end) (c .if2 .taken) first))
+    mapped-chars _ _ _ (record { first-known = cursor-at (entry .pre .first-known .short) below first; last-known = entry .pre .last-known }) below first (omega (arith, first, end-past (args .start) (args .end) below (c .if2 .taken) .right (args .text .now) refl))
 
 add-one-more : tie.Need-add-t16
 add-one-more c =
@@ -30,14 +32,14 @@ returns-3 c =
     let entry = c .before .before .before .before .before .before in
     let below = c .before .before .before .before .if1 .left in
     let first = c .before .before .before .index-from .ensures in
-    mapped-chars _ _ _ (record { first-known = cursor-at (entry .pre .first-known .short) below first; last-known = cursor-at (entry .pre .last-known .short) (omega arith) (c .index-from2 .ensures) }) below first (omega (arith, end-last _ _ _ (c .before .if3 .taken) below (c .index-from2 .ensures)))
+    mapped-chars _ _ _ (record { first-known = cursor-at (entry .pre .first-known .short) below first; last-known = cursor-at (entry .pre .last-known .short) (omega arith) (c .index-from2 .ensures) }) below first (omega (arith, c .index-from2 .ensures, end-last (entry .args .start) (entry .args .end) below (c .before .if3 .taken) .right (entry .args .text .now) refl))
 
 returns-4 : tie.Need-returns-4
 returns-4 c =
     let entry = c .before .before .before .before .before .before in
     let below = c .before .before .before .before .if1 .left in
     let first = c .before .before .before .index-from .ensures in
-    mapped-chars _ _ _ (record { first-known = cursor-at (entry .pre .first-known .short) below first; last-known = cursor-at (entry .pre .last-known .short) (omega arith) (c .index-from3 .ensures) }) below first (end-inside _ _ _ (omega arith) (c .index-from3 .ensures))
+    mapped-chars _ _ _ (record { first-known = cursor-at (entry .pre .first-known .short) below first; last-known = cursor-at (entry .pre .last-known .short) (omega arith) (c .index-from3 .ensures) }) below first (omega (arith, c .index-from3 .ensures, end-inside (entry .args .start) (entry .args .end) below (omega arith) .right (entry .args .text .now) refl))
 
 pub in-chars-spec : {M : Type 1} → statement M
 in-chars-spec =

@@ -1,6 +1,6 @@
--- Laws of `IndexKnown` and `PairStepped`: from one byte's character to another's, and one pair after the other.
+-- Laws of `IndexKnown`, `EndTold` and `PairTold`: from one byte's character to another's, and one pair.
 use Prim.Native.Nat.{ℕ, _+_, _-_, _≤_, _<_}
-use mathlib.Core.Path.{_≡_, sym}
+use mathlib.Core.Path.{_≡_, refl, sym}
 use mathlib.Core.List.{List}
 use borrow.Author.Tests.{lt-ltb, le-ltb}
 use native.Mathlib.Omega.{arith}
@@ -8,7 +8,8 @@ use lib.ListN.{length, take, drop}
 use Rattle.buffers.specs.Splice.{part}
 use Rattle.utf8.specs.Letters.{leads}
 use Rattle.char_offsets.specs.Positions.{indexOf, endIndex, pairOf}
-use Rattle.char_offsets.specs.Steps.{IndexKnown, PairStepped}
+use Rattle.char_offsets.specs.declared.EndByte.{EndByte}
+use Rattle.char_offsets.specs.Steps.{IndexKnown, EndTold, PairTold}
 use Rattle.char_offsets.proofs.IndexOf.{index-add}
 
 module _ {most : ℕ} {s : List ℕ} {at index : ℕ} (to : ℕ) {r : ℕ} (k : IndexKnown most s at index) where
@@ -26,37 +27,45 @@ module _ {most : ℕ} {s : List ℕ} {at index : ℕ} (to : ℕ) {r : ℕ} (k : 
       let r-is : r ≡ leads (take (at - to) (drop (to + 1) s)) = rw gap at e in
       rw (k .so-far, r-is) (rw sum at (index-add s to (at - to) (omega (arith, k .inside))))
 
-module _ {most : ℕ} (s : List ℕ) (a e : ℕ) where
-  pub stepped-missing : {at index : ℕ} → IndexKnown most s at index → length s ≤ a → PairStepped most s a e (record { number = 10; start = 0; end = 0; at = at; index = index })
+module _ (s : List ℕ) (a e : ℕ) where
+  pub told-missing : length s ≤ a → PairTold s a e (record { number = 10; start = 0; end = 0 })
   unfolding pairOf
-  stepped-missing k past =
+  told-missing past =
       record {
         number-is = rw (le-ltb a (length s) past);
         start-is = rw (le-ltb a (length s) past);
         end-is = rw (le-ltb a (length s) past);
-        known = k;
       }
 
-  -- a start inside the text, and what its end is
-  pub stepped-chars : {first last at index : ℕ} → a < length s → first ≡ indexOf s a → last ≡ endIndex s a e → IndexKnown most s at index → PairStepped most s a e (record { number = 0; start = first; end = last; at = at; index = index })
+  -- a start inside the text, and the byte by which its end is told
+  pub told-chars : {first last : ℕ} {r : EndByte} → a < length s → first ≡ indexOf s a → EndTold (length s) a e r → last ≡ indexOf s (r .byte) → PairTold s a e (record { number = 0; start = first; end = last + r .more })
   unfolding pairOf
-  stepped-chars below f l k =
+  told-chars {r = r} below f t l =
       record {
         number-is = rw (lt-ltb a (length s) below);
         start-is = rw (lt-ltb a (length s) below) f;
-        end-is = rw (lt-ltb a (length s) below) l;
-        known = k;
+        end-is = rw (lt-ltb a (length s) below, t .right s refl, l);
       }
 
-module _ (s : List ℕ) (a e : ℕ) where
-  pub end-inside : {last : ℕ} → e < length s → last ≡ indexOf s e → last ≡ endIndex s a e
+module _ {size : ℕ} (a e : ℕ) (some : a < size) where
+  pub end-inside : e < size → EndTold size a e (record { byte = e; more = 0 })
   unfolding endIndex
-  end-inside below l = rw (lt-ltb e (length s) below) l
+  end-inside below = record { inside = below; right = λ s n. rw (n, lt-ltb e size below) (omega arith); little = omega arith }
 
-  pub end-last : {last : ℕ} → e ≡ length s → a < length s → last ≡ indexOf s (e - 1) → last + 1 ≡ endIndex s a e
+  pub end-last : e ≡ size → EndTold size a e (record { byte = e - 1; more = 1 })
   unfolding endIndex
-  end-last same some l = rw (le-ltb e (length s) (omega arith), lt-ltb (e - 1) (length s) (omega arith), l)
+  end-last same =
+      record {
+        inside = omega arith;
+        right = λ s n. rw (n, le-ltb e size (omega arith), lt-ltb (e - 1) size (omega arith));
+        little = omega arith;
+      }
 
-  pub end-past : {first : ℕ} → length s < e → first ≡ indexOf s a → first + 2 ≡ endIndex s a e
+  pub end-past : size < e → EndTold size a e (record { byte = a; more = 2 })
   unfolding endIndex
-  end-past past f = rw (le-ltb e (length s) (omega arith), le-ltb (e - 1) (length s) (omega arith), f)
+  end-past past =
+      record {
+        inside = some;
+        right = λ s n. rw (n, le-ltb e size (omega arith), le-ltb (e - 1) size (omega arith));
+        little = omega arith;
+      }
