@@ -1,7 +1,8 @@
 //! Runs that docs/OFFICE.md names and the program `redact` cannot show.
 
-use super::{code_answers, replaced_here};
+use super::code_answers;
 use crate::library::{self, Comparison, Offsets};
+use crate::made;
 use crate::note::Note;
 use crate::places::{self, Place};
 use crate::tally::Tally;
@@ -21,7 +22,7 @@ fn fresh(text: &str) -> Note {
 
 /// The text and the alignments that are published.
 fn published(tally: &mut Tally, note: &Note, places: &[Place], filler: &str, said: (&str, &[u16], &[u16])) -> Note {
-    let published = replaced_here(note, places, filler).expect("the list covers");
+    let published = made::replaced(note, places, filler).expect("the list covers");
     let Note { normalized, starts, ends, .. } = &published;
     let answer = (normalized.as_slice(), starts.as_slice(), ends.as_slice());
     code_answers(tally, said.0, (said.0.as_bytes(), said.1, said.2), answer);
