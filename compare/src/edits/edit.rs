@@ -137,6 +137,25 @@ impl Edit {
         Ok(cleaned.map(|cleaned| Course { cleaned, changes, offset: offset as usize }))
     }
 
+    /// The room that include/zulmyren.h says is always enough.
+    fn enough(&self, note: &Note) -> usize {
+        let len = note.normalized.len();
+        match self {
+            TransformRange(_, script, _) | Transform(script, _) => len + 4 * (script.len() / 5),
+            Map(codes) => 4 * codes.len(),
+            Filter(_) if note.original.is_empty() || note.starts.first() == note.ends.first() => 2 * len,
+            Filter(_) | Clear => len,
+            Append(string) => len + string.len(),
+            Prepend(string) => {
+                if len == 0 {
+                    0
+                } else {
+                    len + string.len()
+                }
+            }
+        }
+    }
+
     /// Our call's answer in so much room, and what it left.
     pub fn answer(&self, note: &Note, room: usize) -> (Lengths, Note) {
         let (mut text, mut starts, mut ends) = (vec![0; room], vec![0; room], vec![0; room]);
@@ -278,11 +297,12 @@ pub fn check_beside(
         let theirs = Lengths { refusal, before, left: left.normalized.len() as u32 };
         let held = [text.holds(&left.normalized), starts.holds(&left.starts), ends.holds(&left.ends)];
         let unsound = refusal == 0 && left.refusal() != 0;
-        tally.case(tally::refusal(ours.refusal), ours != theirs || held != [true; 3] || unsound, || {
+        let longer = left.normalized.len() > edit.enough(note);
+        tally.case(tally::refusal(ours.refusal), ours != theirs || held != [true; 3] || unsound || longer, || {
             let made = made();
             format!(
-                "ours {ours:?}, theirs {theirs:?}, text, starts, ends equal {held:?}, theirs unsound {unsound}, in \
-                 rooms {room:?}, {made}: {edit:?} on {note}"
+                "ours {ours:?}, theirs {theirs:?}, text, starts, ends equal {held:?}, theirs unsound {unsound}, \
+                 longer than is said {longer}, in rooms {room:?}, {made}: {edit:?} on {note}"
             )
         });
     }

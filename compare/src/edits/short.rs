@@ -3,6 +3,7 @@
 use super::edit::{bytes, check_sound, starves, Change, Edit};
 use crate::every;
 use crate::note::Note;
+use crate::refusals::{EXHAUSTED, NOT_BOUNDARY};
 use crate::replace::Rooms;
 use crate::samples::sound_notes;
 use crate::tally::Tally;
@@ -53,7 +54,43 @@ fn scripts(len: usize, characters: &[char]) -> Vec<Vec<Change>> {
     every::list(&changes, len).collect()
 }
 
+/// Of the starting note of `aéb`: range, script, offset, and the text and alignments that it leaves, or the refusal.
+type Worked<'a> = ((bool, u32, u32), &'a [Change], u32, Result<(&'a str, &'a [(u16, u16)]), u32>);
+
+/// The table of docs/RULES.md, 7: both sides give these answers.
+fn worked_edits(tally: &mut Tally) {
+    tally.family("worked edits");
+    let (a, e, b) = ((0, 1), (1, 3), (3, 4));
+    let worked: [Worked; 10] = [
+        ((false, 1, 3), &[('e', 0)], 0, Ok(("aeb", &[a, e, b]))),
+        ((false, 0, 4), &[('x', -1), ('y', 1), ('z', 0)], 0, Ok(("xyz", &[a, e, b]))),
+        ((false, 0, 4), &[('x', 0)], 0, Ok(("x", &[a]))),
+        ((false, 0, 4), &[('x', 0)], 1, Ok(("x", &[e]))),
+        ((false, 0, 0), &[('x', 1)], 0, Ok(("xaéb", &[(0, 0), a, e, e, b]))),
+        ((false, 0, 1), &[('x', 0), ('y', 0)], 0, Err(EXHAUSTED)),
+        ((false, 0, 2), &[], 0, Err(NOT_BOUNDARY)),
+        ((true, 1, 3), &[], 0, Ok(("ab", &[a, b]))),
+        ((true, 1, 2), &[('x', 1)], 0, Ok(("axéb", &[a, a, e, e, b]))),
+        ((true, 3, 1), &[('x', 1)], 0, Ok(("aéb", &[a, e, e, b]))),
+    ];
+    let note = fresh("aéb");
+    for (range, changes, offset, said) in worked {
+        let edit = Edit::TransformRange(range, bytes(changes), offset);
+        check_sound(tally, &note, &edit, enough_or_short);
+        let made = edit.made(&note).map(|made| made.note);
+        let same = match (&made, said) {
+            (Ok(note), Ok((text, alignments))) => {
+                note.normalized == text.as_bytes() && note.alignments().eq(alignments.iter().copied())
+            }
+            (Err(refusal), Err(said)) => *refusal == said,
+            _ => false,
+        };
+        tally.case("accepted", !same, || format!("{edit:?}: said {said:?}"));
+    }
+}
+
 pub fn every_range(tally: &mut Tally) {
+    worked_edits(tally);
     tally.family("every script of up to 2 commands, every range and offset, on every short sound note");
     for note in notes() {
         for len in 0..=2 {
