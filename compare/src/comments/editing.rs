@@ -24,6 +24,7 @@ pub fn compare(tally: &mut Tally) {
     prepending(tally);
     clearing(tally);
     final_sigma(tally);
+    stripping(tally);
 }
 
 fn fresh(text: &str) -> NormalizedString {
@@ -230,4 +231,15 @@ fn final_sigma(tally: &mut Tally) {
     let mut note = fresh("ΟΔΟΣ");
     note.lowercase();
     code_answers(tally, "ΟΔΟΣ", ("οδοσ", "οδος"), (note.get(), &*"ΟΔΟΣ".to_lowercase()));
+}
+
+fn stripping(tally: &mut Tally) {
+    tally.family("strip removes all white space, and goes over the whole transcript's range");
+    let mut note = fresh("\n\u{3000}a b\t");
+    note.strip();
+    code_answers(tally, "white space", "a b", note.get());
+    code_answers(tally, "lstrip", true, panics(|| moved(" a").lstrip().get().to_owned()));
+    let mut note = moved(" a ");
+    note.rstrip();
+    code_answers(tally, "rstrip", ("  a", &[(0, 0), (1, 2), (2, 3)][..]), (note.get(), note.alignments()));
 }
