@@ -4,13 +4,14 @@ use super::{code_answers, note_of, panics};
 use crate::edits::{bytes, Change, Edit};
 use crate::library;
 use crate::note::Note;
-use crate::refusals::{EXHAUSTED, MISALIGNED, NOT_BOUNDARY};
+use crate::refusals::{EXHAUSTED, MISALIGNED, NOT_BOUNDARY, NO_ROOM};
 use crate::tally::Tally;
 use crate::texts::LIMIT;
 use tokenizers::normalizer::Range::{Normalized, Original};
 use tokenizers::{NormalizedString, Offsets};
 
 pub fn compare(tally: &mut Tally) {
+    longer_than_the_limit(tally);
     no_character_left(tally);
     ranges_that_cannot_be_edited(tally);
     ranges_without_an_answer(tally);
@@ -83,6 +84,16 @@ fn transforms(tally: &mut Tally, text: &str, (start, end): (u32, u32), changes: 
         (&ranged(start, end, changes, offset), 0),
         said,
     );
+}
+
+fn longer_than_the_limit(tally: &mut Tally) {
+    tally.family("a string that makes the cleaned text longer than 65535 bytes is taken; here it is 9");
+    let string = "x".repeat(LIMIT);
+    let (mut behind, mut before) = (fresh("a"), fresh("a"));
+    let lens = [behind.append(&string).len(), before.prepend(&string).len()];
+    code_answers(tally, "a and 65535 x", [LIMIT + 1; 2], lens);
+    refuses(tally, &fresh("a"), &Edit::Append(string.clone().into()), NO_ROOM);
+    refuses(tally, &fresh("a"), &Edit::Prepend(string.into()), NO_ROOM);
 }
 
 fn no_character_left(tally: &mut Tally) {

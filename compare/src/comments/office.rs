@@ -19,6 +19,7 @@ pub fn compare(tally: &mut Tally) {
     edited_before(tally);
     compared_after_edits(tally);
     left_by_edits(tally);
+    edited_after(tally);
 }
 
 fn fresh(text: &str) -> Note {
@@ -129,4 +130,16 @@ fn left_by_edits(tally: &mut Tally) {
     let moved = edited(&fresh("aé"), &Edit::Prepend(vec![]));
     code_answers(tally, "clear", &b"a"[..], &edited(&moved, &Edit::Clear).normalized[..]);
     code_answers(tally, "filter", &b"a"[..], &edited(&moved, &Edit::Filter(vec![0; 2])).normalized[..]);
+}
+
+/// Run 30: two notes with the same text and alignments, which one edit tells apart.
+fn edited_after(tally: &mut Tally) {
+    let b = Edit::Append(b"b".into());
+    let notes = [edited(&fresh(""), &b), edited(&edited(&fresh("a"), &Edit::Clear), &b)];
+    let list = places::bytes(&[((0, 1), false)]);
+    let alike = library::published_alike(&notes[0], &notes[1], &list, b"#");
+    code_answers(tally, "b and b", Comparison { refusal: 0, alike: true }, alike);
+    let added = Edit::Transform(bytes(&[('x', 1)]), 0);
+    let read = notes.map(|note| edited(&note, &added).normalized);
+    code_answers(tally, "x added", [b"xb".to_vec(), b"bx".to_vec()], read);
 }
