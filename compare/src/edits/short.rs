@@ -197,7 +197,56 @@ pub fn every_map(tally: &mut Tally) {
     }
 }
 
+/// The header's words: from the first byte whose alignment is not empty to the text's end.
+fn whole_range(note: &Note) -> Option<std::ops::Range<usize>> {
+    let len = note.normalized.len();
+    match (note.original.len(), len) {
+        (0, _) => Some(0..0),
+        (_, 0) => None,
+        _ => Some(note.alignments().position(|(start, end)| start < end).unwrap_or(len)..len),
+    }
+}
+
+/// The header's words: what is kept takes the range's place, the i-th character with the alignment of the range's i-th.
+fn filtered(note: &Note, flags: &[u8]) -> Option<Vec<(char, (u16, u16))>> {
+    let text = std::str::from_utf8(&note.normalized).expect("a sound note");
+    let alignments: Vec<(u16, u16)> = note.alignments().collect();
+    let all: Vec<(usize, char)> = text.char_indices().collect();
+    let Some(range) = whole_range(note) else { return Some(vec![]) };
+    let outside = |part: &[(usize, char)]| part.iter().map(|&(at, c)| (c, alignments[at])).collect::<Vec<_>>();
+    let (before, rest) = all.split_at(text[..range.start].chars().count());
+    let (inside, behind) = rest.split_at(text[range].chars().count());
+    let mut left = outside(before);
+    for (i, &(_, character)) in all.iter().enumerate().filter(|(i, _)| flags[*i] != 0) {
+        left.push((character, alignments[inside.get(i)?.0]));
+    }
+    left.extend(outside(behind));
+    Some(left)
+}
+
+fn as_the_header_says(tally: &mut Tally) {
+    tally.family("the whole range, and what filter leaves or 7, in the words of include/zulmyren.h");
+    for note in notes() {
+        let theirs = note.of_the_original().convert_offsets(Range::Original(0..note.original.len()));
+        let said = whole_range(&note);
+        tally.case("accepted", theirs != said, || format!("said {said:?}, theirs {theirs:?}, on {note}"));
+        for flags in every::list(&[0, 1], characters(&note)) {
+            let said = filtered(&note, &flags);
+            let (answer, left) = Edit::Filter(flags.clone()).answer(&note, 32);
+            let text = std::str::from_utf8(&left.normalized).expect("a sound note");
+            let alignments: Vec<(u16, u16)> = left.alignments().collect();
+            let made: Vec<(char, (u16, u16))> = text.char_indices().map(|(at, c)| (c, alignments[at])).collect();
+            let same =
+                if answer.refusal == 0 { said == Some(made) } else { answer.refusal == EXHAUSTED && said.is_none() };
+            tally.case(crate::tally::refusal(answer.refusal), !same, || {
+                format!("said {said:?}, ours {answer:?} with {left}, flags {flags:?} on {note}")
+            });
+        }
+    }
+}
+
 pub fn every_filter(tally: &mut Tally) {
+    as_the_header_says(tally);
     tally.family("every list of flags out of 0, 1, 128 and 255, as many as characters, one more and one fewer");
     for note in notes() {
         for flags in counts(&note).flat_map(|len| every::list(&[0, 1, 128, 255], len)) {
