@@ -11,6 +11,7 @@
  *                 starts, ends     one number each for every byte of the cleaned text. starts[i]..ends[i] is the
  *                                  alignment of byte i: the bytes of the transcript that it came from
  *                 original_shift   how many bytes of a longer transcript stand before this one; 0 if none do
+ *   code point  the number of a character in Unicode: 0 to 0x10FFFF, without 0xD800 to 0xDFFF. 0x78 is the letter x.
  *   literal     the bytes that are searched for.
  *   filler      content: the bytes that take the place of what is blanked.
  *   start..end  a range: the bytes from start up to end, the one at end not included. start == end is an empty range.
@@ -21,7 +22,7 @@
  *   Characters are counted only by the count of zulmyren_letter_count, by what zulmyren_char_offsets and
  *   zulmyren_char_offsets_all answer, and by zulmyren_get_splits where they are asked for; and, in what is lent, by an
  *   edit's initial_offset, by the removals of a script, and by the code points and flags of zulmyren_map and
- *   zulmyren_filter, one for each character. In C all of these are plain numbers: the compiler will not tell them apart.
+ *   zulmyren_filter, one for each character. In C all of these are plain numbers: the compiler cannot tell them apart.
  *
  * WHAT A CALL DEMANDS OF THE CALLER (it cannot be checked, and where it does not hold anything may happen)
  *   - A pointer is valid for as many elements as are lent with it. Where that is 0 it may be anything, NULL too.
@@ -44,8 +45,8 @@
  *                        ends[i] <= ends[i + 1]
  *      5  off place      either end of a range is greater than the text's length or within a character;
  *                        start > end too, of a letter count and of a cleaned range to edit
- *      6  bad script     an edit script has an unknown command, a cut one, a number that is no code point of a
- *                        character, or a removal of 0; or so has the list of code points of zulmyren_map
+ *      6  bad script     an edit script has an unknown command, a cut one, a number that is no code point, or a
+ *                        removal of 0; or zulmyren_map is lent a number that is no code point
  *      7  nothing left   an edit is to replace a character, and its range has none any more
  *      8  broken list    a match list (below) does not cover the cleaned text
  *      9  no room        a buffer is too small for the result, or the resulting text has more than 65,535 bytes
@@ -246,102 +247,11 @@ zulmyren_count zulmyren_replace(
 /* Blanks every match of a literal in a fresh text: what zulmyren_from_text, zulmyren_find_matches and zulmyren_replace
  * publish one after the other, in one call that needs no list and no columns of the fresh note. The published note
  * stands in the first count elements of out, out_starts and out_ends.
- * Refusals: 2 (the text), 1 (text, literal or filler), 9 (any of the three is too small, or count would be over 65,535).
+ * Refusals: 2 (the text), 1 (text, literal or filler), 9 (a buffer is too small, or count would be over 65,535).
  * Room, always enough: text_len where content_len <= literal_len or literal_len is 0, and else 65,535. */
 zulmyren_count zulmyren_redact(
     const uint8_t *text, size_t text_len, const uint8_t *literal, size_t literal_len,
     const uint8_t *content, size_t content_len,
-    uint8_t *out, size_t out_len,
-    uint16_t *out_starts, size_t out_starts_len, uint16_t *out_ends, size_t out_ends_len);
-
-/* EDITING
- *   An edit writes what the cleaned text and its alignments are afterwards to the first count elements of out,
- *   out_starts and out_ends; the transcript and the shift stay. Together that is a note again, which every call takes.
- *   A script is bytes, one command behind the other:
- *     1  replace             the number 1, a code point in four bytes, the lower first
- *     2  add                 the number 2, a code point in four bytes, the lower first
- *     3  replace and remove  the number 3, a code point in four bytes, then a count in two bytes, the lower first, 1 or
- *                            more
- *   A position goes through the range from character to character, from its start on. An added character leaves it
- *   there and carries the alignment of the byte before it, 0..0 at the beginning of the text. A replacing one carries
- *   the alignment of the byte at the position and takes one character, command 3 as many more as its count says, at
- *   most the rest of the range. The range gives way to the characters of the commands: what no command reached is
- *   gone. */
-
-/* Edits a range (Rust: transform_range): of the transcript where of_original is true, else of the cleaned text. A range
- * of the transcript is converted as by zulmyren_convert_offsets; where that says 10, the note is written as it is. The
- * first initial_offset characters of the range are passed over, and are gone.
- * Refusals: 2, 3, 1, 4, 6 (the script, whole), 5 (the range in the cleaned text), 7 (a replacing command finds no
- * character left in the range), 9 (any of the three buffers is too small, or count would be over 65,535). */
-zulmyren_count zulmyren_transform_range(
-    const uint8_t *original, size_t original_len, const uint8_t *normalized, size_t normalized_len,
-    const uint16_t *starts, size_t starts_len, const uint16_t *ends, size_t ends_len, uint32_t original_shift,
-    bool of_original, uint32_t start, uint32_t end,
-    const uint8_t *script, size_t script_len, uint32_t initial_offset,
-    uint8_t *out, size_t out_len,
-    uint16_t *out_starts, size_t out_starts_len, uint16_t *out_ends, size_t out_ends_len);
-
-/* The same with the whole transcript for its range (Rust: transform). Refusals: 2, 3, 1, 4, 6, 7, 9. */
-zulmyren_count zulmyren_transform(
-    const uint8_t *original, size_t original_len, const uint8_t *normalized, size_t normalized_len,
-    const uint16_t *starts, size_t starts_len, const uint16_t *ends, size_t ends_len, uint32_t original_shift,
-    const uint8_t *script, size_t script_len, uint32_t initial_offset,
-    uint8_t *out, size_t out_len,
-    uint16_t *out_starts, size_t out_starts_len, uint16_t *out_ends, size_t out_ends_len);
-
-/* Replaces the characters of the cleaned text (Rust: map): codes has one code point for each of them, in order. The
- * range is the whole transcript, converted, which begins at the first byte whose alignment is not empty.
- * Refusals: 2, 3, 1, 4, 6 (a number that is no code point of a character), 11 (codes_len is not the number of cleaned
- * characters), 7, 9. */
-zulmyren_count zulmyren_map(
-    const uint8_t *original, size_t original_len, const uint8_t *normalized, size_t normalized_len,
-    const uint16_t *starts, size_t starts_len, const uint16_t *ends, size_t ends_len, uint32_t original_shift,
-    const uint32_t *codes, size_t codes_len,
-    uint8_t *out, size_t out_len,
-    uint16_t *out_starts, size_t out_starts_len, uint16_t *out_ends, size_t out_ends_len);
-
-/* Drops characters of the cleaned text (Rust: filter): flags has one byte for each of them, in order, 0 to drop it and
- * any other to keep it. The range is that of zulmyren_map; a kept character carries the alignment that stands in the
- * range where its turn comes.
- * Refusals: 2, 3, 1, 4, 11 (flags_len is not the number of cleaned characters), 7, 9. */
-zulmyren_count zulmyren_filter(
-    const uint8_t *original, size_t original_len, const uint8_t *normalized, size_t normalized_len,
-    const uint16_t *starts, size_t starts_len, const uint16_t *ends, size_t ends_len, uint32_t original_shift,
-    const uint8_t *flags, size_t flags_len,
-    uint8_t *out, size_t out_len,
-    uint16_t *out_starts, size_t out_starts_len, uint16_t *out_ends, size_t out_ends_len);
-
-/* Puts a string behind the cleaned text (Rust: append). Its bytes carry the alignment of the text's last byte, 0..0
- * where the text is empty. Refusals: 2, 3, 1 (either text or the string), 4, 9. */
-zulmyren_count zulmyren_append(
-    const uint8_t *original, size_t original_len, const uint8_t *normalized, size_t normalized_len,
-    const uint16_t *starts, size_t starts_len, const uint16_t *ends, size_t ends_len, uint32_t original_shift,
-    const uint8_t *string, size_t string_len,
-    uint8_t *out, size_t out_len,
-    uint16_t *out_starts, size_t out_starts_len, uint16_t *out_ends, size_t out_ends_len);
-
-/* Puts a string before the cleaned text (Rust: prepend). Its bytes carry the alignment of the text's first character.
- * An empty text stays empty. An empty string leaves the text, but its first character then has the alignment 0..0.
- * Refusals: 2, 3, 1 (either text or the string), 4, 9. */
-zulmyren_count zulmyren_prepend(
-    const uint8_t *original, size_t original_len, const uint8_t *normalized, size_t normalized_len,
-    const uint16_t *starts, size_t starts_len, const uint16_t *ends, size_t ends_len, uint32_t original_shift,
-    const uint8_t *string, size_t string_len,
-    uint8_t *out, size_t out_len,
-    uint16_t *out_starts, size_t out_starts_len, uint16_t *out_ends, size_t out_ends_len);
-
-/* How many bytes the cleaned text had, and how many are left; 0 and 0 where the call refuses. */
-typedef struct {
-    uint32_t refusal;
-    uint32_t before;
-    uint32_t left;
-} zulmyren_lengths;
-
-/* Removes the range of zulmyren_map (Rust: clear, which answers before). What stands before the first byte whose
- * alignment is not empty is left, and all of the text where there is none. Refusals: 2, 3, 1, 4, 9. */
-zulmyren_lengths zulmyren_clear(
-    const uint8_t *original, size_t original_len, const uint8_t *normalized, size_t normalized_len,
-    const uint16_t *starts, size_t starts_len, const uint16_t *ends, size_t ends_len, uint32_t original_shift,
     uint8_t *out, size_t out_len,
     uint16_t *out_starts, size_t out_starts_len, uint16_t *out_ends, size_t out_ends_len);
 
@@ -365,6 +275,122 @@ zulmyren_comparison zulmyren_published_alike(
     const uint16_t *other_starts, size_t other_starts_len, const uint16_t *other_ends, size_t other_ends_len,
     uint32_t other_shift,
     const uint8_t *list, size_t list_len, const uint8_t *content, size_t content_len);
+
+/* ---- Edits. Each writes the note that it leaves: the first count elements of out, out_starts and out_ends become its
+ * cleaned text and its alignments; its transcript and its shift are the note's own. Every call takes that note again.
+ * To edit it once more, lend these as normalized, starts and ends, and three other buffers for the new result.
+ *
+ * Room: as many elements in each of the three as the result has. 65,535 are always enough; each call says what else.
+ *
+ * A SCRIPT is bytes, one command behind the other:
+ *   1  replace             the byte 1, then a code point in four bytes, the lowest first
+ *   2  add                 the byte 2, then a code point in four bytes, the lowest first
+ *   3  replace and remove  the byte 3, then a code point in four bytes, the lowest first, then a count, 1 or more, in
+ *                          two bytes, the lower first
+ * So the five bytes 1, 0x78, 0, 0, 0 replace a character by x. A position goes through the range, from its start on
+ * and from character to character:
+ * - Command 1 puts its character in the place of the one at the position, and the position moves on behind it. The new
+ *   character has the alignment of the old one.
+ * - Command 2 puts its character in, and the position stays. The new character has the alignment of the byte before
+ *   the position in the note as it was lent, also where that byte is gone by now; and 0..0 where the position is 0.
+ * - Command 3 is command 1, and then as many more characters as its count says are removed; fewer where the range has
+ *   no more.
+ * The characters of the commands take the place of the whole range: what no command came to is gone too, and an empty
+ * script removes the range.
+ *
+ * THE WHOLE RANGE, which zulmyren_transform, zulmyren_map, zulmyren_filter and zulmyren_clear edit, is what
+ * zulmyren_convert_offsets answers for the whole transcript: from the first byte of the cleaned text whose alignment
+ * is not empty up to the text's end. Of a note as zulmyren_from_text made it that is all of the text. Bytes at the
+ * front with empty alignments, as zulmyren_prepend of an empty string leaves them, are not in it, and stay. Where all
+ * alignments are empty it is empty, at the text's end, or at 0 where the transcript is empty; so all of the text
+ * stays. Where the cleaned text is empty and the transcript is not, there is no range, and nothing is done. ---- */
+
+/* Edits a range by a script (Rust: transform_range): a range of the transcript where of_original is true, else one of
+ * the cleaned text. A range of the transcript is converted as by zulmyren_convert_offsets; where that says 10, the
+ * note is written as it is. The first initial_offset characters of the range are passed over before the first command,
+ * all of them if there are fewer, and are gone.
+ * Refusals: 2, 3, 1, 4, 6 (the script, whole, also where the range is not edited), 5 (the range in the cleaned text,
+ * after converting), 7 (a replacing command finds no character left in the range), 9 (any of the three buffers is too
+ * small, or count would be over 65,535).
+ * Room, always enough: normalized_len + 4 * (script_len / 5). */
+zulmyren_count zulmyren_transform_range(
+    const uint8_t *original, size_t original_len, const uint8_t *normalized, size_t normalized_len,
+    const uint16_t *starts, size_t starts_len, const uint16_t *ends, size_t ends_len, uint32_t original_shift,
+    bool of_original, uint32_t start, uint32_t end,
+    const uint8_t *script, size_t script_len, uint32_t initial_offset,
+    uint8_t *out, size_t out_len,
+    uint16_t *out_starts, size_t out_starts_len, uint16_t *out_ends, size_t out_ends_len);
+
+/* The same of the whole range (Rust: transform). Refusals: 2, 3, 1, 4, 6, 7, 9. Room: the same. */
+zulmyren_count zulmyren_transform(
+    const uint8_t *original, size_t original_len, const uint8_t *normalized, size_t normalized_len,
+    const uint16_t *starts, size_t starts_len, const uint16_t *ends, size_t ends_len, uint32_t original_shift,
+    const uint8_t *script, size_t script_len, uint32_t initial_offset,
+    uint8_t *out, size_t out_len,
+    uint16_t *out_starts, size_t out_starts_len, uint16_t *out_ends, size_t out_ends_len);
+
+/* Replaces every character of the cleaned text (Rust: map): codes has a code point for each of them, in order, and
+ * each new character has the alignment of the old one.
+ * Refusals: 2, 3, 1, 4, 6 (a number that is no code point), 11 (codes_len is not the number of characters of the
+ * cleaned text), 7 (one of these characters is not in the whole range), 9.
+ * Room, always enough: 4 * codes_len. */
+zulmyren_count zulmyren_map(
+    const uint8_t *original, size_t original_len, const uint8_t *normalized, size_t normalized_len,
+    const uint16_t *starts, size_t starts_len, const uint16_t *ends, size_t ends_len, uint32_t original_shift,
+    const uint32_t *codes, size_t codes_len,
+    uint8_t *out, size_t out_len,
+    uint16_t *out_starts, size_t out_starts_len, uint16_t *out_ends, size_t out_ends_len);
+
+/* Drops characters of the cleaned text (Rust: filter): flags has a byte for each of them, in order, 0 to drop it and
+ * any other to keep it. What is kept keeps its alignment, where the whole range is all of the text. Else the characters
+ * outside that range stay in any case, and the range becomes what is kept of the whole text, the i-th character with
+ * the alignment of the range's i-th: of ab, after zulmyren_prepend of an empty string, keeping a alone leaves aa.
+ * Refusals: 2, 3, 1, 4, 11 (flags_len is not the number of characters of the cleaned text), 7 (the i-th is kept, and
+ * the whole range has no i-th), 9.
+ * Room, always enough: normalized_len where the whole range is all of the text, else twice that. */
+zulmyren_count zulmyren_filter(
+    const uint8_t *original, size_t original_len, const uint8_t *normalized, size_t normalized_len,
+    const uint16_t *starts, size_t starts_len, const uint16_t *ends, size_t ends_len, uint32_t original_shift,
+    const uint8_t *flags, size_t flags_len,
+    uint8_t *out, size_t out_len,
+    uint16_t *out_starts, size_t out_starts_len, uint16_t *out_ends, size_t out_ends_len);
+
+/* Puts a string behind the cleaned text (Rust: append). Its bytes have the alignment of the text's last byte, 0..0
+ * where the text is empty. Refusals: 2, 3, 1 (either text or the string), 4, 9.
+ * Room, needed and enough: normalized_len + string_len. */
+zulmyren_count zulmyren_append(
+    const uint8_t *original, size_t original_len, const uint8_t *normalized, size_t normalized_len,
+    const uint16_t *starts, size_t starts_len, const uint16_t *ends, size_t ends_len, uint32_t original_shift,
+    const uint8_t *string, size_t string_len,
+    uint8_t *out, size_t out_len,
+    uint16_t *out_starts, size_t out_starts_len, uint16_t *out_ends, size_t out_ends_len);
+
+/* Puts a string before the cleaned text (Rust: prepend). Its bytes have the alignment of the text's first character.
+ * TWO EXCEPTIONS: an empty text stays empty, whatever the string is; and an empty string leaves the text as it is, but
+ * its first character then has the alignment 0..0. Refusals: 2, 3, 1 (either text or the string), 4, 9.
+ * Room, needed and enough: normalized_len + string_len, and none where the text is empty. */
+zulmyren_count zulmyren_prepend(
+    const uint8_t *original, size_t original_len, const uint8_t *normalized, size_t normalized_len,
+    const uint16_t *starts, size_t starts_len, const uint16_t *ends, size_t ends_len, uint32_t original_shift,
+    const uint8_t *string, size_t string_len,
+    uint8_t *out, size_t out_len,
+    uint16_t *out_starts, size_t out_starts_len, uint16_t *out_ends, size_t out_ends_len);
+
+/* How many bytes the cleaned text had before, and how many are left; or a refusal and 0, 0. */
+typedef struct {
+    uint32_t refusal;
+    uint32_t before;
+    uint32_t left;
+} zulmyren_lengths;
+
+/* Removes the whole range (Rust: clear, which answers before). THIS NEED NOT EMPTY THE TEXT: what is not in that range
+ * is left, in the first `left` elements of the three buffers. Refusals: 2, 3, 1, 4, 9.
+ * Room, always enough: normalized_len. */
+zulmyren_lengths zulmyren_clear(
+    const uint8_t *original, size_t original_len, const uint8_t *normalized, size_t normalized_len,
+    const uint16_t *starts, size_t starts_len, const uint16_t *ends, size_t ends_len, uint32_t original_shift,
+    uint8_t *out, size_t out_len,
+    uint16_t *out_starts, size_t out_starts_len, uint16_t *out_ends, size_t out_ends_len);
 
 /* ---- Pieces. A match list and a behaviour cut a note into pieces. The behaviour says what becomes of the matched
  * places:
