@@ -8,12 +8,12 @@ use native.Mathlib.Omega.{arith}
 use lib.ListN.{length, getD, drop, length-append, drop-of-length-le}
 use lib.Seq.{drop-cons, drop-drop}
 use Rattle.buffers.specs.Splice.{splice, overlay, Laid}
-use Rattle.buffers.proofs.Splice.{splice-nil, splice-splice, splice-overlay, laid-length, laid-after}
+use Rattle.buffers.proofs.Splice.{splice-nil, splice-splice, splice-overlay, overlay-long, laid-length, laid-after}
 use Rattle.numbers.specs.Decimal.{field}
 use Rattle.numbers.proofs.Decimal.{field-bounded-5}
 use Rattle.note.specs.Notes.{limit}
-use Rattle.redact.specs.Lines.{runOf, lineOf, linesFrom, linesOf, longestLine, LineBounded}
-use Rattle.redact.proofs.Runs.{run-first, run-within}
+use Rattle.alignment_lines.specs.Lines.{runOf, lineOf, linesFrom, linesOf, longestLine, LineBounded}
+use Rattle.alignment_lines.proofs.Runs.{run-first, run-within}
 
 -- a line: room for each field, and all four
 pub length-line : (first count start end : ℕ) → length (lineOf first count start end) ≡ length (field first 0x09) + (length (field count 0x09) + (length (field start 0x09) + length (field end 0x0A)))
@@ -116,3 +116,7 @@ module _ {starts ends d₀ d : List ℕ} {at to : ℕ} (l : Lining starts ends d
       let none : linesFrom at 0 (drop at starts) (drop at ends) ≡ [] = rw (drop-of-length-le starts past) (lines-none at _) in
       let all : splice d to [] ≡ splice d₀ 0 (linesOf starts ends) = rw none at (l .rest) in
       (omega (arith, l .reach, ap length none), sym (splice-nil d to) ∙ all ∙ splice-overlay d₀ _)
+
+-- lines that are written stand in the buffer
+pub lines-fit : (starts ends d₀ : List ℕ) {d : List ℕ} {r : ℕ} → (r ≡ length (linesOf starts ends)) × (d ≡ overlay (linesOf starts ends) d₀) → r ≤ length d
+lines-fit starts ends d₀ h = rw (h .1, h .0) (overlay-long _ _)

@@ -2,10 +2,10 @@
 use Prim.Native.Nat.{_-_}
 use native.Mathlib.Omega.{arith}
 use lib.ListN.{length}
-use Rattle.redact.proofs.Runs.{run-within}
-use Rattle.redact.proofs.Lines.{Lining, no-line, line-room, one-line, every-line}
-use Rattle.redact.proofs.alignments.write_lines.Statement.{statement}
-use Rattle.redact.proofs.alignments.write_lines.Tie as tie
+use Rattle.alignment_lines.proofs.Runs.{run-within}
+use Rattle.alignment_lines.proofs.Lines.{Lining, no-line, line-room, one-line, every-line}
+use Rattle.alignment_lines.proofs.write_lines.Statement.{statement}
+use Rattle.alignment_lines.proofs.write_lines.Tie as tie
 
 abbrev Inv-loop : tie.InvT-loop
 Inv-loop starts ends out₀ at₀ size₀ out at size = Lining starts ends out₀ out at size

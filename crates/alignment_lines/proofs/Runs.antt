@@ -11,7 +11,7 @@ use lib.Seq.{drop-cons}
 use borrow.Author.Tests.{eq-eqb, ne-eqb}
 use Rattle.buffers.proofs.Cases.{true-or-false}
 use Rattle.buffers.proofs.Booleans.{and-false-r}
-use Rattle.redact.specs.Lines.{runOf}
+use Rattle.alignment_lines.specs.Lines.{runOf}
 
 -- the bytes from `at` to i carry the alignment (start, end): what is left of the run begins at i
 pub record WalkedRun (starts ends : List ℕ) (at start end i : ℕ) : Type 0 where

@@ -7,7 +7,7 @@ ghost use Prim.Native.Nat.{_+_, _*_, _≤_, _<_};
 ghost use lib.ListN.{length, getD, drop};
 ghost use Rattle.buffers.specs.Splice.{overlay, Laid};
 ghost use Rattle.note.specs.Notes.{limit};
-ghost use Rattle.redact.specs.Lines.{lineOf, linesOf, longestLine, runOf};
+ghost use Rattle.alignment_lines.specs.Lines.{lineOf, linesOf, longestLine, runOf};
 
 // Bytes that are enough for a line: four numbers of five digits, each with a byte after it.
 pub const LINE: usize = 24;

@@ -1,8 +1,8 @@
 -- One field behind the other; after each there is room for those that are left.
 use borrow.Author.Needs.{needs}
-use Rattle.redact.proofs.Lines.{first-room, second-room, third-room, fourth-room, line-laid}
-use Rattle.redact.proofs.alignments.write_line.Statement.{statement}
-use Rattle.redact.proofs.alignments.write_line.Tie as tie
+use Rattle.alignment_lines.proofs.Lines.{first-room, second-room, third-room, fourth-room, line-laid}
+use Rattle.alignment_lines.proofs.write_line.Statement.{statement}
+use Rattle.alignment_lines.proofs.write_line.Tie as tie
 
 write-field-requires-4 : tie.Need-write-field-requires-4
 write-field-requires-4 c κs =

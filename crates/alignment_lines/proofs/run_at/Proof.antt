@@ -2,9 +2,9 @@
 use Prim.Native.Nat.{_-_}
 use native.Mathlib.Omega.{arith}
 use lib.ListN.{length}
-use Rattle.redact.proofs.Runs.{WalkedRun, none-walked, one-walked, at-end, other-start, other-end}
-use Rattle.redact.proofs.alignments.run_at.Statement.{statement}
-use Rattle.redact.proofs.alignments.run_at.Tie as tie
+use Rattle.alignment_lines.proofs.Runs.{WalkedRun, none-walked, one-walked, at-end, other-start, other-end}
+use Rattle.alignment_lines.proofs.run_at.Statement.{statement}
+use Rattle.alignment_lines.proofs.run_at.Tie as tie
 
 abbrev Inv-loop : tie.InvT-loop
 Inv-loop starts ends at start end i₀ i = WalkedRun starts ends at start end i
