@@ -2,6 +2,7 @@
 //! docs/DIFFERENCES.md, run on the original, and on this library where it has the call.
 
 mod converting;
+mod editing;
 mod limits;
 mod office;
 mod positions;
@@ -9,12 +10,10 @@ mod replacing;
 mod slicing;
 mod splitting;
 
-use crate::library::{self, Cutting, Offsets, Publishing};
+use crate::library::{self, Cutting, Offsets};
 use crate::note::Note;
-use crate::places::{self, Place};
 use crate::split;
 use crate::tally::{Report, Tally};
-use crate::texts::LIMIT;
 use std::fmt::Debug;
 use std::ops;
 use std::panic::{self, AssertUnwindSafe};
@@ -29,6 +28,7 @@ pub fn compare(report: &mut Report) {
         converting::compare(tally);
         positions::compare(tally);
         replacing::compare(tally);
+        editing::compare(tally);
         slicing::compare(tally);
         splitting::compare(tally);
     });
@@ -68,39 +68,6 @@ fn converts(
 /// A note with any alignments.
 fn note_of(original: &str, normalized: &str, alignments: &[Pair]) -> NormalizedString {
     NormalizedString::of_fields(original.into(), normalized.into(), alignments.to_vec(), 0)
-}
-
-/// What this library publishes, or its refusal.
-fn replaced_here(note: &Note, places: &[Place], content: &str) -> Result<Note, u32> {
-    let (mut text, mut starts, mut ends) = (vec![0; LIMIT], vec![0; LIMIT], vec![0; LIMIT]);
-    let out = Publishing { text: &mut text, starts: &mut starts, ends: &mut ends };
-    let answer = library::replace(note, &places::bytes(places), content.as_bytes(), out);
-    if answer.refusal > 0 {
-        return Err(answer.refusal);
-    }
-    let count = answer.count as usize;
-    text.truncate(count);
-    starts.truncate(count);
-    ends.truncate(count);
-    Ok(Note { normalized: text, starts, ends, ..note.clone() })
-}
-
-/// The slice that this library cuts, as a note of its own, or its refusal.
-fn sliced_here(note: &Note, range: Range<ops::Range<usize>>) -> Result<Note, u32> {
-    let (of_original, asked) = (matches!(range, Range::Original(_)), range.unwrap());
-    let (mut starts, mut ends) = (vec![0; LIMIT], vec![0; LIMIT]);
-    let answer = library::slice(note, of_original, (asked.start as u32, asked.end as u32), &mut starts, &mut ends);
-    if answer.refusal > 0 {
-        return Err(answer.refusal);
-    }
-    let part = |text: &[u8], (start, end): (u32, u32)| match start == end {
-        true => vec![],
-        false => text[start as usize..end as usize].to_vec(),
-    };
-    let (original, normalized) = (part(&note.original, answer.original()), part(&note.normalized, answer.normalized()));
-    starts.truncate(normalized.len());
-    ends.truncate(normalized.len());
-    Ok(Note { original, normalized, starts, ends, original_shift: answer.original_shift })
 }
 
 /// Where this library cuts the cleaned text, or its refusal.

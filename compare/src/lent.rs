@@ -1,30 +1,37 @@
 //! Buffers lent to a call. What stands around the lent part, and in it at entry, is a known pattern, so that every
 //! write outside the result is seen.
 
+use std::sync::OnceLock;
+
 const GUARD: usize = 128;
 
+/// So many elements of the pattern are made once for all buffers of a kind.
+const KEPT: usize = 1 << 17;
+
 /// What a lent buffer holds.
-pub trait Number: Copy + PartialEq {
+pub trait Number: Copy + PartialEq + 'static {
     fn lowest_bits(of: u64) -> Self;
+
+    /// The front of the pattern.
+    fn kept() -> &'static [Self];
 }
 
-impl Number for u8 {
-    fn lowest_bits(of: u64) -> u8 {
-        of as u8
-    }
+macro_rules! numbers {
+    ($($number:ty)*) => {
+        $(impl Number for $number {
+            fn lowest_bits(of: u64) -> Self {
+                of as Self
+            }
+
+            fn kept() -> &'static [Self] {
+                static FRONT: OnceLock<Vec<$number>> = OnceLock::new();
+                FRONT.get_or_init(|| (0..KEPT).map(pattern).collect())
+            }
+        })*
+    };
 }
 
-impl Number for u16 {
-    fn lowest_bits(of: u64) -> u16 {
-        of as u16
-    }
-}
-
-impl Number for u32 {
-    fn lowest_bits(of: u64) -> u32 {
-        of as u32
-    }
-}
+numbers!(u8 u16 u32);
 
 pub struct Lent<T> {
     memory: Vec<T>,
@@ -33,7 +40,9 @@ pub struct Lent<T> {
 
 impl<T: Number> Lent<T> {
     pub fn new(len: usize) -> Self {
-        Lent { memory: (0..len + 2 * GUARD).map(pattern).collect(), len }
+        let all = len + 2 * GUARD;
+        let kept = &T::kept()[..all.min(KEPT)];
+        Lent { memory: kept.iter().copied().chain((kept.len()..all).map(pattern)).collect(), len }
     }
 
     pub fn part(&mut self) -> &mut [T] {
@@ -43,8 +52,14 @@ impl<T: Number> Lent<T> {
     /// Whether the lent part begins with `result` and all the rest keeps its entry contents.
     pub fn holds(&self, result: &[T]) -> bool {
         let end = GUARD + result.len();
-        self.memory[GUARD..].starts_with(result)
-            && (0..GUARD).chain(end..self.memory.len()).all(|i| self.memory[i] == pattern(i))
+        self.memory[GUARD..].starts_with(result) && self.untouched(0, GUARD) && self.untouched(end, self.memory.len())
+    }
+
+    fn untouched(&self, from: usize, to: usize) -> bool {
+        let kept = to.min(KEPT).max(from);
+        let front = T::kept().get(from..kept).unwrap_or_default();
+        self.memory[from..from + front.len()] == *front
+            && (from + front.len()..to).all(|i| self.memory[i] == pattern(i))
     }
 }
 

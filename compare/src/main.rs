@@ -15,6 +15,7 @@ mod lent;
 mod library;
 mod list;
 mod lists;
+mod made;
 mod note;
 mod notes;
 mod pieces;
@@ -37,18 +38,23 @@ use std::process::ExitCode;
 
 fn main() -> ExitCode {
     match std::env::args().nth(1).as_deref() {
-        None => compare(),
-        Some("bench") => bench::measure(std::env::args().nth(2).unwrap_or_default()),
+        None => compare(String::new()),
+        Some("only") => compare(word()),
+        Some("bench") => bench::measure(word()),
         Some("list") => answers::write(),
         Some(_) => {
-            eprintln!("usage: compare/run [bench [WORD] | list]");
+            eprintln!("usage: compare/run [only WORD | bench [WORD] | list]");
             ExitCode::from(2)
         }
     }
 }
 
-fn compare() -> ExitCode {
-    let mut report = tally::Report::default();
+fn word() -> String {
+    std::env::args().nth(2).unwrap_or_default()
+}
+
+fn compare(word: String) -> ExitCode {
+    let mut report = tally::Report::of(word);
     characters::compare(&mut report);
     notes::compare(&mut report);
     convert::compare(&mut report);

@@ -67,20 +67,20 @@ pub fn published(
 }
 
 /// The lengths of the three lent buffers.
-type Rooms = Vec<[usize; 3]>;
+pub type Rooms = Vec<[usize; 3]>;
 
 /// Just large enough, or larger.
-fn ample(len: usize) -> Rooms {
+pub fn ample(len: usize) -> Rooms {
     vec![[len, len + 1, len + 2]]
 }
 
 /// As above, and none at all.
-fn ample_or_none(len: usize) -> Rooms {
+pub fn ample_or_none(len: usize) -> Rooms {
     vec![[len, len + 1, len + 2], [0; 3]]
 }
 
 /// Just large enough, larger, and short in each in turn, in all, and by far.
-fn rooms(len: usize) -> Rooms {
+pub fn rooms(len: usize) -> Rooms {
     let short = len.saturating_sub(1);
     vec![
         [len, len, len],

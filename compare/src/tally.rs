@@ -13,12 +13,21 @@ pub fn refusal(number: u32) -> &'static str {
 
 #[derive(Default)]
 pub struct Report {
+    /// What is compared: the calls whose name has this word.
+    word: String,
     passed: u32,
     failed: u32,
 }
 
 impl Report {
+    pub fn of(word: String) -> Self {
+        Report { word, ..Report::default() }
+    }
+
     pub fn call(&mut self, name: &str, beside: &str, compare: impl FnOnce(&mut Tally)) {
+        if !name.contains(&self.word) {
+            return;
+        }
         println!("{name} beside {beside}");
         let mut tally = Tally::default();
         compare(&mut tally);

@@ -1,7 +1,8 @@
 //! What the Rust original takes or panics on, and this library refuses; and the other way round.
 
-use super::{code_answers, note_of, panics, replaced_here};
+use super::{code_answers, note_of, panics};
 use crate::library::{self, Offsets};
+use crate::made;
 use crate::note::Note;
 use crate::places::{Given, Place};
 use crate::refusals::{BAD_MATCHES, ILL_FORMED, LENGTH_MISMATCH, MISALIGNED, NO_ROOM, TOO_LONG};
@@ -38,7 +39,7 @@ fn results(tally: &mut Tally) {
     let mut theirs = note.clone();
     theirs.replace("a", &filler).expect("a literal is a regular expression");
     code_answers(tally, "a by 65536 x", LIMIT + 1, theirs.len());
-    let ours = replaced_here(&Note::from(&note), &[((0, 1), true)], &filler);
+    let ours = made::replaced(&Note::from(&note), &[((0, 1), true)], &filler);
     code_answers(tally, "a by 65536 x", Some(NO_ROOM), ours.err());
 }
 
@@ -76,7 +77,7 @@ fn broken_lists(tally: &mut Tally) {
     for (text, places) in lists {
         let (note, input) = (NormalizedString::from(text), format!("{text}, {places:?}"));
         code_answers(tally, &input, true, panics(|| note.clone().replace(Given(places.to_vec()), "x")));
-        code_answers(tally, &input, Some(BAD_MATCHES), replaced_here(&Note::from(&note), places, "x").err());
+        code_answers(tally, &input, Some(BAD_MATCHES), made::replaced(&Note::from(&note), places, "x").err());
     }
 }
 

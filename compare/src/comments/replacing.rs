@@ -1,7 +1,8 @@
 //! What the comments of `replace` and of patterns say.
 
-use super::{code_answers, note_of, panics, replaced_here};
+use super::{code_answers, note_of, panics};
 use crate::library;
+use crate::made;
 use crate::note::Note;
 use crate::places::{self, Given, Place};
 use crate::refusals::BAD_MATCHES;
@@ -106,7 +107,7 @@ fn lists_that_do_not_cover(tally: &mut Tally) {
     for (places, said) in lists {
         let input = format!("abc, {places:?}");
         code_answers(tally, &input, said, fields(&replaced_by(&note, places, "x")));
-        code_answers(tally, &input, Some(BAD_MATCHES), replaced_here(&Note::from(&note), places, "x").err());
+        code_answers(tally, &input, Some(BAD_MATCHES), made::replaced(&Note::from(&note), places, "x").err());
     }
 }
 

@@ -1,6 +1,7 @@
 //! What the comments of `slice`, `validate_range` and `original_shift` say.
 
-use super::{code_answers, note_of, sliced_here};
+use super::{code_answers, note_of};
+use crate::made;
 use crate::note::Note;
 use crate::refusals::{MISSING, NOT_BOUNDARY, TOO_LONG};
 use crate::tally::Tally;
@@ -29,7 +30,7 @@ fn slices(tally: &mut Tally, note: &NormalizedString, range: Range<ops::Range<us
     let input = format!("{range:?} of {note:?}");
     let theirs = note.slice(range.clone());
     code_answers(tally, &input, said.ok(), theirs.as_ref().map(fields));
-    let ours = sliced_here(&Note::from(note), range).map(|slice| slice.of_the_original());
+    let ours = made::sliced(&Note::from(note), range).map(|slice| slice.of_the_original());
     code_answers(tally, &input, said, ours.as_ref().map(fields).map_err(|&refusal| refusal));
 }
 
@@ -74,7 +75,7 @@ fn empty_slices(tally: &mut Tally) {
     // Past the limit: what is answered is no note that could be lent again.
     let last = NormalizedString::of_fields("".into(), "abc".into(), vec![(0, 0); 3], LIMIT);
     slices(tally, &last, Normalized(3..3), Ok(("", "", LIMIT + 3)));
-    let slice = sliced_here(&Note::from(&last), Normalized(3..3)).map(|slice| slice.refusal());
+    let slice = made::sliced(&Note::from(&last), Normalized(3..3)).map(|slice| slice.refusal());
     code_answers(tally, "shift 65538", Ok(TOO_LONG), slice);
 }
 

@@ -1,0 +1,186 @@
+//! Every edit of some kind on every short note.
+
+use super::edit::{bytes, check_sound, starves, Change, Edit};
+use crate::every;
+use crate::note::Note;
+use crate::replace::Rooms;
+use crate::samples::sound_notes;
+use crate::tally::Tally;
+use std::panic::{self, AssertUnwindSafe};
+use tokenizers::normalizer::Range;
+use tokenizers::NormalizedString;
+
+const STRINGS: [&str; 8] = ["", "x", "é", "漢", "😀", "xé", "日x", "xyz"];
+
+/// Every sound note of up to two characters on transcripts of up to two, and some of three.
+fn notes() -> Vec<Note> {
+    let mut notes = vec![];
+    for original in ["", "a", "é", "ab"] {
+        for normalized in every::strings(2) {
+            notes.extend(sound_notes(original, &normalized));
+        }
+    }
+    notes.extend(longer_notes());
+    notes
+}
+
+fn longer_notes() -> Vec<Note> {
+    [("a", "aéb"), ("é", "abé"), ("ab", "éab"), ("aé", "b漢")]
+        .iter()
+        .flat_map(|texts| sound_notes(texts.0, texts.1))
+        .collect()
+}
+
+fn fresh(text: &str) -> Note {
+    Note::from(&NormalizedString::from(text))
+}
+
+/// In a room that is just large enough, in larger ones, and in one that is short in one buffer.
+fn enough_or_short(len: usize) -> Rooms {
+    let short = (len > 0).then(|| [len, len - 1, len]);
+    [Some([len, len + 1, len + 2]), short].into_iter().flatten().collect()
+}
+
+/// Just large enough, or larger.
+fn enough(len: usize) -> Rooms {
+    vec![[len, len + 1, len + 2]]
+}
+
+/// Every script of so many commands with these characters, and removals of 1 and 2.
+fn scripts(len: usize, characters: &[char]) -> Vec<Vec<Change>> {
+    let changes: Vec<Change> =
+        characters.iter().flat_map(|&character| [0, 1, -1, -2].map(|change| (character, change))).collect();
+    every::list(&changes, len).collect()
+}
+
+pub fn every_range(tally: &mut Tally) {
+    tally.family("every script of up to 2 commands, every range and offset, on every short sound note");
+    for note in notes() {
+        for len in 0..=2 {
+            ranges(tally, &note, &scripts(len, &['x', 'é']), 0..note.normalized.len() + 2, enough_or_short);
+        }
+    }
+    tally.family("every script of 3 commands, every range and offset, on every short sound note");
+    for note in notes() {
+        ranges(tally, &note, &scripts(3, &['x', 'é']), 0..3, enough);
+    }
+    tally.family("every script of 4 commands, every range, on starting notes of up to 3 characters");
+    for text in every::strings(3) {
+        ranges(tally, &fresh(&text), &scripts(4, &['é']), 0..2, enough);
+    }
+    judged_by_the_rust(tally);
+}
+
+/// Every range of either text, up to two bytes past both, in every room.
+fn ranges(
+    tally: &mut Tally,
+    note: &Note,
+    scripts: &[Vec<Change>],
+    offsets: std::ops::Range<usize>,
+    rooms: fn(usize) -> Rooms,
+) {
+    let last = note.original.len().max(note.normalized.len()) + 1;
+    for script in scripts {
+        let script = bytes(script);
+        for (start, end) in every::pair(last) {
+            for offset in offsets.clone() {
+                for of_original in [false, true] {
+                    let range = (of_original, start as u32, end as u32);
+                    let edit = Edit::TransformRange(range, script.clone(), offset as u32);
+                    check_sound(tally, note, &edit, rooms);
+                }
+            }
+        }
+    }
+}
+
+/// The Rust reads behind its range where there is something: on the note cut at the range's end it panics instead.
+fn judged_by_the_rust(tally: &mut Tally) {
+    tally.family("7 exactly where the Rust panics on the note cut at the range's end: scripts of up to 3, all offsets");
+    let hook = panic::take_hook();
+    panic::set_hook(Box::new(|_| {}));
+    for note in notes() {
+        let theirs = note.of_the_original();
+        let text = theirs.get();
+        for end in (0..=text.len()).filter(|&end| text.is_char_boundary(end)) {
+            let alignments = theirs.alignments()[..end].to_vec();
+            let cut = NormalizedString::of_fields(theirs.get_original().into(), text[..end].into(), alignments, 0);
+            for start in (0..=end).filter(|&start| text.is_char_boundary(start)) {
+                for changes in (0..=3).flat_map(|len| scripts(len, &['é'])) {
+                    for offset in 0..4 {
+                        let mut cut = cut.clone();
+                        let run = AssertUnwindSafe(|| {
+                            cut.transform_range(Range::Normalized(start..end), changes.iter().copied(), offset);
+                        });
+                        let panicked = panic::catch_unwind(run).is_err();
+                        let starved = starves(text[start..end].chars().count(), &changes, offset);
+                        let range = (false, start as u32, end as u32);
+                        let edit = Edit::TransformRange(range, bytes(&changes), offset as u32);
+                        let ours = edit.answer(&note, 32).0.refusal;
+                        let said = if starved { 7 } else { 0 };
+                        tally.case(crate::tally::refusal(ours), panicked != starved || ours != said, || {
+                            format!("ours {ours}, panics {panicked}, counted {starved}: {edit:?} on {note}")
+                        });
+                    }
+                }
+            }
+        }
+    }
+    panic::set_hook(hook);
+}
+
+pub fn every_script(tally: &mut Tally) {
+    tally.family("every script of up to 3 commands, every offset, on every short sound note");
+    for note in notes() {
+        for script in (0..=3).flat_map(|len| scripts(len, &['x', 'é'])) {
+            for offset in 0..4 {
+                check_sound(tally, &note, &Edit::Transform(bytes(&script), offset), enough_or_short);
+            }
+        }
+    }
+}
+
+fn characters(note: &Note) -> usize {
+    std::str::from_utf8(&note.normalized).expect("a sound note").chars().count()
+}
+
+/// As many as characters, one more and one fewer.
+fn counts(note: &Note) -> std::ops::RangeInclusive<usize> {
+    let count = characters(note);
+    count.saturating_sub(1)..=count + 1
+}
+
+pub fn every_map(tally: &mut Tally) {
+    tally.family("every list of code points out of 4, as many as characters, one more and one fewer");
+    for note in notes() {
+        for list in counts(&note).flat_map(|len| every::list(&['x', 'é', '日', '😀'], len)) {
+            let codes = list.iter().map(|&character| character as u32).collect();
+            check_sound(tally, &note, &Edit::Map(codes), enough_or_short);
+        }
+    }
+}
+
+pub fn every_filter(tally: &mut Tally) {
+    tally.family("every list of flags out of 0, 1, 128 and 255, as many as characters, one more and one fewer");
+    for note in notes() {
+        for flags in counts(&note).flat_map(|len| every::list(&[0, 1, 128, 255], len)) {
+            check_sound(tally, &note, &Edit::Filter(flags), enough_or_short);
+        }
+    }
+}
+
+pub fn every_string(tally: &mut Tally, edit: fn(Vec<u8>) -> Edit) {
+    tally.family("8 strings on every short sound note");
+    for note in notes() {
+        for string in STRINGS {
+            check_sound(tally, &note, &edit(string.into()), enough_or_short);
+        }
+    }
+}
+
+pub fn every_clear(tally: &mut Tally) {
+    tally.family("every short sound note");
+    for note in notes() {
+        check_sound(tally, &note, &Edit::Clear, enough_or_short);
+    }
+}
