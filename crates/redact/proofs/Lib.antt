@@ -1,7 +1,5 @@
--- Laws of blanking, and of lines.
+-- Laws of blanking.
 pub mod BlankedSize
 pub mod Blanks
 pub mod Redacting
 pub mod Keeping
-pub mod Runs
-pub mod Lines

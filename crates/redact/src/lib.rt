@@ -2,7 +2,6 @@
 // laid stretch by stretch straight from the text: neither the starting note nor a list is written. All is judged and
 // measured before the first store, and nothing twice: the starting note is accepted (`StartingAccepted`), and what is
 // found covers its text (`FoundCovers`).
-pub mod alignments;
 pub mod stretches;
 
 use buffers::Offset;

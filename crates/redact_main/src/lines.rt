@@ -1,14 +1,14 @@
 // The alignments of a published text, as lines to standard output.
+use alignment_lines::LINE;
+use alignment_lines::write_lines;
 use buffers::Offset;
 use libc::STDOUT_FILENO;
 use note::LIMIT;
-use redact::alignments::LINE;
-use redact::alignments::write_lines;
 ghost use mathlib.Core.Path.{_≡_};
 ghost use Prim.Native.Nat.{_*_, _≤_};
 ghost use lib.ListN.{length};
 ghost use Rattle.note.specs.Notes.{limit};
-ghost use Rattle.redact.specs.Lines.{longestLine};
+ghost use Rattle.alignment_lines.specs.Lines.{longestLine};
 
 // A line for each byte of the longest text.
 const LINES: usize = LINE * LIMIT;

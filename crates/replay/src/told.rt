@@ -3,8 +3,8 @@ use buffers::Offset;
 use stored_answers::columns::are_numbers;
 use stored_answers::columns::are_offsets;
 use stored_answers::fields::is_number;
+use stored_answers::fields::is_size;
 use stored_answers::fields::is_text;
-use stored_answers::fields::value;
 use zulmyren::answers::Count;
 use zulmyren::answers::Listed;
 use zulmyren::answers::Offsets;
@@ -31,9 +31,12 @@ pub fn is_range(case: &[u8], index: usize, answer: Offsets) -> bool
 // The refusal, the list's size, the list.
 pub fn is_list(case: &[u8], index: usize, answer: Listed, list: &[u8]) -> bool
     requires { ⌜ index < 100 ⌝ }
+    ensures { λ r. ⌜ r ≡ (isNumber (fieldOf index (now (case .entry))) (answer .refusal)
+        && isNumber (fieldOf (index + 1) (now (case .entry))) (answer .len))
+        && same (fieldOf (index + 2) (now (case .entry))) (now (list .entry)) ⌝ }
 {
     is_number(case, index, answer.refusal)
-        & (value(case, index + 1) as usize == answer.len)
+        & is_size(case, index + 1, answer.len)
         & is_text(case, index + 2, list)
 }
 
@@ -104,6 +107,11 @@ pub fn is_published(
     ends: &[Offset],
 ) -> bool
     requires { ⌜ index < 98 ⌝ }
+    ensures { λ r. ⌜ r ≡ (isNumber (fieldOf index (now (case .entry))) (answer .refusal)
+        && isNumber (fieldOf (index + 1) (now (case .entry))) (answer .count))
+        && ((same (fieldOf (index + 2) (now (case .entry))) (now (text .entry))
+        && same (now (starts .entry)) (offsetsOf limit (fieldOf (index + 2 + 1) (now (case .entry)))))
+        && same (now (ends .entry)) (offsetsOf limit (fieldOf (index + 2 + 2) (now (case .entry))))) ⌝ }
 {
     is_number(case, index, answer.refusal)
         & is_number(case, index + 1, answer.count)

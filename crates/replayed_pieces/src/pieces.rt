@@ -11,6 +11,11 @@ use stored_answers::fields::field;
 use stored_answers::fields::value;
 use zulmyren::slices::zulmyren_get_splits;
 use zulmyren::slices::zulmyren_split;
+ghost use Rattle.note.specs.Notes.{limit};
+ghost use Rattle.split.specs.Splitting.{columns};
+ghost use Rattle.stored_answers.specs.Framing.{fieldOf};
+ghost use Rattle.stored_answers.specs.Differences.{numbersOf, offsetsOf};
+ghost use Rattle.replayed_pieces.specs.Replaying.{SplitReplayed, SplitsReplayed};
 
 fn cut(
     case: &[u8],
@@ -22,7 +27,11 @@ fn cut(
     lengths: &mut [Offset],
     out_starts: &mut [Offset],
     out_ends: &mut [Offset],
-) -> bool {
+) -> bool
+    ensures { λ r. ⌜ SplitReplayed (now (case .entry)) (now (starts .entry)) (now (ends .entry))
+        (columns (now («piece_starts» .entry)) (now («piece_ends» .entry)) (now (shifts .entry))
+        (now (lengths .entry)) (now («out_starts» .entry)) (now («out_ends» .entry))) r ⌝ }
+{
     let answer = zulmyren_split(
         field(case, 0),
         field(case, 1),
@@ -53,7 +62,12 @@ fn cut_beside(
     piece_ends: &mut [Offset],
     shifts: &mut [u32],
     lengths: &mut [Offset],
-) -> bool {
+) -> bool
+    ensures { λ r. ⌜ SplitReplayed (now (case .entry)) (now (starts .entry)) (now (ends .entry))
+        (columns (now («piece_starts» .entry)) (now («piece_ends» .entry)) (now (shifts .entry))
+        (now (lengths .entry)) (offsetsOf limit (fieldOf 12 (now (case .entry))))
+        (offsetsOf limit (fieldOf 13 (now (case .entry))))) r ⌝ }
+{
     let mut out_starts = zeros();
     let mut out_ends = zeros();
     let s = offsets(case, 12, &mut out_starts);
@@ -78,7 +92,12 @@ fn cut_spans(
     ends: &[Offset],
     piece_starts: &mut [Offset],
     piece_ends: &mut [Offset],
-) -> bool {
+) -> bool
+    ensures { λ r. ⌜ SplitReplayed (now (case .entry)) (now (starts .entry)) (now (ends .entry))
+        (columns (now («piece_starts» .entry)) (now («piece_ends» .entry))
+        (numbersOf (fieldOf 10 (now (case .entry)))) (offsetsOf limit (fieldOf 11 (now (case .entry))))
+        (offsetsOf limit (fieldOf 12 (now (case .entry)))) (offsetsOf limit (fieldOf 13 (now (case .entry))))) r ⌝ }
+{
     let mut shifts = [0; FEW];
     let mut lengths = zeros();
     let s = numbers(case, 10, &mut shifts);
@@ -96,7 +115,12 @@ fn cut_spans(
 
 // 1 where empty pieces are dropped, the six lent columns; the refusal, how many pieces, how many alignments, the
 // columns.
-pub fn split(case: &[u8], starts: &[Offset], ends: &[Offset]) -> bool {
+pub fn split(case: &[u8], starts: &[Offset], ends: &[Offset]) -> bool
+    ensures { λ r. ⌜ SplitReplayed (now (case .entry)) (now (starts .entry)) (now (ends .entry))
+        (columns (offsetsOf limit (fieldOf 8 (now (case .entry)))) (offsetsOf limit (fieldOf 9 (now (case .entry))))
+        (numbersOf (fieldOf 10 (now (case .entry)))) (offsetsOf limit (fieldOf 11 (now (case .entry))))
+        (offsetsOf limit (fieldOf 12 (now (case .entry)))) (offsetsOf limit (fieldOf 13 (now (case .entry))))) r ⌝ }
+{
     let mut piece_starts = zeros();
     let mut piece_ends = zeros();
     let s = offsets(case, 8, &mut piece_starts);
@@ -116,7 +140,10 @@ fn listed(
     ends: &[Offset],
     out_starts: &mut [u32],
     out_ends: &mut [u32],
-) -> bool {
+) -> bool
+    ensures { λ r. ⌜ SplitsReplayed (now (case .entry)) (now (starts .entry)) (now (ends .entry))
+        (now («out_starts» .entry)) (now («out_ends» .entry)) r ⌝ }
+{
     let answer = zulmyren_get_splits(
         field(case, 0),
         field(case, 1),
@@ -134,7 +161,10 @@ fn listed(
 }
 
 // 1 for the transcript, 1 for characters, the lent starts and ends; the refusal, how many there are, the two columns.
-pub fn get_splits(case: &[u8], starts: &[Offset], ends: &[Offset]) -> bool {
+pub fn get_splits(case: &[u8], starts: &[Offset], ends: &[Offset]) -> bool
+    ensures { λ r. ⌜ SplitsReplayed (now (case .entry)) (now (starts .entry)) (now (ends .entry))
+        (numbersOf (fieldOf 9 (now (case .entry)))) (numbersOf (fieldOf 10 (now (case .entry)))) r ⌝ }
+{
     let mut out_starts = [0; FEW];
     let mut out_ends = [0; FEW];
     let s = numbers(case, 9, &mut out_starts);

@@ -7,6 +7,10 @@ use stored_answers::columns::zeros;
 use stored_answers::fields::field;
 use stored_answers::fields::value;
 use zulmyren::slices::zulmyren_slice;
+ghost use Rattle.note.specs.Notes.{limit};
+ghost use Rattle.stored_answers.specs.Framing.{fieldOf};
+ghost use Rattle.stored_answers.specs.Differences.{offsetsOf};
+ghost use Rattle.replayed_pieces.specs.Replaying.{SliceReplayed};
 
 fn sliced(
     case: &[u8],
@@ -14,7 +18,10 @@ fn sliced(
     ends: &[Offset],
     out_starts: &mut [Offset],
     out_ends: &mut [Offset],
-) -> bool {
+) -> bool
+    ensures { λ r. ⌜ SliceReplayed (now (case .entry)) (now (starts .entry)) (now (ends .entry))
+        (now («out_starts» .entry)) (now («out_ends» .entry)) r ⌝ }
+{
     let answer = zulmyren_slice(
         field(case, 0),
         field(case, 1),
@@ -31,7 +38,10 @@ fn sliced(
 }
 
 // A note, a range, the lent starts and ends; the refusal, the two ranges, the shift, the two columns.
-pub fn slice(case: &[u8], starts: &[Offset], ends: &[Offset]) -> bool {
+pub fn slice(case: &[u8], starts: &[Offset], ends: &[Offset]) -> bool
+    ensures { λ r. ⌜ SliceReplayed (now (case .entry)) (now (starts .entry)) (now (ends .entry))
+        (offsetsOf limit (fieldOf 8 (now (case .entry)))) (offsetsOf limit (fieldOf 9 (now (case .entry)))) r ⌝ }
+{
     let mut out_starts = zeros();
     let mut out_ends = zeros();
     let s = offsets(case, 8, &mut out_starts);

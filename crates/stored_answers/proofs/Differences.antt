@@ -58,7 +58,10 @@ module _ {width : ℕ} {s d₀ : List ℕ} {n : ℕ} {d : List ℕ} {last i : �
       let all : Laid (summed width n 0 s) d₀ 0 i d = all-laid (m .laying) (rw none (summed-none width last (drop (i * 4) s))) in
       (counted n d (m .room), rw (← here, ← is) (rw end at all))
 
+-- a buffer that is filled from a field, up to where it is filled
+pub filled : (width room : ℕ) (field : List ℕ) {d₀ d : List ℕ} {end : ℕ} → Laid (columnOf width (length d₀) field) d₀ 0 end d → length d₀ ≡ room → take end d ≡ columnOf width room field
+filled width room field l long = take-laid l ∙ ap (λ k. columnOf width k field) long
+
 -- a lent buffer beside the column of a field
 pub same-column : (width room : ℕ) (column field : List ℕ) {d₀ d : List ℕ} {end : ℕ} {r : Bool} → r ≡ same column (take end d) → Laid (columnOf width (length d₀) field) d₀ 0 end d → length d₀ ≡ room → r ≡ same column (columnOf width room field)
-same-column width room column field is l long =
-    is ∙ ap (same column) (take-laid l ∙ ap (λ k. columnOf width k field) long)
+same-column width room column field is l long = is ∙ ap (same column) (filled width room field l long)

@@ -56,14 +56,20 @@ pub fn value(list: &[u8], index: usize) -> u32
 }
 
 // Whether a field is this number, in 4 bytes.
-pub fn is_number(list: &[u8], index: usize, n: u32) -> bool
+pub fn is_size(list: &[u8], index: usize, n: usize) -> bool
     ensures { λ r. ⌜ r ≡ isNumber (fieldOf index (now (list .entry))) n ⌝ }
 {
     let bytes = field(list, index);
     if bytes.len() != 4 {
         return false;
     }
-    number(bytes, 0) == n
+    number(bytes, 0) as usize == n
+}
+
+pub fn is_number(list: &[u8], index: usize, n: u32) -> bool
+    ensures { λ r. ⌜ r ≡ isNumber (fieldOf index (now (list .entry))) n ⌝ }
+{
+    is_size(list, index, n as usize)
 }
 
 // Whether a field is this text.

@@ -3,7 +3,7 @@ use Prim.Native.Nat.{ℕ, _*_}
 use mathlib.Core.Path.{sym}
 use lib.ListN.{length-replicate}
 use Rattle.note.specs.Notes.{limit}
-use Rattle.redact.specs.Lines.{longestLine}
+use Rattle.alignment_lines.specs.Lines.{longestLine}
 use Rattle.redact_main.proofs.lines.lines_buffer.Statement.{statement}
 use Rattle.redact_main.proofs.lines.lines_buffer.Tie as tie
 

@@ -1,0 +1,3 @@
+-- Laws of runs and of lines.
+pub mod Runs
+pub mod Lines

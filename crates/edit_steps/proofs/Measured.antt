@@ -1,0 +1,113 @@
+-- Laws of `measured`: a script is measured command by command.
+use Prim.Native.Nat.{ℕ, _+_, _^_, _≤_, _<_}
+use mathlib.Core.Path.{_≡_, _∙_, ap, refl, sym}
+use mathlib.Core.Bool.{Bool, true, false, cond, _||_}
+use mathlib.Core.List.{List, [], _∷_}
+use native.Mathlib.Omega.{arith}
+use lib.ListN.{length, drop}
+use Rattle.buffers.proofs.Cases.{true-or-false}
+use Rattle.script.specs.declared.Command.{Command}
+use Rattle.script.specs.declared.Entry.{Entry}
+use Rattle.script.specs.declared.Entry.the-variants.{At, Broken}
+use Rattle.script.specs.Scripts.{sizeOf, entryAt, commandsOf}
+use Rattle.script.proofs.Scripts.{Stepped, entry-step, entry-broken, entries-end}
+use Rattle.edit_steps.specs.declared.walking.Progress.{Progress}
+use Rattle.edit_steps.specs.declared.walking.Extent.{Extent}
+use Rattle.edit_steps.specs.declared.walking.Extent.the-variants.{Size, Starved}
+use Rattle.edit_steps.specs.Edits.{skipped, starves, moved, starved}
+use Rattle.edit_steps.specs.Walking.{Standing, Tabled, Counting, sizes, stepped, measured}
+use Rattle.edit_steps.proofs.Positions.{standing-moved, stepped-fed}
+
+-- some commands have gone by: what is left starves and counts as all did
+pub record Passed (s : List ℕ) (b from : ℕ) (all rest : List Command) (g : Progress) : Type 0 where
+  pub starving : starved s b from all ≡ starved s b (g .position) rest
+  pub counted : sizes all ≡ g .written + sizes rest
+  pub standing : Standing s b (g .position)
+
+pub none-passed : {s : List ℕ} {b from : ℕ} {all : List Command} → Standing s b from → Passed s b from all all (record { position = from; written = 0 })
+none-passed at = record { starving = refl; counted = omega arith; standing = at }
+
+module _ {s : List ℕ} {b from : ℕ} {all rest : List Command} {g : Progress} (m : Passed s b from all rest g) where
+  module _ {c : Command} {others : List Command} {t : Bool} (next : rest ≡ c ∷ others) (test : t ≡ starves b (g .position) c) where
+    one : starved s b from all ≡ (t || starved s b (moved s b (g .position) c) others)
+    unfolding starved
+    one = m .starving ∙ rw (next, ← test)
+
+    pub starves-here : t ≡ true → Starved ≡ measured s b from all
+    unfolding measured
+    starves-here e = let yes : starved s b from all ≡ true = one ∙ rw e in rw yes
+
+    pub one-passed : {h : Progress} → t ≡ false → h ≡ stepped s b g c → Passed s b from all others h
+    unfolding sizes
+    one-passed {h} e on =
+        let now : h ≡ record { position = moved s b (g .position) c; written = g .written + sizeOf (c .character) } = on ∙ stepped-fed s b g c test e in
+        let left : sizes rest ≡ sizeOf (c .character) + sizes others = rw next in
+        rw now
+        (record {
+          starving = one ∙ rw e;
+          counted = omega (arith, m .counted, left);
+          standing = standing-moved c (m .standing) .0;
+        })
+
+  pub all-passed : rest ≡ [] → Size (g .written) ≡ measured s b from all
+  unfolding measured starved sizes
+  all-passed none =
+      let feeds : starved s b from all ≡ false = m .starving ∙ rw none in
+      let zero : sizes rest ≡ 0 = rw none in
+      let whole : sizes all ≡ g .written = omega (arith, m .counted) in
+      rw (feeds, whole)
+
+-- the same for a script, read up to i
+pub record Measuring (s : List ℕ) (b from : ℕ) (l : List ℕ) (g : Progress) (i : ℕ) : Type 0 where
+  pub passed : Passed s b from (commandsOf l) (commandsOf (drop i l)) g
+  pub small : g .written ≤ i
+  pub most : i ≤ length l
+
+pub none-measured : {s l : List ℕ} {b from : ℕ} → Standing s b from → Measuring s b from l (record { position = from; written = 0 }) 0
+none-measured at = record { passed = none-passed at; small = omega arith; most = omega arith }
+
+module _ {s l : List ℕ} {b from : ℕ} {g : Progress} {i : ℕ} (m : Measuring s b from l g i) where
+  module _ {entry : Entry} {c : Command} {next : ℕ} {t : Bool} (is : entry ≡ entryAt l i) (there : entry ≡ At c next) (test : t ≡ starves b (g .position) c) where
+    step : Stepped l i c next
+    step = entry-step l is there
+
+    pub starves-there : t ≡ true → Starved ≡ measured s b from (commandsOf l)
+    starves-there e = starves-here (m .passed) (step .commands) test e
+
+    pub counting : {table : List ℕ} → Tabled s b from table → length l < 2 ^ 64 → Counting s b g c table
+    counting t long =
+        record {
+          tabled = record { standing = m .passed .standing; lent = t .lent };
+          counts = omega (arith, m .small, step .onward, step .most);
+        }
+
+    pub one-measured : {h : Progress} → t ≡ false → h ≡ stepped s b g c → Measuring s b from l h next
+    one-measured {h} e on =
+        let now : h ≡ record { position = moved s b (g .position) c; written = g .written + sizeOf (c .character) } = on ∙ stepped-fed s b g c test e in
+        let count : h .written ≡ g .written + sizeOf (c .character) = ap (λ (x : Progress). x .written) now in
+        record {
+          passed = one-passed (m .passed) (step .commands) test e on;
+          small = omega (arith, m .small, step .onward, count);
+          most = step .most;
+        }
+
+  pub broken-measured : {entry : Entry} → i < length l → entry ≡ entryAt l i → entry ≡ Broken → Size (g .written) ≡ measured s b from (commandsOf l)
+  broken-measured h is e = all-passed (m .passed) (entry-broken l h is e .0)
+
+  pub all-measured : length l ≤ i → Size (g .written) ≡ measured s b from (commandsOf l)
+  all-measured h = all-passed (m .passed) (entries-end l h .0)
+
+-- what a measure tells
+module _ (s : List ℕ) (b p : ℕ) (cs : List Command) where
+  pub measured-starved : measured s b p cs ≡ Starved → starved s b p cs ≡ true
+  unfolding measured
+  measured-starved e =
+      true-or-false (starved s b p cs) (λ t. t)
+      (λ u. let z : Size (sizes cs) ≡ Starved = rw u at e in let y : _≡_ {A = ℕ} 0 1 = cc in absurd (omega arith))
+
+  pub measured-size : {size : ℕ} → measured s b p cs ≡ Size size → (starved s b p cs ≡ false) × (size ≡ sizes cs)
+  unfolding measured
+  measured-size {size} e =
+      true-or-false (starved s b p cs)
+      (λ t. let z : Starved ≡ Size size = rw t at e in let y : _≡_ {A = ℕ} 0 1 = cc in absurd (omega arith))
+      (λ u. let z : Size (sizes cs) ≡ Size size = rw u at e in (u, cc))

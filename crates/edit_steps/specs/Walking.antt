@@ -1,0 +1,49 @@
+-- What the inner functions are told and say: a position in the range, the record that goes through a script, the script
+-- measured, and what has been laid into the lent buffers.
+use Prim.Native.Nat.{ℕ, _+_, _-_, _^_, _≤_, _<_}
+use mathlib.Core.Path.{_≡_}
+use mathlib.Core.Bool.{true, false, cond}
+use mathlib.Core.List.{List, [], _∷_, _++_}
+use lib.ListN.{length, drop}
+use Rattle.buffers.specs.Splice.{splice, overlay}
+use Rattle.utf8.specs.Formed.{wellFormed, boundary}
+use Rattle.utf8.specs.Scalar.{bytesOf}
+use Rattle.utf8.specs.Lengths.{lengthTable}
+use Rattle.script.specs.declared.Command.{Command}
+use Rattle.script.specs.Scripts.{sizeOf, commandsOf}
+use Rattle.edit_steps.specs.declared.walking.Progress.{Progress}
+use Rattle.edit_steps.specs.declared.walking.Extent.{Extent}
+use Rattle.edit_steps.specs.declared.walking.Extent.the-variants.{Size, Starved}
+use Rattle.edit_steps.specs.Edits.{starves, moved, starved, characters, carried, given, Edit, begins, edited}
+
+-- a position of a well-formed text, at a boundary before another one or there
+pub record Standing (s : List ℕ) (b p : ℕ) : Type 0 where
+  pub formed : wellFormed s ≡ true
+  pub ends : boundary s b ≡ true
+  pub stands : boundary s p ≡ true
+  pub most : p ≤ b
+
+-- the same, and the table that lengths of characters are read of
+pub record Tabled (s : List ℕ) (b p : ℕ) (table : List ℕ) : Type 0 where
+  pub standing : Standing s b p
+  pub lent : table ≡ lengthTable
+
+-- how many bytes commands give
+unfoldable pub sizes : List Command → ℕ
+sizes [] = 0
+sizes (c ∷ cs) = sizeOf (c .character) + sizes cs
+
+-- a command goes by: the position moves, the bytes are counted; a command that starves leaves both
+unfoldable pub stepped : List ℕ → ℕ → Progress → Command → Progress
+stepped s b g c =
+    cond (starves b (g .position) c) g
+    (record { position = moved s b (g .position) c; written = g .written + sizeOf (c .character) })
+
+-- what a step is told: the text, the range's end, how far the edit is, and that the count does not run over
+pub record Counting (s : List ℕ) (b : ℕ) (g : Progress) (c : Command) (table : List ℕ) : Type 0 where
+  pub tabled : Tabled s b (g .position) table
+  pub counts : g .written + sizeOf (c .character) < 2 ^ 64
+
+-- a script measured from a position on
+unfoldable pub measured : List ℕ → ℕ → ℕ → List Command → Extent
+measured s b p cs = cond (starved s b p cs) Starved (Size (sizes cs))

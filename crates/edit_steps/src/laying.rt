@@ -1,0 +1,176 @@
+// The result of an edit, laid into the lent buffers.
+// Each function here is an inner one: no command of the script starves, and there is room for the result.
+use crate::walking::Progress;
+use crate::walking::step;
+use buffers::Offset;
+use buffers::copy_bytes;
+use buffers::copy_offsets;
+use buffers::fill_offsets;
+use note::before_end;
+use script::Command;
+use script::Entry;
+use script::entry_at;
+use utf8::encode_utf8;
+ghost use mathlib.Core.Path.{_≡_};
+ghost use Prim.Native.Nat.{_+_, _≤_};
+ghost use lib.ListN.{length};
+ghost use Rattle.buffers.specs.Splice.{Laid};
+ghost use Rattle.utf8.specs.Scalar.{bytesOf};
+ghost use Rattle.script.specs.Scripts.{commandsOf, sizeOf};
+ghost use Rattle.edit_steps.specs.Edits.{carries};
+ghost use Rattle.edit_steps.specs.Laying.{CommandLaid, EditLaid, EditRoom, Kept, KeepRoom, Reached, Room};
+ghost use Rattle.edit_steps.specs.Laying.{CommandsLaid, CommandsRoom};
+
+// Bytes that stay, with their alignments, laid into the buffers from `at` on.
+pub fn keep(
+    text: &[u8],
+    starts: &[Offset],
+    ends: &[Offset],
+    from: usize,
+    to: usize,
+    out: &mut [u8],
+    out_starts: &mut [Offset],
+    out_ends: &mut [Offset],
+    at: usize,
+)
+    requires { ⌜ KeepRoom (now text) (now starts) (now ends) from to
+        (now out) (now «out_starts») (now «out_ends») at ⌝ }
+    ensures { λ _. ⌜ Kept (now (text .entry)) (now (starts .entry)) (now (ends .entry)) from to
+        (now (out .entry)) (now («out_starts» .entry)) (now («out_ends» .entry)) at
+        (now (out .exit)) (now («out_starts» .exit)) (now («out_ends» .exit)) ⌝ }
+{
+    copy_bytes(&text[from..to], out, at);
+    copy_offsets(&starts[from..to], out_starts, at);
+    copy_offsets(&ends[from..to], out_ends, at);
+}
+
+// A character's bytes, laid from `at` on; how far they reach.
+fn put_character(character: u32, out: &mut [u8], at: usize) -> usize
+    requires { ⌜ at + sizeOf character ≤ length (now out) ⌝ }
+    ensures { λ r. ⌜ Laid (bytesOf character) (now (out .entry)) at r (now (out .exit)) ⌝ }
+{
+    let encoded = encode_utf8(character);
+    let bytes = encoded.bytes;
+    let len = encoded.len;
+    copy_bytes(&bytes[..len], out, at);
+    at + len
+}
+
+// What a command's character carries of a column.
+fn carries(column: &[Offset], position: usize, command: Command) -> Offset
+    requires { ⌜ Reached (now column) position command ⌝ }
+    ensures { λ r. ⌜ r ≡ carries (now (column .entry)) position command ⌝ }
+{
+    if command.added {
+        return before_end(column, position);
+    }
+    column[position]
+}
+
+// One command's character, with what it carries.
+pub fn lay_command(
+    starts: &[Offset],
+    ends: &[Offset],
+    progress: Progress,
+    command: Command,
+    out: &mut [u8],
+    out_starts: &mut [Offset],
+    out_ends: &mut [Offset],
+)
+    requires { ⌜ Room (now starts) (now ends) progress command (now out) (now «out_starts») (now «out_ends») ⌝ }
+    ensures { λ _. ⌜ CommandLaid (now (starts .entry)) (now (ends .entry)) progress command
+        (now (out .entry)) (now («out_starts» .entry)) (now («out_ends» .entry))
+        (now (out .exit)) (now («out_starts» .exit)) (now («out_ends» .exit)) ⌝ }
+{
+    let at = progress.written;
+    let position = progress.position;
+    let size = put_character(command.character, out, at) - at;
+    fill_offsets(carries(starts, position, command), size, out_starts, at);
+    fill_offsets(carries(ends, position, command), size, out_ends, at);
+}
+
+// Every command of a script from a position on, laid from `at` on; how far they reach.
+fn lay_script(
+    text: &[u8],
+    starts: &[Offset],
+    ends: &[Offset],
+    to: usize,
+    position: usize,
+    script: &[u8],
+    table: &[u8; 256],
+    out: &mut [u8],
+    out_starts: &mut [Offset],
+    out_ends: &mut [Offset],
+    at: usize,
+) -> usize
+    requires { ⌜ CommandsRoom (now text) (now starts) (now ends) to position (commandsOf (now script)) (now table)
+        (now out) (now «out_starts») (now «out_ends») at ⌝ }
+    ensures { λ r. ⌜ CommandsLaid (now (text .entry)) (now (starts .entry)) (now (ends .entry)) to position
+        (commandsOf (now (script .entry))) (now (out .entry)) (now («out_starts» .entry)) (now («out_ends» .entry)) at
+        r (now (out .exit)) (now («out_starts» .exit)) (now («out_ends» .exit)) ⌝ }
+{
+    let mut progress = Progress {
+        position,
+        written: at,
+    };
+    let mut i = 0;
+    while i < script.len() {
+        match entry_at(script, i) {
+            Entry::At(command, next) => {
+                lay_command(starts, ends, progress, command, out, out_starts, out_ends);
+                progress = step(text, to, progress, command, table);
+                i = next;
+            }
+            Entry::Broken => return progress.written,
+        }
+    }
+    progress.written
+}
+
+// What stands before the range, what the script gives, and what stands behind the range; how many bytes that is.
+pub fn lay_edit(
+    text: &[u8],
+    starts: &[Offset],
+    ends: &[Offset],
+    from: usize,
+    to: usize,
+    position: usize,
+    script: &[u8],
+    table: &[u8; 256],
+    out: &mut [u8],
+    out_starts: &mut [Offset],
+    out_ends: &mut [Offset],
+) -> usize
+    requires { ⌜ EditRoom (now text) (now starts) (now ends) from to position (commandsOf (now script)) (now table)
+        (now out) (now «out_starts») (now «out_ends») ⌝ }
+    ensures { λ r. ⌜ EditLaid (now (text .entry)) (now (starts .entry)) (now (ends .entry)) from to position
+        (commandsOf (now (script .entry))) (now (out .entry)) (now («out_starts» .entry)) (now («out_ends» .entry))
+        r (now (out .exit)) (now («out_starts» .exit)) (now («out_ends» .exit)) ⌝ }
+{
+    keep(text, starts, ends, 0, from, out, out_starts, out_ends, 0);
+    let at = lay_script(
+        text,
+        starts,
+        ends,
+        to,
+        position,
+        script,
+        table,
+        out,
+        out_starts,
+        out_ends,
+        from,
+    );
+    keep(
+        text,
+        starts,
+        ends,
+        to,
+        text.len(),
+        out,
+        out_starts,
+        out_ends,
+        at,
+    );
+    at + (text.len() - to)
+}

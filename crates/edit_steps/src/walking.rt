@@ -1,0 +1,98 @@
+// The running position of an edit: from character to character of the range, and from command to command of the script.
+// Each function here is an inner one: the text is well-formed, and the range lies on its boundaries.
+use script::Command;
+use script::Entry;
+use script::entry_at;
+use script::size_of;
+use utf8::lead::char_len;
+ghost use mathlib.Core.Path.{_≡_};
+ghost use Rattle.script.specs.Scripts.{commandsOf};
+ghost use Rattle.edit_steps.specs.Edits.{skipped, starves};
+ghost use Rattle.edit_steps.specs.Walking.{Counting, Tabled, measured, stepped};
+
+// The running position in the cleaned text, and how many bytes have been written so far.
+pub struct Progress {
+    pub position: usize,
+    pub written: usize,
+}
+
+// How many bytes a script gives; or a replacing command of it finds no character left.
+pub enum Extent {
+    Size(usize),
+    Starved,
+}
+
+// `count` characters on from `from`, or up to `to` where fewer are left.
+pub fn skip(text: &[u8], to: usize, count: usize, from: usize, table: &[u8; 256]) -> usize
+    requires { ⌜ Tabled (now text) to from (now table) ⌝ }
+    ensures { λ r. ⌜ r ≡ skipped (now (text .entry)) to count from ⌝ }
+{
+    let mut p = from;
+    let mut k = 0;
+    while k < count {
+        if to <= p {
+            break;
+        }
+        p += char_len(text, p, table);
+        k += 1;
+    }
+    p
+}
+
+// Whether a replacing command finds no character left.
+pub fn starves(to: usize, position: usize, command: Command) -> bool
+    ensures { λ r. ⌜ r ≡ starves to position command ⌝ }
+{
+    if command.added {
+        return false;
+    }
+    to <= position
+}
+
+// A command goes by; one that finds no character left leaves all as it was.
+pub fn step(
+    text: &[u8],
+    to: usize,
+    progress: Progress,
+    command: Command,
+    table: &[u8; 256],
+) -> Progress
+    requires { ⌜ Counting (now text) to progress command (now table) ⌝ }
+    ensures { λ r. ⌜ r ≡ stepped (now (text .entry)) to progress command ⌝ }
+{
+    let position = progress.position;
+    if starves(to, position, command) {
+        return progress;
+    }
+    let written = progress.written + size_of(command.character);
+    if command.added {
+        return Progress { position, written };
+    }
+    let position = skip(text, to, command.removed as usize + 1, position, table);
+    Progress { position, written }
+}
+
+// Every command of a script goes by, from a position on.
+pub fn measure(text: &[u8], to: usize, position: usize, script: &[u8], table: &[u8; 256]) -> Extent
+    requires { ⌜ Tabled (now text) to position (now table) ⌝ }
+    ensures { λ r. ⌜ r ≡ measured (now (text .entry)) to position (commandsOf (now (script .entry))) ⌝ }
+{
+    let mut progress = Progress {
+        position,
+        written: 0,
+    };
+    let mut i = 0;
+    while i < script.len() {
+        match entry_at(script, i) {
+            Entry::At(command, next) => {
+                if starves(to, progress.position, command) {
+                    return Extent::Starved;
+                }
+                progress = step(text, to, progress, command, table);
+                i = next;
+            }
+            Entry::Broken => return Extent::Size(progress.written),
+        }
+    }
+    Extent::Size(progress.written)
+}

@@ -1,0 +1,87 @@
+-- A call that was lent what its case's fields hold, and buffers that hold their fields' columns.
+use Prim.Native.Nat.{ℕ, _+_, _^_}
+use mathlib.Core.Path.{_≡_, _∙_, ap, sym}
+use mathlib.Core.Bool.{Bool, _&&_}
+use mathlib.Core.List.{List}
+use lib.Dec.{eqb}
+use lib.ListN.{length, take, replicate}
+use Rattle.buffers.specs.Same.{same}
+use Rattle.buffers.specs.Splice.{Laid}
+use Rattle.note.specs.Notes.{lent, limit}
+use Rattle.convert.specs.Converting.{rangeOf}
+use Rattle.slice.specs.Slicing.{Slicing}
+use Rattle.split.specs.Splitting.{Columns, Splitting, columns}
+use Rattle.splits.specs.SplitOffsets.{GetSplits}
+use Rattle.piece_lines.specs.Printing.{printed}
+use Rattle.stored_answers.specs.Framing.{fieldOf}
+use Rattle.stored_answers.specs.Differences.{columnOf, offsetsOf, numbersOf}
+use Rattle.stored_answers.specs.Lending.{numberAt}
+use Rattle.stored_answers.proofs.Framing.{both}
+use Rattle.stored_answers.proofs.Differences.{filled}
+use Rattle.stored_answers.proofs.Splice.{take-laid}
+use Rattle.zulmyren.specs.declared.answers.Cut.{Cut}
+use Rattle.zulmyren.specs.declared.answers.Listed.{Listed}
+use Rattle.zulmyren.specs.declared.answers.Slice.{Slice}
+use Rattle.zulmyren.specs.Calls.{Told, sliceNumbers, cutNumbers, splitsNumbers, sideOf, behaviorOf, emptyOf, unitOf}
+use Rattle.replayed_pieces.specs.Stored.{sliceStored, piecesStored, splitsStored}
+use Rattle.replayed_pieces.specs.Replaying.{SliceReplayed, SplitReplayed, SplitsReplayed}
+
+-- what was read of the note
+module _ {case starts ends original normalized : List ℕ} {shift : ℕ} (o : original ≡ fieldOf 0 case) (n : normalized ≡ fieldOf 1 case) (k : shift ≡ numberAt case 4) where
+  pub slice-replayed : {side start end : ℕ} {s₀ e₀ s e : List ℕ} {a : Slice} {told first last : Bool} → side ≡ numberAt case 5 → start ≡ numberAt case 6 → end ≡ numberAt case 7 → Told sliceNumbers (λ v. Slicing limit (lent original normalized starts ends shift) (rangeOf (sideOf (eqb side 1)) start end) s₀ e₀ v s e) a → told ≡ sliceStored case 10 a → first ≡ same s (offsetsOf limit (fieldOf 16 case)) → last ≡ same e (offsetsOf limit (fieldOf 17 case)) → SliceReplayed case starts ends s₀ e₀ ((told && first) && last)
+  slice-replayed {s₀ = s₀} {e₀ = e₀} {s = s} {e = e} {a = a} f from to call t p q =
+      record {
+        answer = a;
+        out-starts = s;
+        out-ends = e;
+        met = coe 0 1 (i. Told sliceNumbers (λ v. Slicing limit (lent (o i) (n i) starts ends (k i)) (rangeOf (sideOf (eqb (f i) 1)) (from i) (to i)) s₀ e₀ v s e) a) call;
+        says = both (both t p) q;
+      }
+
+  module _ {list : List ℕ} {behavior : ℕ} (l : list ≡ fieldOf 5 case) (b : behavior ≡ numberAt case 6) where
+    pub split-replayed : {dropped : ℕ} {c₀ c : Columns} {a : Cut} {told first last : Bool} → dropped ≡ numberAt case 7 → Told cutNumbers (λ v. Splitting limit (lent original normalized starts ends shift) list (behaviorOf behavior) (emptyOf (eqb dropped 1)) c₀ v c) a → told ≡ piecesStored case 14 a (c .starts) (c .ends) (c .shifts) (c .lengths) → first ≡ same (c .alignment-starts) (offsetsOf limit (fieldOf 21 case)) → last ≡ same (c .alignment-ends) (offsetsOf limit (fieldOf 22 case)) → SplitReplayed case starts ends c₀ ((told && first) && last)
+    split-replayed {c₀ = c₀} {c = c} {a = a} d call t p q =
+        record {
+          answer = a;
+          out = c;
+          met = coe 0 1 (i. Told cutNumbers (λ v. Splitting limit (lent (o i) (n i) starts ends (k i)) (l i) (behaviorOf (b i)) (emptyOf (eqb (d i) 1)) c₀ v c) a) call;
+          says = both (both t p) q;
+        }
+
+    pub splits-replayed : {side unit : ℕ} {s₀ e₀ s e : List ℕ} {a : Listed} {r : Bool} → side ≡ numberAt case 7 → unit ≡ numberAt case 8 → Told splitsNumbers (λ v. GetSplits limit (lent original normalized starts ends shift) list (behaviorOf behavior) (sideOf (eqb side 1)) (unitOf (eqb unit 1)) s₀ e₀ v s e) a → r ≡ splitsStored case 11 a s e → SplitsReplayed case starts ends s₀ e₀ r
+    splits-replayed {s₀ = s₀} {e₀ = e₀} {s = s} {e = e} {a = a} f u call t =
+        record {
+          answer = a;
+          out-starts = s;
+          out-ends = e;
+          met = coe 0 1 (i. Told splitsNumbers (λ v. GetSplits limit (lent (o i) (n i) starts ends (k i)) (l i) (behaviorOf (b i)) (sideOf (eqb (f i) 1)) (unitOf (eqb (u i) 1)) s₀ e₀ v s e) a) call;
+          says = t;
+        }
+
+-- buffers that are filled from a field, up to where they are filled
+pub offsets-filled : (field : List ℕ) {d₀ d : List ℕ} {end : ℕ} → Laid (columnOf (limit + 1) (length d₀) field) d₀ 0 end d → limit + 1 ≡ length d₀ → take end d ≡ offsetsOf limit field
+offsets-filled field l long = filled (limit + 1) (limit + 1) field l (sym long)
+
+pub numbers-filled : (field : List ℕ) {d : List ℕ} {end : ℕ} → Laid (columnOf (256 ^ 4) 256 field) (replicate 256 0) 0 end d → take end d ≡ numbersOf field
+numbers-filled field l = take-laid l
+
+-- lent buffers by what they hold
+pub slice-lent : {case starts ends s₀ e₀ s e : List ℕ} {r : Bool} → s₀ ≡ s → e₀ ≡ e → SliceReplayed case starts ends s₀ e₀ r → SliceReplayed case starts ends s e r
+slice-lent {case} {starts} {ends} {r = r} p q w = coe 0 1 (i. SliceReplayed case starts ends (p i) (q i) r) w
+
+pub splits-lent : {case starts ends s₀ e₀ s e : List ℕ} {r : Bool} → s₀ ≡ s → e₀ ≡ e → SplitsReplayed case starts ends s₀ e₀ r → SplitsReplayed case starts ends s e r
+splits-lent {case} {starts} {ends} {r = r} p q w = coe 0 1 (i. SplitsReplayed case starts ends (p i) (q i) r) w
+
+module _ {case starts ends : List ℕ} {r : Bool} where
+  pub alignments-lent : {a b c d s₀ e₀ s e : List ℕ} → s₀ ≡ s → e₀ ≡ e → SplitReplayed case starts ends (columns a b c d s₀ e₀) r → SplitReplayed case starts ends (columns a b c d s e) r
+  alignments-lent {a} {b} {c} {d} p q w = coe 0 1 (i. SplitReplayed case starts ends (columns a b c d (p i) (q i)) r) w
+
+  pub sizes-lent : {a b c d s₀ e₀ s e : List ℕ} → s₀ ≡ s → e₀ ≡ e → SplitReplayed case starts ends (columns a b s₀ e₀ c d) r → SplitReplayed case starts ends (columns a b s e c d) r
+  sizes-lent {a} {b} {c} {d} p q w = coe 0 1 (i. SplitReplayed case starts ends (columns a b (p i) (q i) c d) r) w
+
+  pub spans-lent : {a b c d s₀ e₀ s e : List ℕ} → s₀ ≡ s → e₀ ≡ e → SplitReplayed case starts ends (columns s₀ e₀ a b c d) r → SplitReplayed case starts ends (columns s e a b c d) r
+  spans-lent {a} {b} {c} {d} p q w = coe 0 1 (i. SplitReplayed case starts ends (columns (p i) (q i) a b c d) r) w
+
+-- what is printed of an input that was read, beside what the case stores
+pub is-printed : (case : List ℕ) {input d₀ d : List ℕ} {end : ℕ} {r : Bool} → input ≡ fieldOf 0 case → Laid (printed input) d₀ 0 end d → r ≡ same (fieldOf 1 case) (take end d) → r ≡ same (fieldOf 1 case) (printed (fieldOf 0 case))
+is-printed case is l e = e ∙ ap (same (fieldOf 1 case)) (take-laid l ∙ ap printed is)

@@ -1,0 +1,62 @@
+-- The replay of a case: the exported call's own contract is met by some answer and some buffers, and the result says
+-- whether these are what the case stores. The contract leaves no choice of them.
+use Prim.Native.Nat.{ℕ}
+use mathlib.Core.Path.{_≡_}
+use mathlib.Core.Bool.{Bool, _&&_}
+use mathlib.Core.List.{List}
+use Rattle.buffers.specs.Same.{same}
+use Rattle.note.specs.Notes.{limit}
+use Rattle.convert.specs.Converting.{rangeOf}
+use Rattle.slice.specs.Slicing.{Slicing}
+use Rattle.split.specs.Splitting.{Columns, Splitting}
+use Rattle.splits.specs.SplitOffsets.{GetSplits}
+use Rattle.stored_answers.specs.Framing.{fieldOf}
+use Rattle.stored_answers.specs.Differences.{offsetsOf}
+use Rattle.stored_answers.specs.Lending.{numberAt, flagAt, noteAt}
+use Rattle.zulmyren.specs.declared.answers.Cut.{Cut}
+use Rattle.zulmyren.specs.declared.answers.Listed.{Listed}
+use Rattle.zulmyren.specs.declared.answers.Slice.{Slice}
+use Rattle.zulmyren.specs.Calls.{Told, sliceNumbers, cutNumbers, splitsNumbers, sideOf, behaviorOf, emptyOf, unitOf}
+use Rattle.replayed_pieces.specs.Stored.{sliceStored, piecesStored, splitsStored}
+
+-- slicing; the note's columns, and those lent for the slice
+pub record SliceReplayed (case starts ends lentStarts lentEnds : List ℕ) (r : Bool) : Type 0 where
+  pub answer : Slice
+  pub out-starts : List ℕ
+  pub out-ends : List ℕ
+  pub met :
+      Told sliceNumbers
+      (λ v. Slicing limit (noteAt case starts ends)
+      (rangeOf (sideOf (flagAt case 5)) (numberAt case 6) (numberAt case 7))
+      lentStarts lentEnds v out-starts out-ends)
+      answer
+  pub says :
+      r ≡ (sliceStored case 10 answer && same out-starts (offsetsOf limit (fieldOf 16 case)))
+      && same out-ends (offsetsOf limit (fieldOf 17 case))
+
+-- splitting; the note's columns, and the six that are lent
+pub record SplitReplayed (case starts ends : List ℕ) (lent : Columns) (r : Bool) : Type 0 where
+  pub answer : Cut
+  pub out : Columns
+  pub met :
+      Told cutNumbers
+      (λ v. Splitting limit (noteAt case starts ends) (fieldOf 5 case)
+      (behaviorOf (numberAt case 6)) (emptyOf (flagAt case 7)) lent v out)
+      answer
+  pub says :
+      r ≡ (piecesStored case 14 answer (out .starts) (out .ends) (out .shifts) (out .lengths)
+      && same (out .alignment-starts) (offsetsOf limit (fieldOf 21 case)))
+      && same (out .alignment-ends) (offsetsOf limit (fieldOf 22 case))
+
+-- split offsets; the note's columns, and the two that are lent
+pub record SplitsReplayed (case starts ends lentStarts lentEnds : List ℕ) (r : Bool) : Type 0 where
+  pub answer : Listed
+  pub out-starts : List ℕ
+  pub out-ends : List ℕ
+  pub met :
+      Told splitsNumbers
+      (λ v. GetSplits limit (noteAt case starts ends) (fieldOf 5 case)
+      (behaviorOf (numberAt case 6)) (sideOf (flagAt case 7)) (unitOf (flagAt case 8))
+      lentStarts lentEnds v out-starts out-ends)
+      answer
+  pub says : r ≡ splitsStored case 11 answer out-starts out-ends
