@@ -11,12 +11,12 @@ use Rattle.utf8.specs.Scalar.{scalar}
 use Rattle.script.specs.declared.Command.{Command}
 use Rattle.script.specs.Scripts.{sizeOf}
 use Rattle.script.proofs.Scripts.{size-most, size-none, size-some}
-use Rattle.transform.specs.declared.walking.Progress.{Progress}
-use Rattle.transform.specs.declared.walking.Extent.the-variants.{Size, Starved}
-use Rattle.transform.specs.Edits.{starves, moved}
-use Rattle.transform.specs.Walking.{Standing, Tabled, Counting, stepped, measured}
-use Rattle.transform.proofs.Positions.{stepped-fed}
-use Rattle.transform.proofs.Measured.{Passed, none-passed, starves-here, one-passed, all-passed}
+use Rattle.edit_steps.specs.declared.walking.Progress.{Progress}
+use Rattle.edit_steps.specs.declared.walking.Extent.the-variants.{Size, Starved}
+use Rattle.edit_steps.specs.Edits.{starves, moved}
+use Rattle.edit_steps.specs.Walking.{Standing, Tabled, Counting, stepped, measured}
+use Rattle.edit_steps.proofs.Positions.{stepped-fed}
+use Rattle.edit_steps.proofs.Measured.{Passed, none-passed, starves-here, one-passed, all-passed}
 use Rattle.edits.specs.Characters.{allScalar}
 use Rattle.edits.specs.Whole.{replacing, allReplacing}
 

@@ -16,7 +16,7 @@ use Rattle.note.proofs.Verdicts.{then, verdict-then, refused-then}
 use Rattle.script.specs.Scripts.{commandsFrom, commandsOf, wholeFrom, whole, scriptFaults}
 use Rattle.transform.specs.declared.Editing.{Editing}
 use Rattle.transform.specs.declared.Editing.the-variants.{Edited, Refused as Refusing}
-use Rattle.transform.specs.Edits.{Edit, transformed}
+use Rattle.edit_steps.specs.Edits.{Edit, transformed}
 use Rattle.transform.specs.Transforming.{editFaults, editing, Rewritten, scriptEdit, transformFaults, wholeTranscript}
 use Rattle.transform.proofs.Verdicts.{long-text-refused}
 use Rattle.edits.specs.declared.Clearing.{Clearing}

@@ -24,7 +24,7 @@ use Rattle.convert.specs.declared.Range.{Range}
 use Rattle.convert.specs.declared.Converted.{Converted}
 use Rattle.convert.specs.declared.Converted.the-variants.{Found, Refused}
 use Rattle.convert.specs.Converting.{startOf, endOf}
-use Rattle.transform.specs.Edits.{Edit}
+use Rattle.edit_steps.specs.Edits.{Edit}
 use Rattle.transform.specs.Transforming.{target}
 use Rattle.transform.proofs.Verdicts.{edit-found}
 use Rattle.edits.specs.Characters.{allScalar}

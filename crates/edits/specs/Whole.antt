@@ -18,7 +18,7 @@ use Rattle.note.specs.Starting.{charStart}
 use Rattle.note.specs.Faults.{noteFaults, stringFaults}
 use Rattle.convert.specs.declared.Range.{Range}
 use Rattle.script.specs.declared.Command.{Command}
-use Rattle.transform.specs.Edits.{Edit, transformed, unchanging}
+use Rattle.edit_steps.specs.Edits.{Edit, transformed, unchanging}
 use Rattle.transform.specs.Transforming.{target, editOf, editFaults, wholeTranscript}
 use Rattle.edits.specs.declared.Clearing.{Clearing}
 use Rattle.edits.specs.declared.Clearing.the-variants.{Cleared, Refused}

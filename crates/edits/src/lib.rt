@@ -9,7 +9,7 @@ use transform::transform;
 ghost use lib.ListN.{length};
 ghost use Rattle.note.specs.Notes.{lent, limit};
 ghost use Rattle.note.specs.Refusals.{least, verdict};
-ghost use Rattle.transform.specs.Edits.{transformed};
+ghost use Rattle.edit_steps.specs.Edits.{transformed};
 ghost use Rattle.edits.specs.Whole.{clearEdit, clearFaults, Emptied};
 
 // What `clear` answers: how many bytes the cleaned text had, and how many are left; or why nothing is cleared.

@@ -7,6 +7,13 @@ use convert::Converted;
 use convert::Range;
 use convert::end_of;
 use convert::start_of;
+use edit_steps::laying::keep;
+use edit_steps::laying::lay_command;
+use edit_steps::walking::Extent;
+use edit_steps::walking::Progress;
+use edit_steps::walking::starves;
+use edit_steps::walking::step;
+use get_range::as_normalized;
 use note::LIMIT;
 use note::OriginalByte;
 use note::Refusal;
@@ -14,14 +21,7 @@ use note::Verdict;
 use script::Command;
 use script::size_of;
 use transform::Editing;
-use transform::laying::keep;
-use transform::laying::lay_command;
 use transform::placed;
-use transform::target;
-use transform::walking::Extent;
-use transform::walking::Progress;
-use transform::walking::starves;
-use transform::walking::step;
 use utf8::count::count_leads;
 use utf8::lead::lengths;
 ghost use mathlib.Core.Path.{_≡_};
@@ -29,10 +29,10 @@ ghost use mathlib.Core.List.{[]};
 ghost use lib.ListN.{length};
 ghost use Rattle.note.specs.Notes.{lent, limit};
 ghost use Rattle.note.specs.Refusals.{least, verdict};
-ghost use Rattle.transform.specs.Edits.{transformed};
-ghost use Rattle.transform.specs.Laying.{CommandsLaid, CommandsRoom, Editable, EditLaid, EditRoom};
+ghost use Rattle.edit_steps.specs.Edits.{transformed};
+ghost use Rattle.edit_steps.specs.Laying.{CommandsLaid, CommandsRoom, Editable, EditLaid, EditRoom};
 ghost use Rattle.transform.specs.Transforming.{editFaults, Rewritten};
-ghost use Rattle.transform.specs.Walking.{measured, Tabled};
+ghost use Rattle.edit_steps.specs.Walking.{measured, Tabled};
 ghost use Rattle.edits.specs.Characters.{allScalar};
 ghost use Rattle.edits.specs.Whole.{allReplacing, mapEdit, mapFaults};
 
@@ -260,7 +260,7 @@ pub fn map(
             if codes.len() != count_leads(normalized) {
                 return Editing::Refused(Refusal::CountMismatch);
             }
-            match target(
+            match as_normalized(
                 starts,
                 ends,
                 Range::Original(OriginalByte(0), OriginalByte(original.len() as u32)),

@@ -21,7 +21,7 @@ use Rattle.behaviors.specs.Splits.{unremoved, spanning, endMoved, folded, split
 use Rattle.split.specs.Splitting.{pieceOf, transcriptLength, cut}
 use Rattle.utf8.specs.Scalar.{scalar, encoded, bytesOf}
 use Rattle.script.specs.Scripts.{sizeOf}
-use Rattle.transform.specs.Edits.{skipped, starves, moved as stepTo, starved, carries, given, placed, begins, relaid, edited, transformed}
+use Rattle.edit_steps.specs.Edits.{skipped, starves, moved as stepTo, starved, carries, given, placed, begins, relaid, edited, transformed}
 use Rattle.edits.specs.Characters.{codeAt, codesFrom, codesOf}
 use Rattle.edits.specs.Whole.{allAdding, prependEdit, clearEdit}
 use Rattle.examples.specs.Worked.{aéb, nest, blank, final, hyphens, worked, every, WorkedNotes, aé, moved}

@@ -30,7 +30,7 @@ use Rattle.behaviors.specs.declared.SplitDelimiterBehavior.the-variants.{
 }
 use Rattle.behaviors.specs.declared.EmptyPieces.the-variants.{Kept}
 use Rattle.split.specs.Splitting.{Columns, cutBy, splitFaults}
-use Rattle.transform.specs.Edits.{transformed}
+use Rattle.edit_steps.specs.Edits.{transformed}
 use Rattle.edits.specs.declared.Clearing.{Clearing}
 use Rattle.edits.specs.declared.Clearing.the-variants.{Cleared, Refused as Uncleared}
 use Rattle.edits.specs.Whole.{prependEdit, joinFaults, clearEdit, clearFaults, clearing}

@@ -23,7 +23,7 @@ use Rattle.convert.specs.declared.Converted.{Converted}
 use Rattle.convert.specs.declared.Converted.the-variants.{Found, Refused}
 use Rattle.convert.specs.Converting.{startOf, endOf}
 use Rattle.script.specs.Scripts.{commandsOf}
-use Rattle.transform.specs.Edits.{skipped, Edit}
+use Rattle.edit_steps.specs.Edits.{skipped, Edit}
 use Rattle.transform.specs.Transforming.{target}
 use Rattle.transform.proofs.Verdicts.{edit-found, edit-none}
 use Rattle.edits.specs.Whole.{wholeRange, filterEdit}

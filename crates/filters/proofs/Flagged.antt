@@ -15,12 +15,12 @@ use Rattle.utf8.specs.Scalar.{bytesOf}
 use Rattle.utf8.specs.Lengths.{CharLen}
 use Rattle.script.specs.declared.Command.{Command}
 use Rattle.script.specs.Scripts.{sizeOf}
-use Rattle.transform.specs.declared.walking.Progress.{Progress}
-use Rattle.transform.specs.Edits.{skipped, starves, moved, starved, carries, characters, carried, given}
-use Rattle.transform.specs.Walking.{Standing, Tabled, stepped}
-use Rattle.transform.specs.Laying.{Room, CommandLaid, CommandsRoom, CommandsLaid}
-use Rattle.transform.proofs.Positions.{standing-skipped, stepped-fed}
-use Rattle.transform.proofs.Given.{Going, none-going, command-room, going-on, gone, fed}
+use Rattle.edit_steps.specs.declared.walking.Progress.{Progress}
+use Rattle.edit_steps.specs.Edits.{skipped, starves, moved, starved, carries, characters, carried, given}
+use Rattle.edit_steps.specs.Walking.{Standing, Tabled, stepped}
+use Rattle.edit_steps.specs.Laying.{Room, CommandLaid, CommandsRoom, CommandsLaid}
+use Rattle.edit_steps.proofs.Positions.{standing-skipped, stepped-fed}
+use Rattle.edit_steps.proofs.Given.{Going, none-going, command-room, going-on, gone, fed}
 use Rattle.edits.specs.Characters.{codeAt, codesOf}
 use Rattle.edits.specs.Whole.{replacing, droppedAhead, keptCommands}
 use Rattle.edits.proofs.Characters.{code-bytes}

@@ -17,12 +17,12 @@ use Rattle.utf8.specs.Lengths.{CharBegins, CharLen}
 use Rattle.utf8.proofs.Boundaries.{char-at, boundary-zero, boundary-most}
 use Rattle.script.specs.declared.Command.{Command}
 use Rattle.script.specs.Scripts.{sizeOf}
-use Rattle.transform.specs.declared.walking.Progress.{Progress}
-use Rattle.transform.specs.declared.walking.Extent.the-variants.{Size, Starved}
-use Rattle.transform.specs.Edits.{skipped, starves, moved, starved, given}
-use Rattle.transform.specs.Walking.{Standing, Tabled, sizes, stepped, measured}
-use Rattle.transform.proofs.Positions.{skipped-none, skipped-past, skipped-on, standing-skipped, starves-replacing, moved-replacing, stepped-fed}
-use Rattle.transform.proofs.Measured.{Passed, starves-here, one-passed, all-passed}
+use Rattle.edit_steps.specs.declared.walking.Progress.{Progress}
+use Rattle.edit_steps.specs.declared.walking.Extent.the-variants.{Size, Starved}
+use Rattle.edit_steps.specs.Edits.{skipped, starves, moved, starved, given}
+use Rattle.edit_steps.specs.Walking.{Standing, Tabled, sizes, stepped, measured}
+use Rattle.edit_steps.proofs.Positions.{skipped-none, skipped-past, skipped-on, standing-skipped, starves-replacing, moved-replacing, stepped-fed}
+use Rattle.edit_steps.proofs.Measured.{Passed, starves-here, one-passed, all-passed}
 use Rattle.edits.specs.Characters.{codeAt, codesFrom, codesOf}
 use Rattle.edits.specs.Whole.{replacing, droppedAhead, anyKept, keptCommands}
 use Rattle.edits.proofs.Characters.{code-bytes, codes-none, codes-cons}

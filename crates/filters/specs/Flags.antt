@@ -8,9 +8,9 @@ use lib.ListN.{length, getD, replicate}
 use Rattle.buffers.specs.Splice.{part, splice}
 use Rattle.utf8.specs.Letters.{letters}
 use Rattle.script.specs.declared.Command.{Command}
-use Rattle.transform.specs.Edits.{skipped}
-use Rattle.transform.specs.Walking.{Tabled}
-use Rattle.transform.specs.Laying.{CommandsRoom, EditRoom}
+use Rattle.edit_steps.specs.Edits.{skipped}
+use Rattle.edit_steps.specs.Walking.{Tabled}
+use Rattle.edit_steps.specs.Laying.{CommandsRoom, EditRoom}
 use Rattle.edits.specs.Characters.{codesOf}
 use Rattle.edits.specs.Whole.{droppedAhead, anyKept, keptCommands}
 

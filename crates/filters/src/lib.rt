@@ -9,17 +9,17 @@ use convert::Converted;
 use convert::Range;
 use convert::end_of;
 use convert::start_of;
+use edit_steps::laying::keep;
+use edit_steps::walking::Extent;
+use edit_steps::walking::skip;
+use get_range::as_normalized;
 use note::LIMIT;
 use note::OriginalByte;
 use note::Refusal;
 use note::Verdict;
 use transform::Editing;
 use transform::edit;
-use transform::laying::keep;
 use transform::placed;
-use transform::target;
-use transform::walking::Extent;
-use transform::walking::skip;
 use utf8::count::count_leads;
 use utf8::lead::char_len;
 use utf8::lead::lengths;
@@ -29,10 +29,10 @@ ghost use lib.ListN.{length};
 ghost use Rattle.utf8.specs.Letters.{letters};
 ghost use Rattle.note.specs.Notes.{lent, limit};
 ghost use Rattle.note.specs.Refusals.{least, verdict};
-ghost use Rattle.transform.specs.Edits.{transformed};
-ghost use Rattle.transform.specs.Laying.{CommandsLaid, Editable, EditLaid};
+ghost use Rattle.edit_steps.specs.Edits.{transformed};
+ghost use Rattle.edit_steps.specs.Laying.{CommandsLaid, Editable, EditLaid};
 ghost use Rattle.transform.specs.Transforming.{editFaults, Rewritten};
-ghost use Rattle.transform.specs.Walking.{measured};
+ghost use Rattle.edit_steps.specs.Walking.{measured};
 ghost use Rattle.edits.specs.Whole.{filterEdit, filterFaults};
 ghost use Rattle.filters.specs.Flags.{begun, counts, FilterRoom, FlagLaid, FlagRoom, FlagsReady, FlagsRoom};
 ghost use Rattle.filters.specs.Flags.{kept, skips, wants};
@@ -306,7 +306,7 @@ pub fn filter(
             if flags.len() != count_leads(normalized) {
                 return Editing::Refused(Refusal::CountMismatch);
             }
-            match target(
+            match as_normalized(
                 starts,
                 ends,
                 Range::Original(OriginalByte(0), OriginalByte(original.len() as u32)),

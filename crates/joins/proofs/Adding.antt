@@ -16,9 +16,9 @@ use Rattle.note.proofs.BeforeEnd.{before-some}
 use Rattle.note.proofs.Sound.{length-starts, length-ends, normalized-formed, shared-at}
 use Rattle.script.specs.declared.Command.{Command}
 use Rattle.script.specs.Scripts.{sizeOf}
-use Rattle.transform.specs.Edits.{starves, moved, starved, carries, characters, carried, given}
-use Rattle.transform.specs.Walking.{sizes}
-use Rattle.transform.proofs.Positions.{moved-added, starves-added}
+use Rattle.edit_steps.specs.Edits.{starves, moved, starved, carries, characters, carried, given}
+use Rattle.edit_steps.specs.Walking.{sizes}
+use Rattle.edit_steps.proofs.Positions.{moved-added, starves-added}
 use Rattle.edits.specs.Characters.{codeAt, codesOf, textOf}
 use Rattle.edits.specs.Whole.{adding, allAdding}
 

@@ -22,10 +22,10 @@ use Rattle.note.proofs.BeforeEnd.{before-none}
 use Rattle.note.proofs.Sound.{length-starts, length-ends, normalized-formed}
 use Rattle.script.specs.declared.Command.{Command}
 use Rattle.script.specs.Scripts.{sizeOf}
-use Rattle.transform.specs.Edits.{skipped, starves, moved, starved, carries, characters, carried, given, Edit, placed, begins, relaid, edited, transformed, unchanging}
-use Rattle.transform.specs.Walking.{Standing}
-use Rattle.transform.proofs.Positions.{skipped-none, skipped-on, moved-replacing, starves-replacing}
-use Rattle.transform.proofs.Soundness.{unchanged}
+use Rattle.edit_steps.specs.Edits.{skipped, starves, moved, starved, carries, characters, carried, given, Edit, placed, begins, relaid, edited, transformed, unchanging}
+use Rattle.edit_steps.specs.Walking.{Standing}
+use Rattle.edit_steps.proofs.Positions.{skipped-none, skipped-on, moved-replacing, starves-replacing}
+use Rattle.edit_steps.proofs.Given.{unchanged}
 use Rattle.edits.specs.Characters.{codeAt, codesOf, textOf}
 use Rattle.edits.specs.Whole.{replacing, adding, allAdding, replacingFirst, appendEdit, prependEdit}
 use Rattle.edits.proofs.Characters.{code-bytes, codes-none, codes-cons, codes-text}

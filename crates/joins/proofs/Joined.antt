@@ -25,9 +25,9 @@ use Rattle.note.proofs.Sound.{length-starts, length-ends, normalized-formed}
 use Rattle.note.proofs.Faults.{accepted-sound, string-formed}
 use Rattle.transform.specs.declared.Editing.{Editing}
 use Rattle.transform.specs.declared.Editing.the-variants.{Edited, Refused as Refusing}
-use Rattle.transform.specs.Edits.{characters, Edit, edited, transformed}
+use Rattle.edit_steps.specs.Edits.{characters, Edit, edited, transformed}
 use Rattle.transform.specs.Transforming.{editFaults, Rewritten}
-use Rattle.transform.specs.Laying.{Kept}
+use Rattle.edit_steps.specs.Laying.{Kept}
 use Rattle.transform.proofs.Verdicts.{inputs-refused, inputs-accepted, too-large, small-enough, refused-rewritten, accepted-rewritten}
 use Rattle.edits.specs.Whole.{appendEdit, prependEdit, joinFaults}
 use Rattle.joins.specs.Joining.{Makes, appended, frontOf, prepended}

@@ -8,7 +8,7 @@ use lib.ListN.{length, getD, drop, replicate}
 use Rattle.buffers.specs.Splice.{overlay}
 use Rattle.utf8.specs.Formed.{announced, wellFormed}
 use Rattle.note.specs.Notes.{Note, lent, beforeEnd, Sound}
-use Rattle.transform.specs.Edits.{starved, Edit, placed, begins, transformed}
+use Rattle.edit_steps.specs.Edits.{starved, Edit, placed, begins, transformed}
 use Rattle.edits.specs.Whole.{appendEdit, prependEdit}
 
 -- an edit that neither 5 nor 7 refuses, and the note that it makes

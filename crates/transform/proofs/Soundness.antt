@@ -22,16 +22,12 @@ use Rattle.note.proofs.Stretch.{Fit, Stretch, joined, before-le, carried-stretc
 use Rattle.script.specs.declared.Command.{Command}
 use Rattle.script.specs.Scripts.{sizeOf}
 use Rattle.script.proofs.Scripts.{bytes-formed}
-use Rattle.transform.specs.Edits.{skipped, starves, moved, starved, carries, characters, carried, given, Edit, placed, begins, relaid, edited, transformed, Unchanged, unchanging}
+use Rattle.edit_steps.specs.Edits.{skipped, starves, moved, starved, carries, characters, carried, given, Edit, placed, begins, relaid, edited, transformed}
 use Rattle.transform.specs.Transforming.{TransformedSound}
-use Rattle.transform.specs.Walking.{Standing}
-use Rattle.transform.proofs.Positions.{feeds, standing-next, standing-skipped, standing-moved, skipped-on, moved-added, moved-replacing}
-use Rattle.transform.proofs.Given.{fed}
+use Rattle.edit_steps.specs.Walking.{Standing}
+use Rattle.edit_steps.proofs.Positions.{feeds, standing-next, standing-skipped, standing-moved, skipped-on, moved-added, moved-replacing}
+use Rattle.edit_steps.proofs.Given.{fed}
 use Rattle.transform.proofs.Verdicts.{placed-from, placed-standing, accepted-placed, accepted-fed, accepted-size}
-
-pub unchanged : Unchanged
-unfolding transformed edited relaid given begins skipped
-unchanged n = refl
 
 part-all : (xs : List ℕ) (b : ℕ) {m : ℕ} → length xs ≡ m → part xs b m ≡ drop b xs
 part-all xs b e = rw (sym e) (part-end xs b)

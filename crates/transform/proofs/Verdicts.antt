@@ -15,8 +15,6 @@ use Rattle.buffers.proofs.Booleans.{and-false-l, and-false-r}
 use Rattle.utf8.specs.Formed.{wellFormed, boundary}
 use Rattle.utf8.specs.Lengths.{lengthTable}
 use Rattle.utf8.proofs.Boundaries.{boundary-most}
-use Rattle.note.specs.declared.OriginalByte.{OriginalByte}
-use Rattle.note.specs.declared.NormalizedByte.{NormalizedByte}
 use Rattle.note.specs.declared.Refusal.{Refusal}
 use Rattle.note.specs.declared.Refusal.the-variants.{TooLong, NotBoundary, BadScript, Exhausted, NoRoom}
 use Rattle.note.specs.declared.Verdict.{Verdict}
@@ -34,19 +32,20 @@ use Rattle.convert.specs.declared.Converted.the-variants.{Found, Refused}
 use Rattle.convert.specs.Converting.{startOf, endOf, converted}
 use Rattle.convert.specs.Blocks.{Columns}
 use Rattle.convert.proofs.Answered.{accepted-columns}
+use Rattle.get_range.specs.Reading.{asNormalized}
 use Rattle.script.specs.declared.Command.{Command}
 use Rattle.script.specs.Scripts.{commandsFrom, commandsOf, whole, scriptFaults}
 use Rattle.transform.specs.declared.Editing.{Editing}
 use Rattle.transform.specs.declared.Editing.the-variants.{Edited, Refused as Refusing}
-use Rattle.transform.specs.declared.walking.Extent.{Extent}
-use Rattle.transform.specs.declared.walking.Extent.the-variants.{Size, Starved}
-use Rattle.transform.specs.Edits.{skipped, characters, carried, starved, Edit, placed, begins, relaid, edited, transformed, unchanging}
-use Rattle.transform.specs.Walking.{Standing, Tabled, sizes, measured}
-use Rattle.transform.specs.Laying.{Editable, EditRoom, EditLaid}
+use Rattle.edit_steps.specs.declared.walking.Extent.{Extent}
+use Rattle.edit_steps.specs.declared.walking.Extent.the-variants.{Size, Starved}
+use Rattle.edit_steps.specs.Edits.{skipped, characters, carried, starved, Edit, placed, begins, relaid, edited, transformed, unchanging}
+use Rattle.edit_steps.specs.Walking.{Standing, Tabled, sizes, measured}
+use Rattle.edit_steps.specs.Laying.{Editable, EditRoom, EditLaid}
 use Rattle.transform.specs.Transforming.{target, editOf, editFaults, editing, Rewritten, scriptEdit, transformFaults}
-use Rattle.transform.proofs.Positions.{standing-skipped}
-use Rattle.transform.proofs.Measured.{measured-starved, measured-size}
-use Rattle.transform.proofs.Given.{characters-wide, length-relaid}
+use Rattle.edit_steps.proofs.Positions.{standing-skipped}
+use Rattle.edit_steps.proofs.Measured.{measured-starved, measured-size}
+use Rattle.edit_steps.proofs.Given.{characters-wide, length-relaid}
 
 -- a range that is placed
 module _ {s : List ℕ} (e : Edit) (formed : wellFormed s ≡ true) (p : placed s (e .from) (e .to) ≡ true) where
@@ -117,11 +116,11 @@ module _ (s : List ℕ) (a b : ℕ) where
   unfolding placed
   placed-ends {t} h is u e = e ∙ rw (le-leb a b h, sym is ∙ not-false t u)
 
-pub target-normalized : (starts ends : List ℕ) {range : Range} {a b : NormalizedByte} → range ≡ Normalized a b → Found range ≡ target starts ends range
-target-normalized starts ends e = rw e
-
-pub target-original : (starts ends : List ℕ) {range : Range} {a b : OriginalByte} {r : Converted} → range ≡ Original a b → r ≡ converted starts ends range → r ≡ target starts ends range
-target-original starts ends e is = is ∙ rw e
+-- the cleaned range that a range names is the one that a reader takes
+pub target-of : (starts ends : List ℕ) (range : Range) → asNormalized starts ends range ≡ target starts ends range
+unfolding asNormalized
+target-of starts ends (Original a b) = refl
+target-of starts ends (Normalized a b) = refl
 
 -- AN EDIT of an accepted note, as the code goes through it
 module _ (most : ℕ) {s starts ends : List ℕ} (ed : Editable s starts ends) (a b skip : ℕ) (cs : List Command) (out₀ starts₀ ends₀ : List ℕ) {t : Bool} (is : t ≡ placed s a b) where

@@ -1,5 +1,2 @@
 -- Editing (RULES 7).
-pub mod Edits
 pub mod Transforming
-pub mod Walking
-pub mod Laying

@@ -20,7 +20,7 @@ use Rattle.script.specs.declared.Command.{Command}
 use Rattle.script.specs.Scripts.{commandsOf, scriptFaults}
 use Rattle.transform.specs.declared.Editing.{Editing}
 use Rattle.transform.specs.declared.Editing.the-variants.{Edited, Refused as Refusing}
-use Rattle.transform.specs.Edits.{characters, starved, Edit, placed, begins, edited, transformed, unchanging}
+use Rattle.edit_steps.specs.Edits.{characters, starved, Edit, placed, begins, edited, transformed, unchanging}
 
 -- RULES 7.2: a range of the cleaned text as it is, one of the transcript as it converts; where it converts to nothing,
 -- the note stays as it is

@@ -1,17 +1,17 @@
 // Editing (RULES 7; Rust: `transform_range`, `transform`): a script makes a range of the cleaned text anew.
-pub mod laying;
-pub mod walking;
-
 use buffers::Offset;
 use checks::check_note;
 use checks::least_of_two;
 use checks::least_room;
 use convert::Converted;
 use convert::Range;
-use convert::convert_checked;
 use convert::end_of;
 use convert::start_of;
-use laying::lay_edit;
+use edit_steps::laying::lay_edit;
+use edit_steps::walking::Extent;
+use edit_steps::walking::measure;
+use edit_steps::walking::skip;
+use get_range::as_normalized;
 use note::LIMIT;
 use note::OriginalByte;
 use note::Refusal;
@@ -19,19 +19,15 @@ use note::Verdict;
 use script::whole;
 use utf8::is_char_boundary;
 use utf8::lead::lengths;
-use walking::Extent;
-use walking::measure;
-use walking::skip;
 ghost use mathlib.Core.Path.{_≡_};
 ghost use mathlib.Core.List.{[]};
 ghost use lib.ListN.{length};
 ghost use Rattle.note.specs.Notes.{lent, limit};
 ghost use Rattle.note.specs.Refusals.{least, verdict};
-ghost use Rattle.convert.specs.Blocks.{Columns};
 ghost use Rattle.script.specs.Scripts.{commandsOf};
-ghost use Rattle.transform.specs.Edits.{placed, transformed};
-ghost use Rattle.transform.specs.Laying.{Editable};
-ghost use Rattle.transform.specs.Transforming.{editFaults, Rewritten, scriptEdit, target};
+ghost use Rattle.edit_steps.specs.Edits.{placed, transformed};
+ghost use Rattle.edit_steps.specs.Laying.{Editable};
+ghost use Rattle.transform.specs.Transforming.{editFaults, Rewritten, scriptEdit};
 ghost use Rattle.transform.specs.Transforming.{transformFaults, wholeTranscript};
 
 // How many bytes the cleaned text has after an edit; or why nothing is edited.
@@ -51,17 +47,6 @@ pub fn placed(text: &[u8], from: usize, to: usize) -> bool
         return false;
     }
     is_char_boundary(text, to)
-}
-
-// The cleaned range that a range names; an inner function, for the columns of an accepted note.
-pub fn target(starts: &[Offset], ends: &[Offset], range: Range) -> Converted
-    requires { ⌜ Columns limit (now starts) (now ends) ⌝ }
-    ensures { λ r. ⌜ r ≡ target (now (starts .entry)) (now (ends .entry)) range ⌝ }
-{
-    match range {
-        Range::Normalized(_, _) => Converted::Found(range),
-        Range::Original(_, _) => convert_checked(starts, ends, range),
-    }
 }
 
 // A range of the cleaned text made anew by a script; an inner function, for an accepted note and a whole script.
@@ -159,7 +144,7 @@ pub fn transform_range(
             if !whole(script) {
                 return Editing::Refused(Refusal::BadScript);
             }
-            match target(starts, ends, range) {
+            match as_normalized(starts, ends, range) {
                 Converted::Found(found) => edit(
                     normalized,
                     starts,

@@ -21,7 +21,7 @@ use Rattle.convert.specs.declared.OffsetReferential.{OffsetReferential}
 use Rattle.convert.specs.Converting.{rangeOf}
 use Rattle.transform.specs.declared.Editing.{Editing}
 use Rattle.transform.specs.declared.Editing.the-variants.{Edited, Refused as Unedited}
-use Rattle.transform.specs.Edits.{Edit, transformed}
+use Rattle.edit_steps.specs.Edits.{Edit, transformed}
 use Rattle.transform.specs.Transforming.{editFaults, editing, Rewritten, scriptEdit, transformFaults}
 use Rattle.transform.proofs.Verdicts.{accepted-size}
 use Rattle.edits.specs.declared.Clearing.{Clearing}

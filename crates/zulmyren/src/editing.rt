@@ -10,7 +10,7 @@ ghost use lib.ListN.{length};
 ghost use Rattle.note.specs.Notes.{lent, limit};
 ghost use Rattle.note.specs.Refusals.{least, verdict};
 ghost use Rattle.convert.specs.Converting.{rangeOf};
-ghost use Rattle.transform.specs.Edits.{transformed};
+ghost use Rattle.edit_steps.specs.Edits.{transformed};
 ghost use Rattle.transform.specs.Transforming.{Rewritten, scriptEdit, transformFaults, wholeTranscript};
 ghost use Rattle.edits.specs.Whole.{appendEdit, clearEdit, clearFaults, Emptied, filterEdit, filterFaults};
 ghost use Rattle.edits.specs.Whole.{joinFaults, mapEdit, mapFaults, prependEdit};

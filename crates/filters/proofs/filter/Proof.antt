@@ -1,11 +1,11 @@
 -- The note first, then the number of flags; what the whole range names is edited.
-use mathlib.Core.Path.{refl}
+use mathlib.Core.Path.{_∙_, refl}
 use native.Mathlib.Omega.{arith}
 use borrow.Author.Needs.{needs}
 use Rattle.note.specs.Refusals.{also}
 use Rattle.note.specs.Notes.{Note, lent, limit}
 use Rattle.note.specs.Faults.{noteFaults}
-use Rattle.transform.proofs.Verdicts.{inputs-refused, inputs-accepted, note-columns, note-editable}
+use Rattle.transform.proofs.Verdicts.{inputs-refused, inputs-accepted, note-columns, note-editable, target-of}
 use Rattle.edits.specs.Whole.{filterEdit}
 use Rattle.edits.proofs.Inputs.{note-short}
 use Rattle.filters.proofs.Counted.{flagFaults, note-first, flag-each, miscounted, well-counted, filter-found, filter-none}
@@ -40,7 +40,7 @@ returns-3 c =
     let note : Note = (lent (given .original .now) (given .normalized .now) (given .starts .now) (given .ends .now) (given .original-shift)) in
     inputs-accepted limit note (also (noteFaults limit note) (flagFaults (given .normalized .now) (given .flags .now))) refl (filterEdit note (given .flags .now)) (given .out .now) (given .out-starts .now) (given .out-ends .now)
     (well-counted limit note (given .flags .now) (told .before .before .check-note .ensures) (told .enum-told .given .1) (c .before .before .before .before .before .before .before .before .before .before .before .before .before .before .before .before .before .count-leads .ensures) (c .before .before .before .before .before .before .before .before .before .before .before .before .before .before .before .before .if1 .left)) refl
-    (filter-found note (given .flags .now) (c .before .before .before .before .before .before .before .before .before .before .before .before .before .before .before .target .ensures) (c .before .before .before .before .before .before .before .before .before .before .before .before .before .found .given .1) (c .before .before .before .before .before .before .before .before .before .before .before .start-of .ensures) (c .before .before .before .before .before .before .before .before .before .before .end-of .ensures))
+    (filter-found note (given .flags .now) (c .before .before .before .before .before .before .before .before .before .before .before .before .before .before .before .as-normalized .ensures ∙ target-of _ _ _) (c .before .before .before .before .before .before .before .before .before .before .before .before .before .found .given .1) (c .before .before .before .before .before .before .before .before .before .before .before .start-of .ensures) (c .before .before .before .before .before .before .before .before .before .before .end-of .ensures))
     (c .before .before .before .before .before .before .edit-flags .ensures)
 
 returns-4 : tie.Need-returns-4
@@ -50,7 +50,7 @@ returns-4 c =
     let note : Note = (lent (given .original .now) (given .normalized .now) (given .starts .now) (given .ends .now) (given .original-shift)) in
     inputs-accepted limit note (also (noteFaults limit note) (flagFaults (given .normalized .now) (given .flags .now))) refl (filterEdit note (given .flags .now)) (given .out .now) (given .out-starts .now) (given .out-ends .now)
     (well-counted limit note (given .flags .now) (told .before .before .check-note .ensures) (told .enum-told .given .1) (c .before .before .before .before .before .before .before .before .before .before .before .before .before .before .before .count-leads .ensures) (c .before .before .before .before .before .before .before .before .before .before .before .before .before .before .if1 .left)) refl
-    (filter-none note (given .flags .now) (c .before .before .before .before .before .before .before .before .before .before .before .before .before .target .ensures) (c .before .before .before .before .before .before .before .before .before .before .before .enum-told2 .given .1))
+    (filter-none note (given .flags .now) (c .before .before .before .before .before .before .before .before .before .before .before .before .before .as-normalized .ensures ∙ target-of _ _ _) (c .before .before .before .before .before .before .before .before .before .before .before .enum-told2 .given .1))
     (c .before .before .before .before .before .before .edit .ensures)
 
 pub filter-spec : {M : Type 1} → statement M

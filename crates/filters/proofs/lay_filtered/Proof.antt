@@ -3,7 +3,7 @@ use Prim.Native.Nat.{_+_, _-_, _^_, _≤_, _<_}
 use lib.ListN.{length}
 use native.Mathlib.Omega.{arith}
 use borrow.Author.Needs.{needs}
-use Rattle.transform.proofs.Given.{front-room, middle-room, back-room, edit-laid}
+use Rattle.edit_steps.proofs.Given.{front-room, middle-room, back-room, edit-laid}
 use Rattle.filters.proofs.lay_filtered.Statement.{statement}
 use Rattle.filters.proofs.lay_filtered.Tie as tie
 

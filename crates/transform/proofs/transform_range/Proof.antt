@@ -1,12 +1,12 @@
 -- The note first, then the script; what the range names is edited.
-use mathlib.Core.Path.{refl}
+use mathlib.Core.Path.{_∙_, refl}
 use borrow.Author.Needs.{needs}
 use Rattle.note.specs.Refusals.{also}
 use Rattle.note.specs.Notes.{Note, lent, limit}
 use Rattle.note.specs.Faults.{noteFaults}
 use Rattle.script.specs.Scripts.{commandsOf, scriptFaults}
 use Rattle.transform.specs.Transforming.{scriptEdit}
-use Rattle.transform.proofs.Verdicts.{inputs-refused, inputs-accepted, note-columns, note-editable, note-refused, script-refused, script-accepted, edit-found, edit-none}
+use Rattle.transform.proofs.Verdicts.{inputs-refused, inputs-accepted, note-columns, note-editable, note-refused, script-refused, script-accepted, target-of, edit-found, edit-none}
 use Rattle.transform.proofs.transform_range.Statement.{statement}
 use Rattle.transform.proofs.transform_range.Tie as tie
 
@@ -30,7 +30,7 @@ returns-3 c =
     let note : Note = (lent (given .original .now) (given .normalized .now) (given .starts .now) (given .ends .now) (given .original-shift)) in
     inputs-accepted limit note (also (noteFaults limit note) (scriptFaults (given .script .now))) refl (scriptEdit note (given .range) (given .script .now) (given .initial-offset)) (given .out .now) (given .out-starts .now) (given .out-ends .now)
     (script-accepted limit note (given .script .now) (told .before .before .check-note .ensures) (told .enum-told .given .1) (c .before .before .before .before .before .before .before .before .before .before .before .before .before .before .before .before .before .whole .ensures) (c .before .before .before .before .before .before .before .before .before .before .before .before .before .before .before .before .if1 .left)) refl
-    (edit-found (given .initial-offset) (commandsOf (given .script .now)) (c .before .before .before .before .before .before .before .before .before .before .before .before .before .before .before .target .ensures) (c .before .before .before .before .before .before .before .before .before .before .before .before .before .found .given .1) (c .before .before .before .before .before .before .before .before .before .before .before .start-of .ensures) (c .before .before .before .before .before .before .before .before .before .before .end-of .ensures))
+    (edit-found (given .initial-offset) (commandsOf (given .script .now)) (c .before .before .before .before .before .before .before .before .before .before .before .before .before .before .before .as-normalized .ensures ∙ target-of _ _ _) (c .before .before .before .before .before .before .before .before .before .before .before .before .before .found .given .1) (c .before .before .before .before .before .before .before .before .before .before .before .start-of .ensures) (c .before .before .before .before .before .before .before .before .before .before .end-of .ensures))
     (c .before .before .before .before .before .before .edit .ensures)
 
 returns-4 : tie.Need-returns-4
@@ -40,7 +40,7 @@ returns-4 c =
     let note : Note = (lent (given .original .now) (given .normalized .now) (given .starts .now) (given .ends .now) (given .original-shift)) in
     inputs-accepted limit note (also (noteFaults limit note) (scriptFaults (given .script .now))) refl (scriptEdit note (given .range) (given .script .now) (given .initial-offset)) (given .out .now) (given .out-starts .now) (given .out-ends .now)
     (script-accepted limit note (given .script .now) (told .before .before .check-note .ensures) (told .enum-told .given .1) (c .before .before .before .before .before .before .before .before .before .before .before .before .before .before .before .whole .ensures) (c .before .before .before .before .before .before .before .before .before .before .before .before .before .before .if1 .left)) refl
-    (edit-none (given .initial-offset) (commandsOf (given .script .now)) (c .before .before .before .before .before .before .before .before .before .before .before .before .before .target .ensures) (c .before .before .before .before .before .before .before .before .before .before .before .enum-told2 .given .1))
+    (edit-none (given .initial-offset) (commandsOf (given .script .now)) (c .before .before .before .before .before .before .before .before .before .before .before .before .before .as-normalized .ensures ∙ target-of _ _ _) (c .before .before .before .before .before .before .before .before .before .before .before .enum-told2 .given .1))
     (c .before .before .before .before .before .before .edit2 .ensures)
 
 pub transform-range-spec : {M : Type 1} → statement M

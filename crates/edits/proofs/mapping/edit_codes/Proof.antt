@@ -5,7 +5,7 @@ use lib.ListN.{length}
 use native.Mathlib.Omega.{arith}
 use borrow.Author.Needs.{needs}
 use Rattle.note.specs.Notes.{limit}
-use Rattle.transform.proofs.Positions.{skipped-none}
+use Rattle.edit_steps.proofs.Positions.{skipped-none}
 use Rattle.transform.proofs.Verdicts.{not-placed, range-inside, skip-ready, starved-refused, refused-kept, refused-size, edit-room, edit-made}
 use Rattle.edits.specs.Whole.{allReplacing}
 use Rattle.edits.proofs.mapping.edit_codes.Statement.{statement}

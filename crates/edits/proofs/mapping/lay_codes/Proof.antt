@@ -3,7 +3,7 @@ use Prim.Native.Nat.{_+_, _-_, _^_, _≤_, _<_}
 use lib.ListN.{length, drop}
 use native.Mathlib.Omega.{arith}
 use borrow.Author.Needs.{needs}
-use Rattle.transform.proofs.Given.{Going, none-going, command-room, counting, going-on, gone}
+use Rattle.edit_steps.proofs.Given.{Going, none-going, command-room, counting, going-on, gone}
 use Rattle.edits.specs.Whole.{allReplacing}
 use Rattle.edits.proofs.Codes.{replacing-cons, replacing-end}
 use Rattle.edits.proofs.mapping.lay_codes.Statement.{statement}

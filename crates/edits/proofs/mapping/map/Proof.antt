@@ -1,11 +1,11 @@
 -- The note first, then the code points, then their number; what the whole range names is edited.
-use mathlib.Core.Path.{refl}
+use mathlib.Core.Path.{_∙_, refl}
 use native.Mathlib.Omega.{arith}
 use borrow.Author.Needs.{needs}
 use Rattle.note.specs.Refusals.{also}
 use Rattle.note.specs.Notes.{Note, lent, limit}
 use Rattle.note.specs.Faults.{noteFaults}
-use Rattle.transform.proofs.Verdicts.{inputs-refused, inputs-accepted, note-columns, note-editable}
+use Rattle.transform.proofs.Verdicts.{inputs-refused, inputs-accepted, note-columns, note-editable, target-of}
 use Rattle.edits.specs.Whole.{codesFaults, mapEdit}
 use Rattle.edits.proofs.Inputs.{note-short, note-first, bad-codes, miscounted, well-counted, map-found, map-none}
 use Rattle.edits.proofs.mapping.map.Statement.{statement}
@@ -40,7 +40,7 @@ returns-4 c =
     let note : Note = (lent (given .original .now) (given .normalized .now) (given .starts .now) (given .ends .now) (given .original-shift)) in
     inputs-accepted limit note (also (noteFaults limit note) (codesFaults (given .normalized .now) (given .codes .now))) refl (mapEdit note (given .codes .now)) (given .out .now) (given .out-starts .now) (given .out-ends .now)
     (well-counted limit note (given .codes .now) (told .before .before .check-note .ensures) (told .enum-told .given .1) (c .before .before .before .before .before .before .before .before .before .before .before .before .before .before .before .before .before .before .before .all-scalar .ensures) (c .before .before .before .before .before .before .before .before .before .before .before .before .before .before .before .before .before .before .if1 .left) (c .before .before .before .before .before .before .before .before .before .before .before .before .before .before .before .before .before .count-leads .ensures) (c .before .before .before .before .before .before .before .before .before .before .before .before .before .before .before .before .if2 .left)) refl
-    (map-found note (given .codes .now) (c .before .before .before .before .before .before .before .before .before .before .before .before .before .before .before .target .ensures) (c .before .before .before .before .before .before .before .before .before .before .before .before .before .found .given .1) (c .before .before .before .before .before .before .before .before .before .before .before .start-of .ensures) (c .before .before .before .before .before .before .before .before .before .before .end-of .ensures))
+    (map-found note (given .codes .now) (c .before .before .before .before .before .before .before .before .before .before .before .before .before .before .before .as-normalized .ensures ∙ target-of _ _ _) (c .before .before .before .before .before .before .before .before .before .before .before .before .before .found .given .1) (c .before .before .before .before .before .before .before .before .before .before .before .start-of .ensures) (c .before .before .before .before .before .before .before .before .before .before .end-of .ensures))
     (c .before .before .before .before .before .before .edit-codes .ensures)
 
 returns-5 : tie.Need-returns-5
@@ -50,7 +50,7 @@ returns-5 c =
     let note : Note = (lent (given .original .now) (given .normalized .now) (given .starts .now) (given .ends .now) (given .original-shift)) in
     inputs-accepted limit note (also (noteFaults limit note) (codesFaults (given .normalized .now) (given .codes .now))) refl (mapEdit note (given .codes .now)) (given .out .now) (given .out-starts .now) (given .out-ends .now)
     (well-counted limit note (given .codes .now) (told .before .before .check-note .ensures) (told .enum-told .given .1) (c .before .before .before .before .before .before .before .before .before .before .before .before .before .before .before .before .before .all-scalar .ensures) (c .before .before .before .before .before .before .before .before .before .before .before .before .before .before .before .before .if1 .left) (c .before .before .before .before .before .before .before .before .before .before .before .before .before .before .before .count-leads .ensures) (c .before .before .before .before .before .before .before .before .before .before .before .before .before .before .if2 .left)) refl
-    (map-none note (given .codes .now) (c .before .before .before .before .before .before .before .before .before .before .before .before .before .target .ensures) (c .before .before .before .before .before .before .before .before .before .before .before .enum-told2 .given .1))
+    (map-none note (given .codes .now) (c .before .before .before .before .before .before .before .before .before .before .before .before .before .as-normalized .ensures ∙ target-of _ _ _) (c .before .before .before .before .before .before .before .before .before .before .before .enum-told2 .given .1))
     (c .before .before .before .before .before .before .edit-codes2 .ensures)
 
 pub map-spec : {M : Type 1} → statement M

@@ -1,9 +1,9 @@
 -- Each turn passes one more character; the range's end, or the count, is the way out.
 use Prim.Native.Nat.{_-_}
 use native.Mathlib.Omega.{arith}
-use Rattle.transform.proofs.Positions.{char-begins, Skipping, none-skipped, one-skipped, range-ends, all-skipped}
-use Rattle.transform.proofs.walking.skip.Statement.{statement}
-use Rattle.transform.proofs.walking.skip.Tie as tie
+use Rattle.edit_steps.proofs.Positions.{char-begins, Skipping, none-skipped, one-skipped, range-ends, all-skipped}
+use Rattle.edit_steps.proofs.walking.skip.Statement.{statement}
+use Rattle.edit_steps.proofs.walking.skip.Tie as tie
 
 abbrev Inv-loop : tie.InvT-loop
 Inv-loop text to count from table p₀ k₀ p k = Skipping text to count from k p

@@ -4,9 +4,9 @@ use lib.ListN.{length, length-take}
 use lib.Seq.{length-take-le}
 use mathlib.Core.Path.{sym}
 use borrow.Author.Needs.{needs}
-use Rattle.transform.proofs.Given.{encoded-size, encoded-inside, encoded-laid}
-use Rattle.transform.proofs.laying.put_character.Statement.{statement}
-use Rattle.transform.proofs.laying.put_character.Tie as tie
+use Rattle.edit_steps.proofs.Given.{encoded-size, encoded-inside, encoded-laid}
+use Rattle.edit_steps.proofs.laying.put_character.Statement.{statement}
+use Rattle.edit_steps.proofs.laying.put_character.Tie as tie
 
 copy-bytes-requires : tie.Need-copy-bytes-requires
 copy-bytes-requires c κs =

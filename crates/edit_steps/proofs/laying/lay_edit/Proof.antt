@@ -3,9 +3,9 @@ use Prim.Native.Nat.{_+_, _-_, _^_, _≤_, _<_}
 use lib.ListN.{length}
 use native.Mathlib.Omega.{arith}
 use borrow.Author.Needs.{needs}
-use Rattle.transform.proofs.Given.{front-room, middle-room, back-room, edit-laid}
-use Rattle.transform.proofs.laying.lay_edit.Statement.{statement}
-use Rattle.transform.proofs.laying.lay_edit.Tie as tie
+use Rattle.edit_steps.proofs.Given.{front-room, middle-room, back-room, edit-laid}
+use Rattle.edit_steps.proofs.laying.lay_edit.Statement.{statement}
+use Rattle.edit_steps.proofs.laying.lay_edit.Tie as tie
 
 lay-script-requires : tie.Need-lay-script-requires
 lay-script-requires c κs = let front = c .before .before .before .before .before .before .before .before .before in middle-room (front .before .before .before .before .before .before .before .before .before .before .before .pre) (front .keep .ensures)

@@ -6,9 +6,9 @@ use native.Mathlib.Omega.{arith}
 use borrow.Author.Needs.{needs}
 use Rattle.script.proofs.Scripts.{entry-step, entry-broken, entries-end}
 use Rattle.script.specs.Scripts.{commandsOf}
-use Rattle.transform.proofs.Given.{Going, none-going, command-room, counting, going-on, gone}
-use Rattle.transform.proofs.laying.lay_script.Statement.{statement}
-use Rattle.transform.proofs.laying.lay_script.Tie as tie
+use Rattle.edit_steps.proofs.Given.{Going, none-going, command-room, counting, going-on, gone}
+use Rattle.edit_steps.proofs.laying.lay_script.Statement.{statement}
+use Rattle.edit_steps.proofs.laying.lay_script.Tie as tie
 
 abbrev Inv-loop : tie.InvT-loop
 Inv-loop text starts ends to position script table out₀ out-starts₀ out-ends₀ at progress₀ i₀ out out-starts out-ends progress i =

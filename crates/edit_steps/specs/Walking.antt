@@ -11,10 +11,10 @@ use Rattle.utf8.specs.Scalar.{bytesOf}
 use Rattle.utf8.specs.Lengths.{lengthTable}
 use Rattle.script.specs.declared.Command.{Command}
 use Rattle.script.specs.Scripts.{sizeOf, commandsOf}
-use Rattle.transform.specs.declared.walking.Progress.{Progress}
-use Rattle.transform.specs.declared.walking.Extent.{Extent}
-use Rattle.transform.specs.declared.walking.Extent.the-variants.{Size, Starved}
-use Rattle.transform.specs.Edits.{starves, moved, starved, characters, carried, given, Edit, begins, edited}
+use Rattle.edit_steps.specs.declared.walking.Progress.{Progress}
+use Rattle.edit_steps.specs.declared.walking.Extent.{Extent}
+use Rattle.edit_steps.specs.declared.walking.Extent.the-variants.{Size, Starved}
+use Rattle.edit_steps.specs.Edits.{starves, moved, starved, characters, carried, given, Edit, begins, edited}
 
 -- a position of a well-formed text, at a boundary before another one or there
 pub record Standing (s : List ℕ) (b p : ℕ) : Type 0 where

@@ -8,9 +8,9 @@ use Rattle.buffers.specs.Splice.{part, splice, overlay}
 use Rattle.utf8.specs.Formed.{wellFormed}
 use Rattle.script.specs.declared.Command.{Command}
 use Rattle.script.specs.Scripts.{sizeOf}
-use Rattle.transform.specs.declared.walking.Progress.{Progress}
-use Rattle.transform.specs.Edits.{starves, starved, characters, carried, given, relaid}
-use Rattle.transform.specs.Walking.{Standing, Tabled, sizes}
+use Rattle.edit_steps.specs.declared.walking.Progress.{Progress}
+use Rattle.edit_steps.specs.Edits.{starves, starved, characters, carried, given, relaid}
+use Rattle.edit_steps.specs.Walking.{Standing, Tabled, sizes}
 
 -- what an edit is told of the note
 pub record Editable (s starts ends : List ℕ) : Type 0 where

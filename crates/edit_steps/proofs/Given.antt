@@ -17,11 +17,11 @@ use Rattle.note.specs.Notes.{beforeEnd}
 use Rattle.script.specs.declared.Command.{Command}
 use Rattle.script.specs.Scripts.{sizeOf}
 use Rattle.script.proofs.Scripts.{size-most}
-use Rattle.transform.specs.declared.walking.Progress.{Progress}
-use Rattle.transform.specs.Edits.{starves, moved, starved, carries, characters, carried, given, relaid}
-use Rattle.transform.specs.Walking.{Standing, Tabled, Counting, sizes, stepped}
-use Rattle.transform.specs.Laying.{KeepRoom, Kept, Reached, Room, CommandLaid, CommandsRoom, CommandsLaid, EditRoom, EditLaid}
-use Rattle.transform.proofs.Positions.{feeds, standing-moved, stepped-fed}
+use Rattle.edit_steps.specs.declared.walking.Progress.{Progress}
+use Rattle.edit_steps.specs.Edits.{skipped, starves, moved, starved, carries, characters, carried, given, begins, relaid, edited, transformed, Unchanged}
+use Rattle.edit_steps.specs.Walking.{Standing, Tabled, Counting, sizes, stepped}
+use Rattle.edit_steps.specs.Laying.{KeepRoom, Kept, Reached, Room, CommandLaid, CommandsRoom, CommandsLaid, EditRoom, EditLaid}
+use Rattle.edit_steps.proofs.Positions.{feeds, standing-moved, stepped-fed}
 
 -- one character
 module _ {c : ℕ} {r : Encoded} (e : EncodedAs c r) where
@@ -277,3 +277,7 @@ module _ {s starts ends : List ℕ} {a b p : ℕ} {cs : List Command} {table out
             starts-are = pieces-laid (carried starts) (carried-wide starts) s starts a b p (length s) cs starts₀ (r .one-start) (r .forward) (r .inside) (k .starts-are) (m .starts-are) (m .reached) (j .starts-are);
             ends-are = pieces-laid (carried ends) (carried-wide ends) s ends a b p (length s) cs ends₀ (r .one-end) (r .forward) (r .inside) (k .ends-are) (m .ends-are) (m .reached) (j .ends-are);
           }
+
+pub unchanged : Unchanged
+unfolding transformed edited relaid given begins skipped
+unchanged n = refl

@@ -4,9 +4,9 @@ use lib.ListN.{length}
 use native.Mathlib.Omega.{arith}
 use borrow.Author.Needs.{needs}
 use Rattle.script.proofs.Scripts.{entry-step}
-use Rattle.transform.proofs.Measured.{Measuring, none-measured, starves-there, counting, one-measured, broken-measured, all-measured}
-use Rattle.transform.proofs.walking.measure.Statement.{statement}
-use Rattle.transform.proofs.walking.measure.Tie as tie
+use Rattle.edit_steps.proofs.Measured.{Measuring, none-measured, starves-there, counting, one-measured, broken-measured, all-measured}
+use Rattle.edit_steps.proofs.walking.measure.Statement.{statement}
+use Rattle.edit_steps.proofs.walking.measure.Tie as tie
 
 abbrev Inv-loop : tie.InvT-loop
 Inv-loop text to position script table progress₀ i₀ progress i = Measuring text to position script progress i

@@ -17,9 +17,9 @@ ghost use lib.ListN.{length};
 ghost use Rattle.buffers.specs.Splice.{Laid};
 ghost use Rattle.utf8.specs.Scalar.{bytesOf};
 ghost use Rattle.script.specs.Scripts.{commandsOf, sizeOf};
-ghost use Rattle.transform.specs.Edits.{carries};
-ghost use Rattle.transform.specs.Laying.{CommandLaid, EditLaid, EditRoom, Kept, KeepRoom, Reached, Room};
-ghost use Rattle.transform.specs.Laying.{CommandsLaid, CommandsRoom};
+ghost use Rattle.edit_steps.specs.Edits.{carries};
+ghost use Rattle.edit_steps.specs.Laying.{CommandLaid, EditLaid, EditRoom, Kept, KeepRoom, Reached, Room};
+ghost use Rattle.edit_steps.specs.Laying.{CommandsLaid, CommandsRoom};
 
 // Bytes that stay, with their alignments, laid into the buffers from `at` on.
 pub fn keep(

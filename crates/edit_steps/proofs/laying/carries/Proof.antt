@@ -1,9 +1,9 @@
 -- An added character, and a replacing one.
 use native.Mathlib.Omega.{arith}
 use borrow.Author.Needs.{needs}
-use Rattle.transform.proofs.Given.{carries-added, carries-replacing}
-use Rattle.transform.proofs.laying.carries.Statement.{statement}
-use Rattle.transform.proofs.laying.carries.Tie as tie
+use Rattle.edit_steps.proofs.Given.{carries-added, carries-replacing}
+use Rattle.edit_steps.proofs.laying.carries.Statement.{statement}
+use Rattle.edit_steps.proofs.laying.carries.Tie as tie
 
 pub carries-spec : {M : Type 1} → statement M
 carries-spec =

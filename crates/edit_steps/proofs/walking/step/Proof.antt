@@ -1,8 +1,8 @@
 -- A command that starves, one that adds, one that replaces.
 use borrow.Author.Needs.{needs}
-use Rattle.transform.proofs.Positions.{stepped-starves, stepped-added, stepped-replacing}
-use Rattle.transform.proofs.walking.step.Statement.{statement}
-use Rattle.transform.proofs.walking.step.Tie as tie
+use Rattle.edit_steps.proofs.Positions.{stepped-starves, stepped-added, stepped-replacing}
+use Rattle.edit_steps.proofs.walking.step.Statement.{statement}
+use Rattle.edit_steps.proofs.walking.step.Tie as tie
 
 returns-3 : tie.Need-returns-3
 returns-3 c =

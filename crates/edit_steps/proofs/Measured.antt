@@ -11,12 +11,12 @@ use Rattle.script.specs.declared.Entry.{Entry}
 use Rattle.script.specs.declared.Entry.the-variants.{At, Broken}
 use Rattle.script.specs.Scripts.{sizeOf, entryAt, commandsOf}
 use Rattle.script.proofs.Scripts.{Stepped, entry-step, entry-broken, entries-end}
-use Rattle.transform.specs.declared.walking.Progress.{Progress}
-use Rattle.transform.specs.declared.walking.Extent.{Extent}
-use Rattle.transform.specs.declared.walking.Extent.the-variants.{Size, Starved}
-use Rattle.transform.specs.Edits.{skipped, starves, moved, starved}
-use Rattle.transform.specs.Walking.{Standing, Tabled, Counting, sizes, stepped, measured}
-use Rattle.transform.proofs.Positions.{standing-moved, stepped-fed}
+use Rattle.edit_steps.specs.declared.walking.Progress.{Progress}
+use Rattle.edit_steps.specs.declared.walking.Extent.{Extent}
+use Rattle.edit_steps.specs.declared.walking.Extent.the-variants.{Size, Starved}
+use Rattle.edit_steps.specs.Edits.{skipped, starves, moved, starved}
+use Rattle.edit_steps.specs.Walking.{Standing, Tabled, Counting, sizes, stepped, measured}
+use Rattle.edit_steps.proofs.Positions.{standing-moved, stepped-fed}
 
 -- some commands have gone by: what is left starves and counts as all did
 pub record Passed (s : List ℕ) (b from : ℕ) (all rest : List Command) (g : Progress) : Type 0 where

@@ -1,9 +1,9 @@
 -- The character's bytes, and as many times what it carries of each column.
 use native.Mathlib.Omega.{arith}
 use borrow.Author.Needs.{needs}
-use Rattle.transform.proofs.Given.{command-laid, laid-size}
-use Rattle.transform.proofs.laying.lay_command.Statement.{statement}
-use Rattle.transform.proofs.laying.lay_command.Tie as tie
+use Rattle.edit_steps.proofs.Given.{command-laid, laid-size}
+use Rattle.edit_steps.proofs.laying.lay_command.Statement.{statement}
+use Rattle.edit_steps.proofs.laying.lay_command.Tie as tie
 
 returns : tie.Need-returns
 returns c =

@@ -14,9 +14,9 @@ use Rattle.utf8.specs.Lengths.{CharBegins, CharLen}
 use Rattle.utf8.proofs.Boundaries.{CharAt, char-at, boundary-begins, boundary-most}
 use Rattle.script.specs.declared.Command.{Command}
 use Rattle.script.specs.Scripts.{sizeOf}
-use Rattle.transform.specs.declared.walking.Progress.{Progress}
-use Rattle.transform.specs.Edits.{skipped, starves, moved}
-use Rattle.transform.specs.Walking.{Standing, Tabled, stepped}
+use Rattle.edit_steps.specs.declared.walking.Progress.{Progress}
+use Rattle.edit_steps.specs.Edits.{skipped, starves, moved}
+use Rattle.edit_steps.specs.Walking.{Standing, Tabled, stepped}
 
 -- one character on
 pub standing-next : {s : List ℕ} {b p : ℕ} → Standing s b p → p < b → Standing s b (p + announced (getD s p 0))

@@ -7,8 +7,8 @@ use script::size_of;
 use utf8::lead::char_len;
 ghost use mathlib.Core.Path.{_≡_};
 ghost use Rattle.script.specs.Scripts.{commandsOf};
-ghost use Rattle.transform.specs.Edits.{skipped, starves};
-ghost use Rattle.transform.specs.Walking.{Counting, Tabled, measured, stepped};
+ghost use Rattle.edit_steps.specs.Edits.{skipped, starves};
+ghost use Rattle.edit_steps.specs.Walking.{Counting, Tabled, measured, stepped};
 
 // The running position in the cleaned text, and how many bytes have been written so far.
 pub struct Progress {
