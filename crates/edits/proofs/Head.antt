@@ -20,7 +20,7 @@ use Rattle.convert.specs.Converting.{inOriginal, inNormalized, toNormalized, co
 use Rattle.convert.specs.Leading.{leading, First}
 use Rattle.convert.proofs.Leading.{leading-most, leading-past, converted-by-leading}
 use Rattle.script.specs.declared.Command.{Command}
-use Rattle.transform.specs.Edits.{starved, given, Edit, placed, relaid, edited, transformed, unchanging}
+use Rattle.edit_steps.specs.Edits.{starved, given, Edit, placed, relaid, edited, transformed, unchanging}
 use Rattle.transform.specs.Transforming.{editOf}
 use Rattle.edits.specs.Whole.{wholeEdit, clearEdit}
 use Rattle.edits.specs.Plain.{Makes, WholePlaced, widthless, headBytes, HeadWhole, cleared, ClearedClosed}

@@ -19,9 +19,9 @@ use Rattle.note.specs.Notes.{Note, Sound}
 use Rattle.note.proofs.Sound.{length-starts, length-ends, normalized-formed}
 use Rattle.script.specs.declared.Command.{Command}
 use Rattle.script.specs.Scripts.{sizeOf}
-use Rattle.transform.specs.Edits.{skipped, starves, moved, starved, carries, characters, carried, given, begins, relaid, edited, transformed, unchanging}
-use Rattle.transform.specs.Walking.{Standing}
-use Rattle.transform.proofs.Positions.{standing-next, skipped-none, skipped-past, skipped-on, starves-replacing, moved-replacing}
+use Rattle.edit_steps.specs.Edits.{skipped, starves, moved, starved, carries, characters, carried, given, begins, relaid, edited, transformed, unchanging}
+use Rattle.edit_steps.specs.Walking.{Standing}
+use Rattle.edit_steps.proofs.Positions.{standing-next, skipped-none, skipped-past, skipped-on, starves-replacing, moved-replacing}
 use Rattle.edits.specs.Characters.{codesFrom, codesOf, textOf}
 use Rattle.edits.specs.Whole.{replacing, allReplacing, wholeEdit, mapEdit, droppedAhead, anyKept, keptCommands, filterEdit}
 use Rattle.edits.specs.Plain.{MakesUnless, headBytes, headLetters, ofLetters, spread, mapped, MappedClosed, sifted, cleared, sieved, tailKept, FilteredClosed}

@@ -10,7 +10,7 @@ use Rattle.utf8.specs.Letters.{letters}
 use Rattle.note.specs.Notes.{Note, lent, Sound}
 use Rattle.script.specs.declared.Command.{Command}
 use Rattle.script.specs.Scripts.{sizeOf}
-use Rattle.transform.specs.Edits.{starved, Edit, placed, begins, transformed}
+use Rattle.edit_steps.specs.Edits.{starved, Edit, placed, begins, transformed}
 use Rattle.edits.specs.Characters.{codesOf, textOf}
 use Rattle.edits.specs.Whole.{wholeEdit, clearEdit, mapEdit, anyKept, filterEdit}
 
