@@ -1,14 +1,19 @@
 -- Laws of `widthless`: what the whole transcript converts to, and the edits of a whole note by it.
-use Prim.Native.Nat.{ℕ, zero, suc, _+_, _≤_, _<_}
+use Prim.Native.Nat.{ℕ, zero, suc, _+_, _-_, _≤_, _<_}
 use mathlib.Core.Path.{_≡_, _∙_, refl, sym}
-use mathlib.Core.Bool.{true}
+use mathlib.Core.Bool.{Bool, true, false, not}
 use mathlib.Core.List.{List, [], _∷_, _++_, append-nil}
+use native.Mathlib.Numerals.{add-one}
 use native.Mathlib.Omega.{arith}
 use lib.Dec.{eqb}
-use lib.ListN.{length, getD, take, drop, drop-of-length-le}
-use lib.Seq.{take-length}
-use borrow.Author.Tests.{le-leb, eq-eqb, eqb-true, eqb-false}
+use lib.ListN.{length, getD, take, drop, drop-of-length-le, take-append-drop}
+use lib.Seq.{take-length, drop-cons, drop-drop}
+use borrow.Author.Tests.{le-leb, eq-eqb, ne-eqb, eqb-true, eqb-false, not-false}
+use Rattle.buffers.specs.Splice.{part}
+use Rattle.buffers.specs.Same.{same}
 use Rattle.buffers.proofs.Cases.{le-or-lt, true-or-false}
+use Rattle.buffers.proofs.Same.{same-equal}
+use Rattle.buffers.proofs.Splice.{length-part}
 use Rattle.utf8.specs.Formed.{continues, boundary}
 use Rattle.utf8.proofs.Boundaries.{boundary-at, boundary-zero, boundary-length}
 use Rattle.note.specs.declared.Refusal.the-variants.{Missing}
@@ -24,6 +29,7 @@ use Rattle.edit_steps.specs.Edits.{starved, given, Edit, placed, relaid, edited
 use Rattle.transform.specs.Transforming.{editOf}
 use Rattle.edits.specs.Whole.{wholeEdit, clearEdit}
 use Rattle.edits.specs.Plain.{Makes, WholePlaced, widthless, headBytes, HeadWhole, cleared, ClearedClosed}
+use Rattle.edits.specs.Laying.{HeadPassed}
 
 pub none-of : (xs : List ℕ) → length xs ≡ 0 → xs ≡ []
 none-of [] e = refl
@@ -60,6 +66,56 @@ widthless-past (s ∷ starts) (e ∷ ends) same h =
     true-or-false (eqb s e)
     (λ t. rw t (widthless-past starts ends (omega arith) (omega (arith, rw t at h))))
     (λ f. rw f (eqb-false s e f))
+
+-- counted from the front on, one by one and in blocks
+pub none-passed : {starts ends : List ℕ} → HeadPassed starts ends 0
+none-passed = record { most = omega arith; same = omega arith }
+
+widthless-cons : (s e : ℕ) (starts ends : List ℕ) → s ≡ e → widthless (s ∷ starts) (e ∷ ends) ≡ suc (widthless starts ends)
+unfolding widthless
+widthless-cons s e starts ends same = rw (eq-eqb s e same)
+
+widthless-stop : (s e : ℕ) (starts ends : List ℕ) → (s ≡ e → ⊥) → widthless (s ∷ starts) (e ∷ ends) ≡ 0
+unfolding widthless
+widthless-stop s e starts ends differ = rw (ne-eqb s e differ)
+
+none-left : (ends : List ℕ) → widthless [] ends ≡ 0
+unfolding widthless
+none-left ends = refl
+
+widthless-both : (a x y : List ℕ) → widthless (a ++ x) (a ++ y) ≡ length a + widthless x y
+widthless-both [] x y = omega arith
+widthless-both (s ∷ a) x y = widthless-cons s s (a ++ x) (a ++ y) refl ∙ rw (widthless-both a x y) (omega arith)
+
+widthless-append : (a b x y : List ℕ) → a ≡ b → widthless (a ++ x) (b ++ y) ≡ length a + widthless x y
+widthless-append a b x y e = rw (← e) (widthless-both a x y)
+
+block-cut : (xs : List ℕ) (i : ℕ) → part xs i (i + 64) ++ drop (i + 64) xs ≡ drop i xs
+block-cut xs i = let z : i + 64 - i ≡ 64 = omega arith in rw (z, ← drop-drop 64 i xs) (take-append-drop 64 (drop i xs))
+
+module _ {starts ends : List ℕ} {i : ℕ} (k : HeadPassed starts ends i) (even : length starts ≡ length ends) where
+  pub one-passed : i < length starts → getD starts i 0 ≡ getD ends i 0 → HeadPassed starts ends (i + 1)
+  one-passed h is =
+      let here : widthless (drop i starts) (drop i ends) ≡ suc (widthless (drop (i + 1) starts) (drop (i + 1) ends)) = rw (drop-cons starts i 0 h, drop-cons ends i 0 (omega arith), add-one i) (widthless-cons (getD starts i 0) (getD ends i 0) (drop (suc i) starts) (drop (suc i) ends) is) in
+      record { most = omega arith; same = omega (arith, k .same, here) }
+
+  pub block-passed : {t : Bool} → i + 64 ≤ length starts → t ≡ same (part starts i (i + 64)) (part ends i (i + 64)) → not t ≡ false → HeadPassed starts ends (i + 64)
+  block-passed {t} h is fine =
+      let alike : part starts i (i + 64) ≡ part ends i (i + 64) = same-equal _ _ (sym is ∙ not-false t fine) in
+      let long : length (part starts i (i + 64)) ≡ i + 64 - i = length-part starts i (i + 64) h in
+      let cut = rw (block-cut starts i, block-cut ends i) at (widthless-append (part starts i (i + 64)) (part ends i (i + 64)) (drop (i + 64) starts) (drop (i + 64) ends) alike) in
+      let here : widthless (drop i starts) (drop i ends) ≡ 64 + widthless (drop (i + 64) starts) (drop (i + 64) ends) = omega (arith, cut, long) in
+      record { most = omega arith; same = omega (arith, k .same, here) }
+
+  pub stop-passed : i < length starts → (getD starts i 0 ≡ getD ends i 0 → ⊥) → i ≡ widthless starts ends
+  stop-passed h differ =
+      let here : widthless (drop i starts) (drop i ends) ≡ 0 = rw (drop-cons starts i 0 h, drop-cons ends i 0 (omega arith)) (widthless-stop (getD starts i 0) (getD ends i 0) (drop (suc i) starts) (drop (suc i) ends) differ) in
+      omega (arith, k .same, here)
+
+  pub all-passed : length starts ≤ i → i ≡ widthless starts ends
+  all-passed past =
+      let here : widthless (drop i starts) (drop i ends) ≡ 0 = rw (drop-of-length-le starts past) (none-left (drop i ends)) in
+      omega (arith, k .same, here)
 
 module _ (n : Note) (sound : Sound n) where
   abbrev N : ℕ

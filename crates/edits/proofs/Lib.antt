@@ -4,4 +4,5 @@ pub mod Codes
 pub mod Head
 pub mod Sifted
 pub mod Inputs
+pub mod Made
 pub mod Emptied

@@ -2,3 +2,4 @@
 pub mod Characters
 pub mod Whole
 pub mod Plain
+pub mod Laying
