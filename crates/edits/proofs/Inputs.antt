@@ -37,6 +37,12 @@ module _ (most : ℕ) (n : Note) {v : Verdict} (noted : v ≡ verdict (noteFault
       let within = accepted-sound most n (sym noted ∙ ok) .1 in
       leb-true _ _ (and-elim-left _ (leb (length (n .normalized)) most) (and-elim-left _ _ within))
 
+  pub text-short : length (n .normalized) ≤ most
+  unfolding fits
+  text-short =
+      let within = accepted-sound most n (sym noted ∙ ok) .1 in
+      leb-true _ _ (and-elim-right (leb (length (n .original)) most) _ (and-elim-left _ _ within))
+
 -- code points
 module _ (most : ℕ) (n : Note) (codes : List ℕ) {v : Verdict} (noted : v ≡ verdict (noteFaults most n)) where
   pub note-first : {k : Refusal} → v ≡ Rejected k → Rejected k ≡ verdict (also (noteFaults most n) (codesFaults (n .normalized) codes))

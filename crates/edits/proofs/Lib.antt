@@ -1,5 +1,8 @@
 -- Laws of whole-note edits.
 pub mod Characters
 pub mod Codes
+pub mod Head
+pub mod Sifted
 pub mod Inputs
+pub mod Made
 pub mod Emptied

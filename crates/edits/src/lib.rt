@@ -1,11 +1,15 @@
 // Whole-note edits (RULES 8; Rust: `filter`, `prepend`, `append`, `map`, `clear`).
+pub mod front;
 pub mod mapping;
 
 use buffers::Offset;
-use note::LIMIT;
+use buffers::copy_bytes;
+use buffers::copy_offsets;
+use checks::check_note;
+use checks::least_room;
+use front::widthless;
 use note::Refusal;
-use transform::Editing;
-use transform::transform;
+use note::Verdict;
 ghost use lib.ListN.{length};
 ghost use Rattle.note.specs.Notes.{lent, limit};
 ghost use Rattle.note.specs.Refusals.{least, verdict};
@@ -18,7 +22,7 @@ pub enum Clearing {
     Refused(Refusal),
 }
 
-// Rust: `clear`: no command, over the whole range.
+// Rust: `clear`: the head stays. Refusals: those of a note, 9.
 pub fn clear(
     original: &[u8],
     normalized: &[u8],
@@ -45,22 +49,17 @@ pub fn clear(
         (now (out .entry)) (now («out_starts» .entry)) (now («out_ends» .entry))
         r (now (out .exit)) (now («out_starts» .exit)) (now («out_ends» .exit)) ⌝ }
 {
-    if LIMIT < normalized.len() {
-        return Clearing::Refused(Refusal::TooLong);
-    }
-    match transform(
-        original,
-        normalized,
-        starts,
-        ends,
-        original_shift,
-        &normalized[..0],
-        normalized.len() as u32,
-        out,
-        out_starts,
-        out_ends,
-    ) {
-        Editing::Edited(left) => Clearing::Cleared(normalized.len(), left),
-        Editing::Refused(k) => Clearing::Refused(k),
+    match check_note(original, normalized, starts, ends, original_shift) {
+        Verdict::Refused(k) => Clearing::Refused(k),
+        Verdict::Accepted => {
+            let left = widthless(starts, ends);
+            if least_room(out.len(), out_starts.len(), out_ends.len()) < left {
+                return Clearing::Refused(Refusal::NoRoom);
+            }
+            copy_bytes(&normalized[..left], out, 0);
+            copy_offsets(&starts[..left], out_starts, 0);
+            copy_offsets(&ends[..left], out_ends, 0);
+            Clearing::Cleared(normalized.len(), left)
+        }
     }
 }

@@ -1,0 +1,466 @@
+-- `map` and `filter` by their commands are what their plain words say: flag by flag, a code point and a character of the
+-- range go by.
+use Prim.Native.Nat.{ℕ, zero, suc, _+_, _-_, _≤_, _<_}
+use mathlib.Core.Path.{_≡_, _∙_, ap, refl, sym}
+use mathlib.Core.Bool.{true, false, cond}
+use mathlib.Core.List.{List, [], _∷_, _++_, append-nil}
+use native.Mathlib.Omega.{arith}
+use lib.Dec.{ltb, eqb}
+use lib.ListN.{length, getD, take, drop, replicate, drop-of-length-le, length-drop, length-replicate, take-append-drop}
+use lib.Seq.{drop-cons, length-take-le}
+use borrow.Author.Tests.{le-leb, lt-leb, lt-ltb, ltb-false}
+use Rattle.buffers.proofs.Cases.{le-or-lt, true-or-false, clash}
+use Rattle.utf8.specs.Formed.{announced, wellFormed, continues, boundary}
+use Rattle.utf8.specs.Scalar.{bytesOf}
+use Rattle.utf8.specs.Letters.{lettersFrom, letters, leadAt, leads}
+use Rattle.utf8.proofs.Boundaries.{CharAt, char-at, boundary-begins, boundary-zero, boundary-length, formed-take}
+use Rattle.utf8.proofs.Letters.{letters-leads, leads-append, leads-le-length}
+use Rattle.note.specs.Notes.{Note, Sound}
+use Rattle.note.proofs.Sound.{length-starts, length-ends, normalized-formed}
+use Rattle.script.specs.declared.Command.{Command}
+use Rattle.script.specs.Scripts.{sizeOf}
+use Rattle.edit_steps.specs.Edits.{skipped, starves, moved, starved, carries, characters, carried, given, begins, relaid, edited, transformed, unchanging}
+use Rattle.edit_steps.specs.Walking.{Standing}
+use Rattle.edit_steps.proofs.Positions.{standing-next, skipped-none, skipped-past, skipped-on, starves-replacing, moved-replacing}
+use Rattle.edits.specs.Characters.{codesFrom, codesOf, textOf}
+use Rattle.edits.specs.Whole.{replacing, allReplacing, wholeEdit, mapEdit, droppedAhead, anyKept, keptCommands, filterEdit}
+use Rattle.edits.specs.Plain.{MakesUnless, headBytes, headLetters, ofLetters, spread, mapped, MappedClosed, sifted, cleared, sieved, tailKept, FilteredClosed}
+use Rattle.edits.proofs.Head.{none-of, head-is-all, head-most, head-stands, head-placed, zero-placed, whole-cases}
+
+-- characters skipped one by one
+pub skipped-suc : (s : List ℕ) (b d p : ℕ) → skipped s b (suc d) p ≡ skipped s b d (skipped s b 1 p)
+skipped-suc s b d p =
+    le-or-lt b p
+    (λ past. skipped-past s b (suc d) p past ∙ sym (rw (skipped-past s b 1 p past) (skipped-past s b d p past)))
+    (λ more. skipped-on s b d p more ∙ sym (rw (skipped-on s b 0 p more, skipped-none s b (p + announced (getD s p 0)))))
+
+sifted-none : (ks : List ℕ) → sifted ks [] ≡ []
+unfolding sifted
+sifted-none [] = refl
+sifted-none (k ∷ ks) = refl
+
+spread-none : (cs : List ℕ) → spread cs [] ≡ []
+unfolding spread
+spread-none [] = refl
+spread-none (c ∷ cs) = refl
+
+-- the letters of a column, from a place on
+pub letters-drop : (k : ℕ) (s xs : List ℕ) → length xs ≡ length s → ofLetters (drop k s) (drop k xs) ≡ drop (leads (take k s)) (ofLetters s xs)
+unfolding ofLetters leads leadAt
+letters-drop zero s xs same = refl
+letters-drop (suc k) [] [] same = refl
+letters-drop (suc k) [] (x ∷ xs) same = absurd (omega arith)
+letters-drop (suc k) (b ∷ s) [] same = absurd (omega arith)
+letters-drop (suc k) (b ∷ s) (x ∷ xs) same =
+    true-or-false (continues b)
+    (λ goes. let z : 0 + leads (take k s) ≡ leads (take k s) = omega arith in rw (goes, z) (letters-drop k s xs (omega arith)))
+    (λ new. let z : 1 + leads (take k s) ≡ suc (leads (take k s)) = omega arith in rw (new, z) (letters-drop k s xs (omega arith)))
+
+pub length-letters : (s xs : List ℕ) → length xs ≡ length s → length (ofLetters s xs) ≡ leads s
+unfolding ofLetters leads leadAt
+length-letters [] xs same = refl
+length-letters (b ∷ s) [] same = absurd (omega arith)
+length-letters (b ∷ s) (x ∷ xs) same =
+    true-or-false (continues b)
+    (λ goes. rw goes (length-letters s xs (omega arith) ∙ omega arith))
+    (λ new. rw new (ap suc (length-letters s xs (omega arith)) ∙ omega arith))
+
+-- one character less
+letters-none : ofLetters [] [] ≡ []
+unfolding ofLetters
+letters-none = refl
+
+new-letter : (b x : ℕ) (s xs : List ℕ) → continues b ≡ false → ofLetters (b ∷ s) (x ∷ xs) ≡ x ∷ ofLetters s xs
+unfolding ofLetters
+new-letter b x s xs new = rw new
+
+old-letter : (b x : ℕ) (s xs : List ℕ) → continues b ≡ true → ofLetters (b ∷ s) (x ∷ xs) ≡ ofLetters s xs
+unfolding ofLetters
+old-letter b x s xs goes = rw goes
+
+module _ (s xs : List ℕ) (same : length xs ≡ length s) where
+  -- up to the end of a character no letter begins
+  letters-rest : (k p : ℕ) → p + k ≤ length s → ((i : ℕ) → p ≤ i → i < p + k → continues (getD s i 0) ≡ true) → ofLetters (drop p s) (drop p xs) ≡ ofLetters (drop (p + k) s) (drop (p + k) xs)
+  letters-rest zero p h goes = let z : p + 0 ≡ p = omega arith in rw z
+  letters-rest (suc k) p h goes =
+      let z : suc p + k ≡ p + suc k = omega arith in
+      rw (drop-cons s p 0 (omega arith), drop-cons xs p 0 (omega arith))
+      (old-letter (getD s p 0) (getD xs p 0) (drop (suc p) s) (drop (suc p) xs) (goes p (omega arith) (omega arith))
+      ∙ (rw z at (letters-rest k (suc p) (omega arith) (λ i a b. goes i (omega arith) (omega arith)))))
+
+  pub letter-at : (p : ℕ) → wellFormed s ≡ true → boundary s p ≡ true → p < length s → ofLetters (drop p s) (drop p xs) ≡ getD xs p 0 ∷ ofLetters (drop (p + announced (getD s p 0)) s) (drop (p + announced (getD s p 0)) xs)
+  letter-at p formed here h =
+      let w : ℕ = announced (getD s p 0) in
+      let char : CharAt s p w = char-at s p formed here h in
+      let z : suc p + (w - 1) ≡ p + w = omega (arith, char .positive) in
+      rw (drop-cons s p 0 h, drop-cons xs p 0 (omega arith))
+      (new-letter (getD s p 0) (getD xs p 0) (drop (suc p) s) (drop (suc p) xs) (boundary-begins s p here)
+      ∙ ap (_∷_ (getD xs p 0)) (rw z at (letters-rest (w - 1) (suc p) (omega (arith, char .inside, char .positive)) (λ i a b. char .rest i (omega arith) (omega (arith, char .positive))))))
+
+  pub leads-at : (p : ℕ) → wellFormed s ≡ true → boundary s p ≡ true → p < length s → leads (drop p s) ≡ suc (leads (drop (p + announced (getD s p 0)) s))
+  leads-at p formed here h =
+      let long : (k : ℕ) → length (drop k xs) ≡ length (drop k s) = λ k. length-drop k xs ∙ (rw same (sym (length-drop k s))) in
+      sym (length-letters (drop p s) (drop p xs) (long p)) ∙ ap length (letter-at p formed here h)
+      ∙ ap suc (length-letters (drop (p + announced (getD s p 0)) s) (drop (p + announced (getD s p 0)) xs) (long (p + announced (getD s p 0))))
+
+-- the commands of code points and flags
+drops-command : (c k : ℕ) (cs ks : List ℕ) → eqb k 0 ≡ true → keptCommands (c ∷ cs) (k ∷ ks) ≡ keptCommands cs ks
+unfolding keptCommands
+drops-command c k cs ks e = rw e
+
+keeps-command : (c k : ℕ) (cs ks : List ℕ) → eqb k 0 ≡ false → keptCommands (c ∷ cs) (k ∷ ks) ≡ replacing (droppedAhead ks) c ∷ keptCommands cs ks
+unfolding keptCommands
+keeps-command c k cs ks e = rw e
+
+no-flags : (cs : List ℕ) → keptCommands cs [] ≡ []
+unfolding keptCommands
+no-flags [] = refl
+no-flags (c ∷ cs) = refl
+
+-- what they give to the text, wherever they stand
+given-sifted : (s : List ℕ) (b p : ℕ) (cs ks : List ℕ) → given characters s b p (keptCommands cs ks) ≡ textOf (sifted ks cs)
+unfolding keptCommands given sifted textOf
+given-sifted s b p [] [] = refl
+given-sifted s b p [] (k ∷ ks) = refl
+given-sifted s b p (c ∷ cs) [] = refl
+given-sifted s b p (c ∷ cs) (k ∷ ks) =
+    true-or-false (eqb k 0)
+    (λ drops. rw drops (given-sifted s b p cs ks))
+    (λ keeps. rw keeps (ap (_++_ (bytesOf c)) (given-sifted s b (moved s b p (replacing (droppedAhead ks) c)) cs ks)))
+
+-- past the range's end each command starves
+starved-past : (s : List ℕ) (b p : ℕ) (cs ks : List ℕ) → b ≤ p → length cs ≡ length ks → starved s b p (keptCommands cs ks) ≡ anyKept ks
+unfolding keptCommands starved anyKept starves
+starved-past s b p [] [] past same = refl
+starved-past s b p [] (k ∷ ks) past same = absurd (omega arith)
+starved-past s b p (c ∷ cs) [] past same = absurd (omega arith)
+starved-past s b p (c ∷ cs) (k ∷ ks) past same =
+    true-or-false (eqb k 0)
+    (λ drops. rw drops (starved-past s b p cs ks past (omega arith)))
+    (λ keeps. rw (keeps, le-leb b p past))
+
+sifts-out : (k x : ℕ) (xs ks : List ℕ) → eqb k 0 ≡ true → sifted (k ∷ ks) (x ∷ xs) ≡ sifted ks xs
+unfolding sifted
+sifts-out k x xs ks e = rw e
+
+sifts-in : (k x : ℕ) (xs ks : List ℕ) → eqb k 0 ≡ false → sifted (k ∷ ks) (x ∷ xs) ≡ x ∷ sifted ks xs
+unfolding sifted
+sifts-in k x xs ks e = rw e
+
+-- where nothing is kept
+none-sifted : (ks xs : List ℕ) → anyKept ks ≡ false → sifted ks xs ≡ []
+unfolding anyKept sifted
+none-sifted [] xs e = refl
+none-sifted (k ∷ ks) [] e = refl
+none-sifted (k ∷ ks) (x ∷ xs) e =
+    true-or-false (eqb k 0)
+    (λ drops. rw drops (none-sifted ks xs (rw drops at e)))
+    (λ keeps. clash true refl (rw keeps at e))
+
+none-commands : (cs ks : List ℕ) → anyKept ks ≡ false → keptCommands cs ks ≡ []
+unfolding anyKept keptCommands
+none-commands [] ks e = refl
+none-commands (c ∷ cs) [] e = refl
+none-commands (c ∷ cs) (k ∷ ks) e =
+    true-or-false (eqb k 0)
+    (λ drops. rw drops (none-commands cs ks (rw drops at e)))
+    (λ keeps. clash true refl (rw keeps at e))
+
+spread-on : (c x : ℕ) (cs xs : List ℕ) {r : List ℕ} → r ≡ spread cs xs → replicate (sizeOf c) x ++ r ≡ spread (c ∷ cs) (x ∷ xs)
+unfolding spread
+spread-on c x cs xs e = ap (_++_ (replicate (sizeOf c) x)) e
+
+module _ (s : List ℕ) where
+  abbrev end : ℕ
+  end = length s
+
+  -- where the next command stands
+  abbrev next : List ℕ → ℕ → ℕ
+  next ks p = skipped s (length s) (droppedAhead ks) p
+
+  next-dropped : (k : ℕ) (ks : List ℕ) (p : ℕ) → eqb k 0 ≡ true → next (k ∷ ks) p ≡ next ks (skipped s end 1 p)
+  unfolding droppedAhead
+  next-dropped k ks p e = rw e (skipped-suc s end (droppedAhead ks) p)
+
+  next-kept : (k : ℕ) (ks : List ℕ) (p : ℕ) → eqb k 0 ≡ false → next (k ∷ ks) p ≡ p
+  unfolding droppedAhead
+  next-kept k ks p e = rw e (skipped-none s end p)
+
+  after-kept : (c : ℕ) (ks : List ℕ) (p : ℕ) → moved s end p (replacing (droppedAhead ks) c) ≡ next ks (skipped s end 1 p)
+  after-kept c ks p = moved-replacing s end p (replacing (droppedAhead ks) c) refl ∙ skipped-suc s end (droppedAhead ks) p
+
+  one-on : (p : ℕ) → p < end → skipped s end 1 p ≡ p + announced (getD s p 0)
+  one-on p more = skipped-on s end 0 p more ∙ skipped-none s end (p + announced (getD s p 0))
+
+  kept-cons : (k : ℕ) (ks : List ℕ) → eqb k 0 ≡ true → anyKept (k ∷ ks) ≡ anyKept ks
+  unfolding anyKept
+  kept-cons k ks e = rw e
+
+  kept-now : (k : ℕ) (ks : List ℕ) → eqb k 0 ≡ false → anyKept (k ∷ ks) ≡ true
+  unfolding anyKept
+  kept-now k ks e = rw e
+
+  starved-cons : (p : ℕ) (c : Command) (cs : List Command) → c .added ≡ false → p < end → starved s end p (c ∷ cs) ≡ starved s end (moved s end p c) cs
+  unfolding starved
+  starved-cons p c cs replaces more = rw (starves-replacing end p c replaces, lt-leb end p more)
+
+  no-leads : (p : ℕ) → end ≤ p → leads (drop p s) ≡ 0
+  unfolding leads
+  no-leads p past = rw (drop-of-length-le s past)
+
+  no-command : (p : ℕ) → starved s end (next [] p) (keptCommands [] []) ≡ anyKept (drop (leads (drop p s)) [])
+  unfolding starved keptCommands anyKept
+  no-command p = let past : length {A = ℕ} [] ≤ leads (drop p s) = omega arith in rw (drop-of-length-le [] past)
+
+  -- a command starves where its character is past those that the range has left
+  pub starved-sifted : (cs ks : List ℕ) (p : ℕ) → Standing s end p → length cs ≡ length ks → starved s end (next ks p) (keptCommands cs ks) ≡ anyKept (drop (leads (drop p s)) ks)
+  starved-sifted [] [] p at same = no-command p
+  starved-sifted [] (k ∷ ks) p at same = absurd (omega arith)
+  starved-sifted (c ∷ cs) [] p at same = absurd (omega arith)
+  starved-sifted (c ∷ cs) (k ∷ ks) p at same =
+      le-or-lt end p
+      (λ past. rw (skipped-past s end (droppedAhead (k ∷ ks)) p past, no-leads p past) (starved-past s end p (c ∷ cs) (k ∷ ks) past same))
+      (λ more.
+      let rest : starved s end (next ks (p + announced (getD s p 0))) (keptCommands cs ks) ≡ anyKept (drop (leads (drop (p + announced (getD s p 0)) s)) ks) = starved-sifted cs ks (p + announced (getD s p 0)) (standing-next at more) (omega arith) in
+      rw (leads-at s s refl p (at .formed) (at .stands) more)
+      (true-or-false (eqb k 0)
+      (λ drops. rw (drops-command c k cs ks drops, next-dropped k ks p drops, one-on p more) rest)
+      (λ keeps. rw (keeps-command c k cs ks keeps, next-kept k ks p keeps) (starved-cons p (replacing (droppedAhead ks) c) (keptCommands cs ks) refl more ∙ rw (after-kept c ks p, one-on p more) rest))))
+
+  module _ (xs : List ℕ) (long : length xs ≡ length s) where
+    given-cons : (p c r : ℕ) (cs : List Command) → given (carried xs) s end p (replacing r c ∷ cs) ≡ replicate (sizeOf c) (getD xs p 0) ++ given (carried xs) s end (moved s end p (replacing r c)) cs
+    unfolding given carries
+    given-cons p c r cs = refl
+
+    nothing : (p : ℕ) (ys : List ℕ) → given (carried xs) s end p [] ≡ spread [] ys
+    unfolding given spread
+    nothing p ys = refl
+
+    no-given : (p : ℕ) → given (carried xs) s end (next [] p) (keptCommands [] []) ≡ spread (sifted [] []) (sifted [] (ofLetters (drop p s) (drop p xs)))
+    unfolding given spread sifted keptCommands
+    no-given p = refl
+
+    -- and none does: each carries what the column has for its character
+    pub column-sifted : (cs ks : List ℕ) (p : ℕ) → Standing s end p → length cs ≡ length ks → anyKept (drop (leads (drop p s)) ks) ≡ false → given (carried xs) s end (next ks p) (keptCommands cs ks) ≡ spread (sifted ks cs) (sifted ks (ofLetters (drop p s) (drop p xs)))
+    column-sifted [] [] p at same fed = no-given p
+    column-sifted [] (k ∷ ks) p at same fed = absurd (omega arith)
+    column-sifted (c ∷ cs) [] p at same fed = absurd (omega arith)
+    column-sifted (c ∷ cs) (k ∷ ks) p at same fed =
+        le-or-lt end p
+        (λ past.
+        let none : anyKept (k ∷ ks) ≡ false = rw (no-leads p past) at fed in
+        rw (none-sifted (k ∷ ks) (c ∷ cs) none, none-commands (c ∷ cs) (k ∷ ks) none) (nothing (next (k ∷ ks) p) (sifted (k ∷ ks) (ofLetters (drop p s) (drop p xs)))))
+        (λ more.
+        let q : ℕ = p + announced (getD s p 0) in
+        let rest : given (carried xs) s end (next ks q) (keptCommands cs ks) ≡ spread (sifted ks cs) (sifted ks (ofLetters (drop q s) (drop q xs))) = column-sifted cs ks q (standing-next at more) (omega arith) (rw (leads-at s s refl p (at .formed) (at .stands) more) at fed) in
+        rw (letter-at s xs long p (at .formed) (at .stands) more)
+        (true-or-false (eqb k 0)
+        (λ drops. rw (drops-command c k cs ks drops, next-dropped k ks p drops, one-on p more, sifts-out k c cs ks drops, sifts-out k (getD xs p 0) (ofLetters (drop q s) (drop q xs)) ks drops) rest)
+        (λ keeps. rw (keeps-command c k cs ks keeps, next-kept k ks p keeps, sifts-in k c cs ks keeps, sifts-in k (getD xs p 0) (ofLetters (drop q s) (drop q xs)) ks keeps, given-cons p c (droppedAhead ks) (keptCommands cs ks), after-kept c ks p, one-on p more) (spread-on c (getD xs p 0) (sifted ks cs) (sifted ks (ofLetters (drop q s) (drop q xs))) rest))))
+
+-- THE WHOLE TRANSCRIPT, by code points and flags, one for each character
+module _ (n : Note) (sound : Sound n) (codes flags : List ℕ) (coded : length codes ≡ length flags) (flagged : length flags ≡ letters (n .normalized)) where
+  abbrev skips : ℕ
+  skips = cond (anyKept flags) (droppedAhead flags) 0
+
+  head-leads : headLetters n ≡ leads (take (headBytes n) (n .normalized))
+  unfolding headLetters
+  head-leads = letters-leads _ (formed-take (n .normalized) (headBytes n) (normalized-formed n sound) (head-stands n sound))
+
+  split-letters : letters (n .normalized) ≡ headLetters n + leads (drop (headBytes n) (n .normalized))
+  split-letters =
+      letters-leads (n .normalized) (normalized-formed n sound) ∙ ap leads (sym (take-append-drop (headBytes n) (n .normalized)))
+      ∙ leads-append (take (headBytes n) (n .normalized)) (drop (headBytes n) (n .normalized))
+      ∙ ap (λ (k : ℕ). k + leads (drop (headBytes n) (n .normalized))) (sym head-leads)
+
+  tail-is : tailKept n flags ≡ anyKept (drop (leads (drop (headBytes n) (n .normalized))) flags)
+  unfolding tailKept
+  tail-is =
+      let left : letters (n .normalized) - headLetters n ≡ leads (drop (headBytes n) (n .normalized)) = omega (arith, split-letters) in
+      rw left
+
+  head-standing : Standing (n .normalized) (length (n .normalized)) (headBytes n)
+  head-standing =
+      record {
+        formed = normalized-formed n sound;
+        ends = boundary-length (n .normalized);
+        stands = head-stands n sound;
+        most = head-most n sound;
+      }
+
+  -- where nothing is kept, it is the same where the commands begin
+  abbrev begun : ℕ → ℕ
+  begun b = skipped (n .normalized) b skips (headBytes n)
+
+  begun-starved : starved (n .normalized) (length (n .normalized)) (begun (length (n .normalized))) (keptCommands codes flags) ≡ starved (n .normalized) (length (n .normalized)) (next (n .normalized) flags (headBytes n)) (keptCommands codes flags)
+  unfolding starved
+  begun-starved = true-or-false (anyKept flags) (λ t. rw t) (λ u. rw (none-commands codes flags u))
+
+  begun-given : (piece : ℕ → Command → List ℕ) → given piece (n .normalized) (length (n .normalized)) (begun (length (n .normalized))) (keptCommands codes flags) ≡ given piece (n .normalized) (length (n .normalized)) (next (n .normalized) flags (headBytes n)) (keptCommands codes flags)
+  unfolding given
+  begun-given piece = true-or-false (anyKept flags) (λ t. rw t) (λ u. rw (none-commands codes flags u))
+
+  -- nothing kept: the head alone
+  sieved-none : sifted flags codes ≡ [] → sieved n codes flags ≡ cleared n
+  unfolding sieved cleared textOf spread
+  sieved-none none =
+      rw (none, append-nil (take (headBytes n) (n .normalized)), append-nil (take (headBytes n) (n .starts)), append-nil (take (headBytes n) (n .ends)))
+
+  column : (xs : List ℕ) → length xs ≡ length (n .normalized) → tailKept n flags ≡ false → take (headBytes n) xs ++ (given (carried xs) (n .normalized) (length (n .normalized)) (begun (length (n .normalized))) (keptCommands codes flags) ++ drop (length (n .normalized)) xs) ≡ take (headBytes n) xs ++ spread (sifted flags codes) (sifted flags (drop (headLetters n) (ofLetters (n .normalized) xs)))
+  column xs long fed =
+      let past : length xs ≤ length (n .normalized) = omega arith in
+      rw (
+        drop-of-length-le xs past,
+        begun-given (carried xs),
+        column-sifted (n .normalized) xs long codes flags (headBytes n) head-standing coded (sym tail-is ∙ fed),
+        append-nil (spread (sifted flags codes) (sifted flags (ofLetters (drop (headBytes n) (n .normalized)) (drop (headBytes n) xs)))),
+        letters-drop (headBytes n) (n .normalized) xs long,
+        ← head-leads,
+      )
+
+  behind-sieved : MakesUnless n (record { from = headBytes n; to = length (n .normalized); skip = skips; commands = keptCommands codes flags }) (tailKept n flags) (sieved n codes flags)
+  unfolding transformed edited relaid begins sieved
+  behind-sieved =
+      let past : length (n .normalized) ≤ length (n .normalized) = omega arith in
+      record {
+        lies = head-placed n sound;
+        exhausts = begun-starved ∙ starved-sifted (n .normalized) codes flags (headBytes n) head-standing coded ∙ sym tail-is;
+        leaves = λ fed. rw (
+          drop-of-length-le (n .normalized) past,
+          begun-given characters,
+          given-sifted (n .normalized) (length (n .normalized)) (next (n .normalized) flags (headBytes n)) codes flags,
+          append-nil (textOf (sifted flags codes)),
+          column (n .starts) (length-starts n sound) fed,
+          column (n .ends) (length-ends n sound) fed,
+        );
+      }
+
+  no-edit : (skip : ℕ) → transformed n (record { from = 0; to = 0; skip = skip; commands = [] }) ≡ n
+  unfolding transformed edited relaid given
+  no-edit skip = refl
+
+  start-sieved : headBytes n ≡ length (n .normalized) → MakesUnless n (record { from = 0; to = 0; skip = skips; commands = keptCommands codes flags }) (tailKept n flags) (sieved n codes flags)
+  unfolding begins
+  start-sieved all =
+      let far : length (n .normalized) ≤ headBytes n = omega arith in
+      let is : tailKept n flags ≡ anyKept flags = tail-is ∙ rw (no-leads (n .normalized) (headBytes n) far) in
+      record {
+        lies = zero-placed n sound;
+        exhausts = rw (skipped-past (n .normalized) 0 skips 0 (omega arith)) (starved-past (n .normalized) 0 0 codes flags (omega arith) coded) ∙ sym is;
+        leaves = λ fed.
+            let none : anyKept flags ≡ false = sym is ∙ fed in
+            rw (none-commands codes flags none) (no-edit skips ∙ sym (sieved-none (none-sifted flags codes none) ∙ head-is-all n sound all));
+      }
+
+  nothing-sieved : length (n .normalized) ≡ 0 → MakesUnless n unchanging (tailKept n flags) (sieved n codes flags)
+  unfolding starved anyKept
+  nothing-sieved none =
+      let empty : flags ≡ [] = none-of flags (flagged ∙ omega (arith, letters-leads (n .normalized) (normalized-formed n sound), leads-le-length (n .normalized))) in
+      let past : length flags ≤ leads (drop (headBytes n) (n .normalized)) = rw empty (omega arith) in
+      let unkept : anyKept flags ≡ false = rw empty in
+      record {
+        lies = zero-placed n sound;
+        exhausts = sym (tail-is ∙ rw (drop-of-length-le flags past));
+        leaves = λ _. no-edit 0 ∙ sym (sieved-none (none-sifted flags codes unkept) ∙ head-is-all n sound (omega (arith, head-most n sound)));
+      }
+
+  pub sieved-closed : MakesUnless n (wholeEdit n skips (keptCommands codes flags)) (tailKept n flags) (sieved n codes flags)
+  sieved-closed =
+      whole-cases n sound skips (keptCommands codes flags) (λ e. MakesUnless n e (tailKept n flags) (sieved n codes flags))
+      behind-sieved start-sieved nothing-sieved
+
+-- FILTER
+length-codes : (k : ℕ) (s : List ℕ) → length (codesFrom k s) ≡ lettersFrom k s
+unfolding codesFrom lettersFrom
+length-codes k [] = refl
+length-codes zero (b ∷ s) = ap suc (length-codes (announced b - 1) s)
+length-codes (suc k) (b ∷ s) = length-codes k s
+
+pub codes-letters : (s : List ℕ) → length (codesOf s) ≡ letters s
+unfolding codesOf letters
+codes-letters s = length-codes 0 s
+
+pub filtered-closed : FilteredClosed
+unfolding filterEdit
+filtered-closed n flags sound flagged =
+    sieved-closed n sound (codesOf (n .normalized)) flags (codes-letters (n .normalized) ∙ sym flagged) flagged
+
+-- MAP: each flag keeps
+abbrev ones : ℕ → List ℕ
+ones m = replicate m 1
+
+none-dropped : (m : ℕ) → droppedAhead (ones m) ≡ 0
+unfolding droppedAhead
+none-dropped zero = refl
+none-dropped (suc m) = refl
+
+all-commands : (cs : List ℕ) → keptCommands cs (ones (length cs)) ≡ allReplacing cs
+unfolding keptCommands allReplacing
+all-commands [] = refl
+all-commands (c ∷ cs) = rw (none-dropped (length cs)) (ap (_∷_ (replacing 0 c)) (all-commands cs))
+
+any-ones : (m : ℕ) → anyKept (ones m) ≡ ltb 0 m
+unfolding anyKept
+any-ones zero = refl
+any-ones (suc m) = sym (lt-ltb 0 (suc m) (omega arith))
+
+drop-ones : (k m : ℕ) → drop k (ones m) ≡ ones (m - k)
+drop-ones zero m = let z : m - 0 ≡ m = omega arith in rw z
+drop-ones (suc k) zero = let z : 0 - suc k ≡ 0 = omega arith in rw z
+drop-ones (suc k) (suc m) = let z : suc m - suc k ≡ m - k = omega arith in rw z (drop-ones k m)
+
+all-sifted : (m : ℕ) (xs : List ℕ) → length xs ≤ m → sifted (ones m) xs ≡ xs
+unfolding sifted
+all-sifted zero xs h = sym (none-of xs (omega arith))
+all-sifted (suc m) [] h = refl
+all-sifted (suc m) (x ∷ xs) h = ap (_∷_ x) (all-sifted m xs (omega arith))
+
+module _ (n : Note) (sound : Sound n) (codes : List ℕ) (coded : length codes ≡ letters (n .normalized)) where
+  abbrev flags : List ℕ
+  flags = ones (length codes)
+
+  one-each : length codes ≡ length flags
+  one-each = sym (length-replicate (length codes) 1)
+
+  closed : MakesUnless n (wholeEdit n (cond (anyKept flags) (droppedAhead flags) 0) (keptCommands codes flags)) (tailKept n flags) (sieved n codes flags)
+  closed = sieved-closed n sound codes flags one-each (sym one-each ∙ coded)
+
+  same-edit : wholeEdit n (cond (anyKept flags) (droppedAhead flags) 0) (keptCommands codes flags) ≡ mapEdit n codes
+  unfolding mapEdit
+  same-edit =
+      let none : _≡_ {A = ℕ} (cond (anyKept flags) 0 0) 0 = true-or-false (anyKept flags) (λ t. rw t) (λ u. rw u) in
+      rw (none-dropped (length codes), none, all-commands codes)
+
+  same-tail : tailKept n flags ≡ ltb 0 (headLetters n)
+  unfolding tailKept
+  same-tail =
+      let left : length codes - (letters (n .normalized) - headLetters n) ≡ headLetters n = omega (arith, split-letters n sound codes flags one-each (sym one-each ∙ coded)) in
+      rw (drop-ones (letters (n .normalized) - headLetters n) (length codes), left) (any-ones (headLetters n))
+
+  no-head : ltb 0 (headLetters n) ≡ false → (headLetters n ≡ 0) × (headBytes n ≡ 0)
+  no-head none =
+      let letterless : headLetters n ≡ 0 = omega (arith, ltb-false 0 (headLetters n) none) in (
+        letterless,
+        le-or-lt (headBytes n) 0
+            (λ is. omega arith)
+            (λ some.
+            let formed = formed-take (n .normalized) (headBytes n) (normalized-formed n sound) (head-stands n sound) in
+            let long : length (take (headBytes n) (n .normalized)) ≡ headBytes n = length-take-le (headBytes n) (n .normalized) (head-most n sound) in
+            let first = leads-at (take (headBytes n) (n .normalized)) (take (headBytes n) (n .normalized)) refl 0 formed (boundary-zero _ formed) (omega arith) in
+            absurd (omega (arith, first, letterless, head-leads n sound codes flags one-each (sym one-each ∙ coded)))),
+      )
+
+  column-mapped : (xs : List ℕ) → length xs ≡ length (n .normalized) → sifted flags (ofLetters (n .normalized) xs) ≡ ofLetters (n .normalized) xs
+  column-mapped xs long =
+      all-sifted (length codes) (ofLetters (n .normalized) xs) (omega (arith, length-letters (n .normalized) xs long, letters-leads (n .normalized) (normalized-formed n sound)))
+
+  same-note : ltb 0 (headLetters n) ≡ false → sieved n codes flags ≡ mapped n codes
+  unfolding sieved mapped
+  same-note none =
+      let zero = no-head none in
+      rw (zero .1, zero .0, all-sifted (length codes) codes (omega arith), column-mapped (n .starts) (length-starts n sound), column-mapped (n .ends) (length-ends n sound))
+
+pub mapped-closed : MappedClosed
+mapped-closed n codes sound coded =
+    let k = rw (same-edit n sound codes coded, same-tail n sound codes coded) at (closed n sound codes coded) in
+    record { lies = k .lies; exhausts = k .exhausts; leaves = λ fed. k .leaves fed ∙ same-note n sound codes coded fed }

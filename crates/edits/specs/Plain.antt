@@ -1,0 +1,114 @@
+-- RULES 8: `clear`, `map` and `filter` in plain words, beside their definitions by commands.
+use Prim.Native.Nat.{ℕ, suc, _-_}
+use mathlib.Core.Path.{_≡_}
+use mathlib.Core.Bool.{Bool, true, false, cond}
+use mathlib.Core.List.{List, [], _∷_, _++_}
+use lib.Dec.{ltb, eqb}
+use lib.ListN.{length, take, drop, replicate}
+use Rattle.utf8.specs.Formed.{continues, boundary}
+use Rattle.utf8.specs.Letters.{letters}
+use Rattle.note.specs.Notes.{Note, lent, Sound}
+use Rattle.script.specs.declared.Command.{Command}
+use Rattle.script.specs.Scripts.{sizeOf}
+use Rattle.edit_steps.specs.Edits.{starved, Edit, placed, begins, transformed}
+use Rattle.edits.specs.Characters.{codesOf, textOf}
+use Rattle.edits.specs.Whole.{wholeEdit, clearEdit, mapEdit, anyKept, filterEdit}
+
+-- an edit that neither 5 nor 7 refuses, and the note that it makes
+pub record Makes (n : Note) (e : Edit) (made : Note) : Type 0 where
+  pub lies : placed (n .normalized) (e .from) (e .to) ≡ true
+  pub feeds : starved (n .normalized) (e .to) (begins (n .normalized) e) (e .commands) ≡ false
+  pub leaves : transformed n e ≡ made
+
+-- an edit that 5 does not refuse and 7 refuses where `short` says so, nowhere else, and the note that it makes there
+pub record MakesUnless (n : Note) (e : Edit) (short : Bool) (made : Note) : Type 0 where
+  pub lies : placed (n .normalized) (e .from) (e .to) ≡ true
+  pub exhausts : starved (n .normalized) (e .to) (begins (n .normalized) e) (e .commands) ≡ short
+  pub leaves : short ≡ false → transformed n e ≡ made
+
+-- CLAIM: an edit of the whole transcript is never refused for its range (5).
+abbrev pub WholePlaced : Type 0
+WholePlaced =
+    (n : Note) (skip : ℕ) (cs : List Command) → Sound n
+    → placed (n .normalized) (wholeEdit n skip cs .from) (wholeEdit n skip cs .to) ≡ true
+
+-- how many alignments, one after the other from the first on, have no width
+unfoldable pub widthless : List ℕ → List ℕ → ℕ
+widthless [] ends = 0
+widthless (s ∷ starts) [] = 0
+widthless (s ∷ starts) (e ∷ ends) = cond (eqb s e) (suc (widthless starts ends)) 0
+
+-- THE HEAD: the cleaned text before the first alignment that has width, all of it where none has; in bytes and letters
+abbrev pub headBytes : Note → ℕ
+headBytes n = widthless (n .starts) (n .ends)
+
+unfoldable pub headLetters : Note → ℕ
+headLetters n = letters (take (headBytes n) (n .normalized))
+
+-- CLAIM: the head ends between two characters.
+abbrev pub HeadWhole : Type 0
+HeadWhole = (n : Note) → Sound n → boundary (n .normalized) (headBytes n) ≡ true
+
+-- CLEAR: the head stays, with its alignments
+unfoldable pub cleared : Note → Note
+cleared n =
+    lent (n .original) (take (headBytes n) (n .normalized)) (take (headBytes n) (n .starts))
+    (take (headBytes n) (n .ends)) (n .original-shift)
+
+-- CLAIM: so does `clear` leave every sound note; it is never refused for what it does (5, 7).
+abbrev pub ClearedClosed : Type 0
+ClearedClosed = (n : Note) → Sound n → Makes n (clearEdit n) (cleared n)
+
+-- what a column has for each character of a text: its element at the character's first byte
+unfoldable pub ofLetters : List ℕ → List ℕ → List ℕ
+ofLetters [] xs = []
+ofLetters (b ∷ s) [] = []
+ofLetters (b ∷ s) (x ∷ xs) = cond (continues b) (ofLetters s xs) (x ∷ ofLetters s xs)
+
+-- values, one for each code point, as its bytes carry them
+unfoldable pub spread : List ℕ → List ℕ → List ℕ
+spread [] xs = []
+spread (c ∷ cs) [] = []
+spread (c ∷ cs) (x ∷ xs) = replicate (sizeOf c) x ++ spread cs xs
+
+-- MAP: the code points, each with the alignment of the character that it replaces
+unfoldable pub mapped : Note → List ℕ → Note
+mapped n codes =
+    lent (n .original) (textOf codes) (spread codes (ofLetters (n .normalized) (n .starts)))
+    (spread codes (ofLetters (n .normalized) (n .ends))) (n .original-shift)
+
+-- CLAIM: so does `map` leave every sound note that has no head; one that has a head it refuses (7).
+abbrev pub MappedClosed : Type 0
+MappedClosed =
+    (n : Note) (codes : List ℕ) → Sound n → length codes ≡ letters (n .normalized)
+    → MakesUnless n (mapEdit n codes) (ltb 0 (headLetters n)) (mapped n codes)
+
+-- the elements whose flag is not 0
+unfoldable pub sifted : List ℕ → List ℕ → List ℕ
+sifted [] xs = []
+sifted (k ∷ ks) [] = []
+sifted (k ∷ ks) (x ∷ xs) = cond (eqb k 0) (sifted ks xs) (x ∷ sifted ks xs)
+
+-- FILTER, with any code points in the place of the characters: the head stays, and behind it stand the kept ones, each
+-- with the alignment of the character that stands as many letters further as the head has
+unfoldable pub sieved : Note → List ℕ → List ℕ → Note
+sieved n codes flags =
+    lent (n .original) (take (headBytes n) (n .normalized) ++ textOf (sifted flags codes))
+    (take (headBytes n) (n .starts)
+    ++ spread (sifted flags codes) (sifted flags (drop (headLetters n) (ofLetters (n .normalized) (n .starts)))))
+    (take (headBytes n) (n .ends)
+    ++ spread (sifted flags codes) (sifted flags (drop (headLetters n) (ofLetters (n .normalized) (n .ends)))))
+    (n .original-shift)
+
+abbrev pub filtered : Note → List ℕ → Note
+filtered n flags = sieved n (codesOf (n .normalized)) flags
+
+-- one of the last characters, as many as the head has, is kept
+unfoldable pub tailKept : Note → List ℕ → Bool
+tailKept n flags = anyKept (drop (letters (n .normalized) - headLetters n) flags)
+
+-- CLAIM: so does `filter` leave every sound note; but it refuses where such a character is kept (7).
+abbrev pub FilteredClosed : Type 0
+FilteredClosed =
+    (n : Note) (flags : List ℕ) → Sound n → length flags ≡ letters (n .normalized)
+    → MakesUnless n (filterEdit n flags) (tailKept n flags) (filtered n flags)
