@@ -107,7 +107,7 @@ Column piece s b p all at g rest d₀ d =
     Laying (take at d₀ ++ given piece s b p all) (given piece s b (g .position) rest) d₀ (g .written) d
 
 module _ (piece : ℕ → Command → List ℕ) (wide : (p : ℕ) (c : Command) → length (piece p c) ≡ sizeOf (c .character)) (s : List ℕ) (b p : ℕ) (all : List Command) (at : ℕ) where
-  column-none : {d₀ : List ℕ} → at + sizes all ≤ length d₀ → Column piece s b p all at (record { position = p; written = at }) all d₀ d₀
+  column-none : {d₀ : List ℕ} → at + sizes all ≤ length d₀ → Column piece s b p all at (record { position = p; written = at; starved = false }) all d₀ d₀
   column-none h = record { so-far = refl; beyond = refl; room = omega (arith, length-given piece wide s b p all); same = refl }
 
   module _ (g : Progress) (rest : List Command) {d₀ d : List ℕ} (k : Column piece s b p all at g rest d₀ d) where
@@ -118,7 +118,7 @@ module _ (piece : ℕ → Command → List ℕ) (wide : (p : ℕ) (c : Command) 
           let room : g .written + length (piece (g .position) c ++ given piece s b (moved s b (g .position) c) others) ≤ length d = rw next at (k .room) in
           omega (arith, length-append (piece (g .position) c) (given piece s b (moved s b (g .position) c) others), wide (g .position) c)
 
-      column-next : {d₁ : List ℕ} → d₁ ≡ splice d (g .written) (piece (g .position) c) → Column piece s b p all at (record { position = moved s b (g .position) c; written = g .written + sizeOf (c .character) }) others d₀ d₁
+      column-next : {d₁ : List ℕ} → d₁ ≡ splice d (g .written) (piece (g .position) c) → Column piece s b p all at (record { position = moved s b (g .position) c; written = g .written + sizeOf (c .character); starved = false }) others d₀ d₁
       unfolding given
       column-next {d₁} is =
           piece-laid (take at d₀ ++ given piece s b p all) (piece (g .position) c) (given piece s b (moved s b (g .position) c) others) d₀ (g .written) d (rw next at k) (g .written + sizeOf (c .character)) d₁
@@ -143,7 +143,7 @@ pub record Going (s starts ends : List ℕ) (b p : ℕ) (all : List Command) (ou
   pub ends-laid : Column (carried ends) s b p all at g rest ends₀ ends₁
 
 module _ {s starts ends : List ℕ} {b p : ℕ} {all : List Command} {table out₀ starts₀ ends₀ : List ℕ} {at : ℕ} (r : CommandsRoom s starts ends b p all table out₀ starts₀ ends₀ at) where
-  pub none-going : Going s starts ends b p all out₀ starts₀ ends₀ at (record { position = p; written = at }) all out₀ starts₀ ends₀
+  pub none-going : Going s starts ends b p all out₀ starts₀ ends₀ at (record { position = p; written = at; starved = false }) all out₀ starts₀ ends₀
   none-going =
       record {
         standing = r .tabled .standing;
@@ -177,7 +177,7 @@ module _ {s starts ends : List ℕ} {b p : ℕ} {all : List Command} {table out�
 
       pub going-on : {h : Progress} {out₂ starts₂ ends₂ : List ℕ} → CommandLaid starts ends g c out starts₁ ends₁ out₂ starts₂ ends₂ → h ≡ stepped s b g c → Going s starts ends b p all out₀ starts₀ ends₀ at h others out₂ starts₂ ends₂
       going-on {h} m on =
-          let now : h ≡ record { position = moved s b (g .position) c; written = g .written + sizeOf (c .character) } = on ∙ stepped-fed s b g c (sym (both-fed .0)) refl in
+          let now : h ≡ record { position = moved s b (g .position) c; written = g .written + sizeOf (c .character); starved = false } = on ∙ stepped-fed s b g c (sym (both-fed .0)) refl in
           rw now
           (record {
             standing = standing-moved c (k .standing) .0;

@@ -33,11 +33,11 @@ unfoldable pub sizes : List Command → ℕ
 sizes [] = 0
 sizes (c ∷ cs) = sizeOf (c .character) + sizes cs
 
--- a command goes by: the position moves, the bytes are counted; a command that starves leaves both
+-- a command goes by: the position moves, the bytes are counted; a command that starves says so, and leaves both
 unfoldable pub stepped : List ℕ → ℕ → Progress → Command → Progress
 stepped s b g c =
-    cond (starves b (g .position) c) g
-    (record { position = moved s b (g .position) c; written = g .written + sizeOf (c .character) })
+    cond (starves b (g .position) c) (record { position = g .position; written = g .written; starved = true })
+    (record { position = moved s b (g .position) c; written = g .written + sizeOf (c .character); starved = false })
 
 -- what a step is told: the text, the range's end, how far the edit is, and that the count does not run over
 pub record Counting (s : List ℕ) (b : ℕ) (g : Progress) (c : Command) (table : List ℕ) : Type 0 where

@@ -1,7 +1,7 @@
 // The result of an edit, laid into the lent buffers.
 // Each function here is an inner one: no command of the script starves, and there is room for the result.
 use crate::walking::Progress;
-use crate::walking::step;
+use crate::walking::advanced;
 use buffers::Offset;
 use buffers::copy_bytes;
 use buffers::copy_offsets;
@@ -112,13 +112,14 @@ fn lay_script(
     let mut progress = Progress {
         position,
         written: at,
+        starved: false,
     };
     let mut i = 0;
     while i < script.len() {
         match entry_at(script, i) {
             Entry::At(command, next) => {
                 lay_command(starts, ends, progress, command, out, out_starts, out_ends);
-                progress = step(text, to, progress, command, table);
+                progress = advanced(text, to, progress, command, table);
                 i = next;
             }
             Entry::Broken => return progress.written,

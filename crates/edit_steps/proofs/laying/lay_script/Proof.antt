@@ -26,8 +26,8 @@ lay-command-requires c κs =
     let step = entry-step _ (read .entry-at .ensures) (there .command .given .1) in
     command-room (read .before .before .before .before .before .before .before .before .before .before .pre) (read .before .before .loop .inv .1) (step .commands)
 
-step-requires : tie.Need-step-requires Inv-loop μ-loop
-step-requires c κs =
+advanced-requires : tie.Need-advanced-requires Inv-loop μ-loop
+advanced-requires c κs =
     let there = c .before .before .before .before .before .before .before .before .before .before .before in
     let read = there .before .before in
     let entry = read .before .before .before .before .before .before .before .before .before .before in
@@ -46,7 +46,7 @@ loop-again c =
     let there = c .before .before .before .before .before .before .before .before .before .before .before .before in
     let read = there .before .before in
     let step = entry-step _ (read .entry-at .ensures) (there .command .given .1) in
-    (step .most, going-on (read .before .before .before .before .before .before .before .before .before .before .pre) (read .before .before .loop .inv .1) (step .commands) (c .before .before .before .before .before .before .before .lay-command .ensures) (c .step .ensures))
+    (step .most, going-on (read .before .before .before .before .before .before .before .before .before .before .pre) (read .before .before .loop .inv .1) (step .commands) (c .before .before .before .before .before .before .before .lay-command .ensures) (c .advanced .ensures))
 
 returns : tie.Need-returns Inv-loop μ-loop
 returns c =
@@ -63,7 +63,7 @@ lay-script-spec =
     (λ c κs. search needs)
     (λ c. search needs)
     lay-command-requires
-    step-requires
+    advanced-requires
     loop-less
     loop-again
     (λ c. search needs)

@@ -18,8 +18,8 @@ abbrev μ-loop : tie.MeasureT-loop
 μ-loop text starts ends to position codes table out₀ out-starts₀ out-ends₀ at progress₀ i₀ out out-starts out-ends progress i =
     length codes - i
 
-step-requires : tie.Need-step-requires Inv-loop μ-loop
-step-requires c κs =
+advanced-requires : tie.Need-advanced-requires Inv-loop μ-loop
+advanced-requires c κs =
     let head = c .before .before .before .before .before .before .before .before .before .before .before .before in
     let entry = head .before .before .before .before .before .before .before .before in
     let long : length (entry .args .out .now) < 2 ^ 64 = entry .good .1 .1 .1 .1 .1 .1 .1 .0 .0 in
@@ -31,7 +31,7 @@ loop-again c =
     let entry = head .before .before .before .before .before .before .before .before in
     let less : head .loop .i < length (entry .args .codes .now) = c .before .before .before .before .before .before .before .before .before .before .before .before .loop-test .taken in
     let up : head .loop .i + 1 ≤ length (entry .args .codes .now) = omega (arith, less) in
-    (up, going-on (entry .pre) (head .loop .inv .1) (replacing-cons (entry .args .codes .now) (head .loop .i) (c .before .before .before .before .before .before .before .before .before .before .before .before .loop-test .taken)) (c .before .before .before .before .before .before .before .lay-command .ensures) (c .step .ensures))
+    (up, going-on (entry .pre) (head .loop .inv .1) (replacing-cons (entry .args .codes .now) (head .loop .i) (c .before .before .before .before .before .before .before .before .before .before .before .before .loop-test .taken)) (c .before .before .before .before .before .before .before .lay-command .ensures) (c .advanced .ensures))
 
 add-i : tie.Need-add-i Inv-loop μ-loop
 add-i c =
@@ -57,7 +57,7 @@ lay-codes-spec =
     (λ c. search needs)
     (λ c. search needs)
     lay-command-requires
-    step-requires
+    advanced-requires
     add-i
     (λ c. omega arith)
     loop-again
