@@ -3,8 +3,8 @@ use Prim.Native.Nat.{ℕ, zero, suc, _+_, _-_, _≤_, _<_}
 use mathlib.Core.Path.{_≡_, _∙_, refl, sym}
 use mathlib.Core.Bool.{Bool, true, false, cond, _&&_, _||_, not}
 use mathlib.Core.List.{List}
-use mathlib.Mathlib.Data.Bool.Basic.{and-elim-left, and-elim-right}
-use borrow.Author.Tests.{eqb-true}
+use mathlib.Mathlib.Data.Bool.Basic.{and-intro, and-elim-left, and-elim-right}
+use borrow.Author.Tests.{lt-leb, eq-eqb, eqb-true}
 use native.Mathlib.Omega.{arith}
 use lib.Dec.{eqb}
 use lib.ListN.{length, getD}
@@ -12,13 +12,16 @@ use lib.Seq.{ext-getD}
 use Rattle.buffers.specs.Columns.{column}
 use Rattle.buffers.specs.Every.{everyBelow}
 use Rattle.buffers.proofs.Cases.{true-or-false}
-use Rattle.buffers.proofs.Every.{every-suc, every-at}
+use Rattle.buffers.proofs.Every.{every-suc, every-at, every-all}
 use Rattle.buffers.proofs.Columns.{length-column, getD-column}
+use Rattle.utf8.specs.Table.{within}
 use Rattle.utf8.specs.Formed.{wellFormed, continues}
+use Rattle.validity.specs.Texts.{ascii}
+use Rattle.validity.proofs.Ascii.{ascii-at}
 use Rattle.note.specs.Notes.{lent, aligned}
 use Rattle.note.specs.Starting.{charStart, charEnd, starting}
 use Rattle.note.proofs.Starting.{Ranged, ranged, charEnd-continues, charEnd-begins, starting-sound}
-use Rattle.checks.specs.Unedited.{carries, uneditedAt, unedited}
+use Rattle.checks.specs.Unedited.{carries, uneditedAt, unedited, ownBytes, untouched}
 
 -- one more index
 module _ (text starts ends : List ℕ) where
@@ -98,7 +101,56 @@ module _ (text starts ends : List ℕ) (p : wellFormed text ≡ true) (e : unedi
       (λ k h. unedited-end (n - suc k) k (omega arith) ∙ sym (getD-column n (charEnd text) k (omega arith))) in
       rw (same, same₂)
 
+-- an ASCII text whose alignments are the bytes at their indices
+module _ (text starts ends : List ℕ) (small : ascii text ≡ true) (own : ownBytes starts ends (length text) ≡ true) where
+  own-at : (i : ℕ) → i < length text → (getD starts i 0 ≡ i) × (getD ends i 0 ≡ i + 1)
+  unfolding ownBytes
+  own-at i h =
+      let both = every-at (length text) _ own i h in
+      (eqb-true _ _ (and-elim-left (eqb (getD starts i 0) i) _ both), eqb-true _ _ (and-elim-right (eqb (getD starts i 0) i) _ both))
+
+  begins : (i : ℕ) → i < length text → continues (getD text i 0) ≡ false
+  unfolding continues within
+  begins i h = rw (lt-leb 0x80 (getD text i 0) (ascii-at text small i h))
+
+  own-unedited-at : (i : ℕ) → i < length text → uneditedAt text starts ends i ≡ true
+  unfolding uneditedAt carries
+  own-unedited-at zero h =
+      and-intro (eq-eqb _ _ (own-at 0 h .0)) (eq-eqb _ _ (own-at (length text - 1) (omega arith) .1 ∙ omega arith))
+  own-unedited-at (suc i) h =
+      rw (begins (suc i) h)
+      (and-intro (eq-eqb _ _ (own-at (suc i) h .0)) (eq-eqb _ _ (own-at i (omega arith) .1 ∙ omega arith)))
+
+  own-unedited : unedited text starts ends (length text) ≡ true
+  unfolding unedited
+  own-unedited = every-all (length text) _ own-unedited-at
+
+-- how `ownBytes` is told
+pub own-none : (starts ends : List ℕ) → true ≡ ownBytes starts ends 0
+unfolding ownBytes everyBelow
+own-none starts ends = refl
+
+pub own-more : (starts ends : List ℕ) (i at : ℕ) (ok : Bool) → at ≡ i → ok ≡ ownBytes starts ends i → (ok && (eqb (getD starts i 0) at && eqb (getD ends i 0) (at + 1))) ≡ ownBytes starts ends (i + 1)
+unfolding ownBytes
+own-more starts ends i at ok same p = rw (every-suc i _, same, p)
+
+-- by the text's kind
+pub untouched-ascii : (m s e : List ℕ) (r : Bool) → ascii m ≡ true → r ≡ ownBytes s e (length s) → r ≡ untouched m s e
+unfolding untouched
+untouched-ascii m s e r small is = rw small is
+
+pub untouched-other : (m s e : List ℕ) (r : Bool) → ascii m ≡ false → r ≡ unedited m s e (length m) → r ≡ untouched m s e
+unfolding untouched
+untouched-other m s e r large is = rw large is
+
+untouched-unedited : (m s e : List ℕ) → length s ≡ length m → untouched m s e ≡ true → unedited m s e (length m) ≡ true
+unfolding untouched
+untouched-unedited m s e long t =
+    true-or-false (ascii m)
+    (λ small. own-unedited m s e small (rw (small, long) at t))
+    (λ large. rw large at t)
+
 -- such a note is aligned
-pub unedited-aligned : (o m s e : List ℕ) (r : Bool) → wellFormed m ≡ true → length s ≡ length m → length e ≡ length m → o ≡ m → r ≡ unedited m s e (length m) → r ≡ true → true ≡ aligned (lent o m s e 0)
-unedited-aligned o m s e r p long long₂ same is t =
-    rw (same, unedited-starting m s e p (sym is ∙ t) long long₂) (sym (starting-sound m p .has-alignments))
+pub untouched-aligned : (o m s e : List ℕ) (r : Bool) → wellFormed m ≡ true → length s ≡ length m → length e ≡ length m → o ≡ m → r ≡ untouched m s e → r ≡ true → true ≡ aligned (lent o m s e 0)
+untouched-aligned o m s e r p long long₂ same is t =
+    rw (same, unedited-starting m s e p (untouched-unedited m s e long (sym is ∙ t)) long long₂) (sym (starting-sound m p .has-alignments))

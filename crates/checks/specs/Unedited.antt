@@ -1,12 +1,13 @@
 -- When a note is the one of a fresh text: its two texts are the same, and each alignment fits the one before it and the
 -- byte.
-use Prim.Native.Nat.{ℕ, zero, suc, _-_}
+use Prim.Native.Nat.{ℕ, zero, suc, _+_, _-_}
 use mathlib.Core.Bool.{Bool, cond, _&&_}
 use mathlib.Core.List.{List}
 use lib.Dec.{eqb}
 use lib.ListN.{length, getD}
 use Rattle.buffers.specs.Every.{everyBelow}
 use Rattle.utf8.specs.Formed.{continues}
+use Rattle.validity.specs.Texts.{ascii}
 
 -- at the byte b at i, the start s1 after s0 and the end e0 before e1: carried where b continues a character, else a
 -- character begins at i
@@ -21,3 +22,11 @@ uneditedAt text starts ends (suc i) =
 
 unfoldable pub unedited : List ℕ → List ℕ → List ℕ → ℕ → Bool
 unedited text starts ends n = everyBelow n (uneditedAt text starts ends)
+
+-- of a text in which each byte is a character: each alignment is the byte at its index
+unfoldable pub ownBytes : List ℕ → List ℕ → ℕ → Bool
+ownBytes starts ends n = everyBelow n (λ i. eqb (getD starts i 0) i && eqb (getD ends i 0) (i + 1))
+
+unfoldable pub untouched : List ℕ → List ℕ → List ℕ → Bool
+untouched text starts ends =
+    cond (ascii text) (ownBytes starts ends (length starts)) (unedited text starts ends (length text))

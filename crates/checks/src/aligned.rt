@@ -1,6 +1,6 @@
 // Whether a note's alignments are sound, for a note whose texts and numbers of alignments were judged before.
 use crate::boundaries::uncut_all;
-use crate::fresh::unedited;
+use crate::fresh::untouched;
 use buffers::Offset;
 use utf8::continues;
 use validity::is_ascii;
@@ -60,7 +60,7 @@ pub fn aligned(
         (lent (now (original .entry)) (now (normalized .entry)) (now (starts .entry)) (now (ends .entry)) 0) ⌝ }
 {
     if same {
-        if unedited(normalized, starts, ends) {
+        if untouched(normalized, starts, ends) {
             return true;
         }
     }

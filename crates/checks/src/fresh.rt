@@ -1,6 +1,7 @@
 // The note that no edit has touched: its cleaned text is its transcript, each byte aligned to its character's range.
 use buffers::Offset;
 use utf8::continues;
+use validity::is_ascii;
 use validity::well_formed;
 ghost use mathlib.Core.Path.{_≡_};
 ghost use mathlib.Core.Bool.{true, _&&_};
@@ -8,7 +9,7 @@ ghost use Prim.Native.Nat.{_≤_};
 ghost use lib.ListN.{length};
 ghost use Rattle.utf8.specs.Formed.{wellFormed};
 ghost use Rattle.note.specs.Notes.{limit};
-ghost use Rattle.checks.specs.Unedited.{carries, unedited};
+ghost use Rattle.checks.specs.Unedited.{carries, ownBytes, unedited, untouched};
 
 // Whether both texts are well-formed. Where they are the same, one is judged. An inner function: `same` was told of the
 // two texts before.
@@ -34,9 +35,26 @@ fn carries(b: u8, s0: Offset, s1: Offset, e0: Offset, e1: Offset, i: Offset) -> 
     ((more & (s1 == s0)) | (!more & (s1 == i))) & ((more & (e0 == e1)) | (!more & (e0 == i)))
 }
 
+// Whether each alignment is the one byte at its index. The index is counted in a column's own width: taken from a wider
+// one, it costs twice the time.
+fn own_bytes(starts: &[Offset], ends: &[Offset]) -> bool
+    requires { ⌜ (length (now starts) ≤ limit) × (length (now ends) ≡ length (now starts)) ⌝ }
+    ensures { λ r. ⌜ r ≡ ownBytes (now (starts .entry)) (now (ends .entry)) (length (now (starts .entry))) ⌝ }
+{
+    let mut ok = true;
+    let mut at: Offset = 0;
+    let mut i = 0;
+    while i < starts.len() {
+        ok = ok & ((starts[i] == at) & (ends[i] == at + 1));
+        at += 1;
+        i += 1;
+    }
+    ok
+}
+
 // Whether each byte is aligned to its character's range. An inner function: limit and numbers of alignments were judged
 // before.
-pub fn unedited(text: &[u8], starts: &[Offset], ends: &[Offset]) -> bool
+fn unedited(text: &[u8], starts: &[Offset], ends: &[Offset]) -> bool
     requires { ⌜ length (now text) ≤ limit ⌝ }
     requires { ⌜ (length (now starts) ≡ length (now text)) × (length (now ends) ≡ length (now text)) ⌝ }
     ensures { λ r. ⌜ r ≡ unedited (now (text .entry)) (now (starts .entry)) (now (ends .entry))
@@ -60,4 +78,16 @@ pub fn unedited(text: &[u8], starts: &[Offset], ends: &[Offset]) -> bool
         i += 1;
     }
     ok
+}
+
+// The same; of an ASCII text, in which each byte is a character, by its index alone.
+pub fn untouched(text: &[u8], starts: &[Offset], ends: &[Offset]) -> bool
+    requires { ⌜ length (now text) ≤ limit ⌝ }
+    requires { ⌜ (length (now starts) ≡ length (now text)) × (length (now ends) ≡ length (now text)) ⌝ }
+    ensures { λ r. ⌜ r ≡ untouched (now (text .entry)) (now (starts .entry)) (now (ends .entry)) ⌝ }
+{
+    if is_ascii(text) {
+        return own_bytes(starts, ends);
+    }
+    unedited(text, starts, ends)
 }

@@ -3,14 +3,14 @@ use mathlib.Core.Path.{sym, _∙_}
 use borrow.Author.Needs.{needs}
 use borrow.Author.Tests.{not-false}
 use Rattle.checks.proofs.Monotone.{not-monotone, monotone-ascii, monotone-uncut}
-use Rattle.checks.proofs.Unedited.{unedited-aligned}
+use Rattle.checks.proofs.Unedited.{untouched-aligned}
 use Rattle.checks.proofs.aligned.aligned.Statement.{statement}
 use Rattle.checks.proofs.aligned.aligned.Tie as tie
 
 returns : tie.Need-returns
 returns c =
     let known = c .before .before .before .before .before .before .before .pre in
-    unedited-aligned _ _ _ _ _ (known .formed) (known .starts-paired) (known .ends-paired) (known .alike (c .before .before .if1 .taken)) (c .before .unedited .ensures) (c .if2 .taken)
+    untouched-aligned _ _ _ _ _ (known .formed) (known .starts-paired) (known .ends-paired) (known .alike (c .before .before .if1 .taken)) (c .before .untouched .ensures) (c .if2 .taken)
 
 returns-4 : tie.Need-returns-4
 returns-4 c =
