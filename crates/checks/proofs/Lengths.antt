@@ -17,7 +17,7 @@ use Rattle.note.specs.Refusals.{verdict}
 use Rattle.note.specs.Notes.{lent, fits, paired, textsFormed, aligned}
 use Rattle.note.specs.Faults.{noteFaults, textFaults, stringFaults}
 use Rattle.checks.specs.Lengths.{lengthsFit, lengthsPaired}
-use Rattle.checks.proofs.Monotone.{aligned-shift}
+use Rattle.boundaries.proofs.Monotone.{aligned-shift}
 
 -- the limit
 module _ (most o m shift : ℕ) where

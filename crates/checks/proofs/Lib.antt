@@ -1,5 +1,2 @@
 -- Laws of the working forms.
-pub mod Monotone
-pub mod Spanning
-pub mod Unedited
 pub mod Lengths

@@ -1,5 +1,2 @@
 -- Working forms of the conditions of a lent note; the conditions themselves are defined in `note`.
 pub mod Lengths
-pub mod Monotone
-pub mod Unedited
-pub mod Spanning

@@ -1,19 +1,16 @@
 // What every call on a lent note, a lent text or lent buffers judges first (RULES 2).
-pub mod aligned;
-pub mod boundaries;
-pub mod fresh;
-
 use aligned::aligned;
 use buffers::Offset;
 use buffers::equality::same_bytes;
-use fresh::texts_formed;
 use note::LIMIT;
 use note::Refusal;
 use note::Verdict;
 use note::answers::refused_if;
 use validity::well_formed;
 ghost use mathlib.Core.Path.{_≡_};
+ghost use mathlib.Core.Bool.{true, _&&_};
 ghost use Prim.Native.Nat.{min};
+ghost use Rattle.utf8.specs.Formed.{wellFormed};
 ghost use Rattle.note.specs.Notes.{lent, limit};
 ghost use Rattle.note.specs.Faults.{noteFaults, stringFaults, textFaults};
 ghost use Rattle.note.specs.Refusals.{least, verdict};
@@ -37,6 +34,21 @@ fn lengths_paired(normalized: usize, starts: usize, ends: usize) -> bool
     ensures { λ r. ⌜ r ≡ lengthsPaired normalized starts ends ⌝ }
 {
     (starts == normalized) & (ends == normalized)
+}
+
+// Whether both texts are well-formed. Where they are the same, one is judged. An inner function: `same` was told of the
+// two texts before.
+fn texts_formed(original: &[u8], normalized: &[u8], same: bool) -> bool
+    requires { ⌜ (same ≡ true → now original ≡ now normalized) ⌝ }
+    ensures { λ r. ⌜ r ≡ (wellFormed (now (original .entry)) && wellFormed (now (normalized .entry))) ⌝ }
+{
+    if !well_formed(original) {
+        return false;
+    }
+    if same {
+        return true;
+    }
+    well_formed(normalized)
 }
 
 // Whether a lent note is refused.

@@ -1,0 +1,2 @@
+-- Laws of the working forms.
+pub mod Unedited

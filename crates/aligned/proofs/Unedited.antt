@@ -1,0 +1,156 @@
+-- The columns of a note that no edit has touched are those of a fresh text; and the loops that tell such a note.
+use Prim.Native.Nat.{ℕ, zero, suc, _+_, _-_, _≤_, _<_}
+use mathlib.Core.Path.{_≡_, _∙_, refl, sym}
+use mathlib.Core.Bool.{Bool, true, false, cond, _&&_, _||_, not}
+use mathlib.Core.List.{List}
+use mathlib.Mathlib.Data.Bool.Basic.{and-intro, and-elim-left, and-elim-right}
+use borrow.Author.Tests.{lt-leb, eq-eqb, eqb-true}
+use native.Mathlib.Omega.{arith}
+use lib.Dec.{eqb}
+use lib.ListN.{length, getD}
+use lib.Seq.{ext-getD}
+use Rattle.buffers.specs.Columns.{column}
+use Rattle.buffers.specs.Every.{everyBelow}
+use Rattle.buffers.proofs.Cases.{true-or-false}
+use Rattle.buffers.proofs.Every.{every-suc, every-at, every-all}
+use Rattle.buffers.proofs.Columns.{length-column, getD-column}
+use Rattle.utf8.specs.Table.{within}
+use Rattle.utf8.specs.Formed.{wellFormed, continues}
+use Rattle.validity.specs.Texts.{ascii}
+use Rattle.validity.proofs.Ascii.{ascii-at}
+use Rattle.note.specs.Notes.{lent, aligned}
+use Rattle.note.specs.Starting.{charStart, charEnd, starting}
+use Rattle.note.proofs.Starting.{Ranged, ranged, charEnd-continues, charEnd-begins, starting-sound}
+use Rattle.aligned.specs.Unedited.{carries, uneditedAt, unedited, ownBytes, untouched}
+
+-- one more index
+module _ (text starts ends : List ℕ) where
+  pub unedited-none : true ≡ unedited text starts ends 0
+  unfolding unedited everyBelow
+  unedited-none = refl
+
+  pub unedited-first : (ok : Bool) → ok ≡ (eqb (getD starts 0 0) 0 && eqb (getD ends (length text - 1) 0) (length text)) → ok ≡ unedited text starts ends 1
+  unfolding unedited everyBelow uneditedAt
+  unedited-first ok e = e
+
+  pub unedited-more : (i : ℕ) (ok r : Bool) → 1 ≤ i → ok ≡ unedited text starts ends i → r ≡ carries (getD text i 0) (getD starts (i - 1) 0) (getD starts i 0) (getD ends (i - 1) 0) (getD ends i 0) i → (ok && r) ≡ unedited text starts ends (i + 1)
+  unfolding unedited uneditedAt
+  unedited-more zero ok r low p q = absurd (omega arith)
+  unedited-more (suc i) ok r low p q =
+      let one : suc i - 1 ≡ i = omega arith in
+      rw (every-suc (suc i) (uneditedAt text starts ends), p, q, one)
+
+-- the test at one index by flags
+flagged : (more : Bool) (x a b : ℕ) → ((more && eqb x a) || (not more && eqb x b)) ≡ eqb x (cond more a b)
+flagged true x a b = true-or-false (eqb x a) (λ t. rw t) (λ f. rw f)
+flagged false x a b = refl
+
+pub carries-flags : (b s0 s1 e0 e1 i : ℕ) (more : Bool) → more ≡ continues b → (((more && eqb s1 s0) || (not more && eqb s1 i)) && ((more && eqb e0 e1) || (not more && eqb e0 i))) ≡ carries b s0 s1 e0 e1 i
+unfolding carries
+carries-flags b s0 s1 e0 e1 i more e = rw (flagged more s1 s0 i, flagged more e0 e1 i, e)
+
+-- and what it says
+module _ (b s0 s1 e0 e1 i : ℕ) (e : carries b s0 s1 e0 e1 i ≡ true) where
+  carries-start : s1 ≡ cond (continues b) s0 i
+  unfolding carries
+  carries-start = eqb-true _ _ (and-elim-left (eqb s1 (cond (continues b) s0 i)) _ e)
+
+  carries-end : e0 ≡ cond (continues b) e1 i
+  unfolding carries
+  carries-end = eqb-true _ _ (and-elim-right (eqb s1 (cond (continues b) s0 i)) _ e)
+
+-- the columns, number by number: the starts forwards, the ends backwards
+module _ (text starts ends : List ℕ) (p : wellFormed text ≡ true) (e : unedited text starts ends (length text) ≡ true) where
+  at-first : 0 < length text → (getD starts 0 0 ≡ 0) × (getD ends (length text - 1) 0 ≡ length text)
+  unfolding unedited uneditedAt
+  at-first some =
+      let both = every-at (length text) (uneditedAt text starts ends) e 0 some in
+      (eqb-true _ _ (and-elim-left (eqb (getD starts 0 0) 0) _ both), eqb-true _ _ (and-elim-right (eqb (getD starts 0 0) 0) _ both))
+
+  at-next : (i : ℕ) → suc i < length text → carries (getD text (suc i) 0) (getD starts i 0) (getD starts (suc i) 0) (getD ends i 0) (getD ends (suc i) 0) (suc i) ≡ true
+  unfolding unedited uneditedAt
+  at-next i h = every-at (length text) (uneditedAt text starts ends) e (suc i) h
+
+  unedited-start : (i : ℕ) → i < length text → getD starts i 0 ≡ charStart text i
+  unfolding charStart
+  unedited-start zero h = at-first h .0
+  unedited-start (suc i) h = rw (← unedited-start i (omega arith)) (carries-start _ _ _ _ _ _ (at-next i h))
+
+  -- d bytes before the last one
+  unedited-end : (d i : ℕ) → i + suc d ≡ length text → getD ends i 0 ≡ charEnd text i
+  unedited-end zero i h =
+      let r : Ranged text i = ranged text i p (omega arith) in
+      let last : length text - 1 ≡ i = omega arith in
+      (rw last at (at-first (omega arith) .1)) ∙ omega arith
+  unedited-end (suc d) i h =
+      let here = carries-end _ _ _ _ _ _ (at-next i (omega arith)) in
+      true-or-false (continues (getD text (suc i) 0))
+      (λ more. (rw more at here) ∙ unedited-end d (suc i) (omega arith) ∙ charEnd-continues text i more)
+      (λ new. (rw new at here) ∙ sym (charEnd-begins text i (ranged text i p (omega arith)) new))
+
+  -- the text beside these columns is the note of the fresh text
+  unedited-starting : length starts ≡ length text → length ends ≡ length text → lent text text starts ends 0 ≡ starting text
+  unfolding starting
+  unedited-starting long long₂ =
+      let n = length text in
+      let same : starts ≡ column n (charStart text) =
+      ext-getD 0 starts (column n (charStart text)) (long ∙ sym (length-column n (charStart text)))
+      (λ k h. unedited-start k (omega arith) ∙ sym (getD-column n (charStart text) k (omega arith))) in
+      let same₂ : ends ≡ column n (charEnd text) =
+      ext-getD 0 ends (column n (charEnd text)) (long₂ ∙ sym (length-column n (charEnd text)))
+      (λ k h. unedited-end (n - suc k) k (omega arith) ∙ sym (getD-column n (charEnd text) k (omega arith))) in
+      rw (same, same₂)
+
+-- an ASCII text whose alignments are the bytes at their indices
+module _ (text starts ends : List ℕ) (small : ascii text ≡ true) (own : ownBytes starts ends (length text) ≡ true) where
+  own-at : (i : ℕ) → i < length text → (getD starts i 0 ≡ i) × (getD ends i 0 ≡ i + 1)
+  unfolding ownBytes
+  own-at i h =
+      let both = every-at (length text) _ own i h in
+      (eqb-true _ _ (and-elim-left (eqb (getD starts i 0) i) _ both), eqb-true _ _ (and-elim-right (eqb (getD starts i 0) i) _ both))
+
+  begins : (i : ℕ) → i < length text → continues (getD text i 0) ≡ false
+  unfolding continues within
+  begins i h = rw (lt-leb 0x80 (getD text i 0) (ascii-at text small i h))
+
+  own-unedited-at : (i : ℕ) → i < length text → uneditedAt text starts ends i ≡ true
+  unfolding uneditedAt carries
+  own-unedited-at zero h =
+      and-intro (eq-eqb _ _ (own-at 0 h .0)) (eq-eqb _ _ (own-at (length text - 1) (omega arith) .1 ∙ omega arith))
+  own-unedited-at (suc i) h =
+      rw (begins (suc i) h)
+      (and-intro (eq-eqb _ _ (own-at (suc i) h .0)) (eq-eqb _ _ (own-at i (omega arith) .1 ∙ omega arith)))
+
+  own-unedited : unedited text starts ends (length text) ≡ true
+  unfolding unedited
+  own-unedited = every-all (length text) _ own-unedited-at
+
+-- how `ownBytes` is told
+pub own-none : (starts ends : List ℕ) → true ≡ ownBytes starts ends 0
+unfolding ownBytes everyBelow
+own-none starts ends = refl
+
+pub own-more : (starts ends : List ℕ) (i at : ℕ) (ok : Bool) → at ≡ i → ok ≡ ownBytes starts ends i → (ok && (eqb (getD starts i 0) at && eqb (getD ends i 0) (at + 1))) ≡ ownBytes starts ends (i + 1)
+unfolding ownBytes
+own-more starts ends i at ok same p = rw (every-suc i _, same, p)
+
+-- by the text's kind
+pub untouched-ascii : (m s e : List ℕ) (r : Bool) → ascii m ≡ true → r ≡ ownBytes s e (length s) → r ≡ untouched m s e
+unfolding untouched
+untouched-ascii m s e r small is = rw small is
+
+pub untouched-other : (m s e : List ℕ) (r : Bool) → ascii m ≡ false → r ≡ unedited m s e (length m) → r ≡ untouched m s e
+unfolding untouched
+untouched-other m s e r large is = rw large is
+
+untouched-unedited : (m s e : List ℕ) → length s ≡ length m → untouched m s e ≡ true → unedited m s e (length m) ≡ true
+unfolding untouched
+untouched-unedited m s e long t =
+    true-or-false (ascii m)
+    (λ small. own-unedited m s e small (rw (small, long) at t))
+    (λ large. rw large at t)
+
+-- such a note is aligned
+pub untouched-aligned : (o m s e : List ℕ) (r : Bool) → wellFormed m ≡ true → length s ≡ length m → length e ≡ length m → o ≡ m → r ≡ untouched m s e → r ≡ true → true ≡ aligned (lent o m s e 0)
+untouched-aligned o m s e r p long long₂ same is t =
+    rw (same, unedited-starting m s e p (untouched-unedited m s e long (sym is ∙ t)) long long₂) (sym (starting-sound m p .has-alignments))

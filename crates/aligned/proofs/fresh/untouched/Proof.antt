@@ -1,0 +1,16 @@
+-- By the text's kind.
+use mathlib.Core.Path.{sym, _∙_}
+use borrow.Author.Needs.{needs}
+use Rattle.aligned.proofs.Unedited.{untouched-ascii, untouched-other}
+use Rattle.aligned.proofs.fresh.untouched.Statement.{statement}
+use Rattle.aligned.proofs.fresh.untouched.Tie as tie
+
+pub untouched-spec : {M : Type 1} → statement M
+untouched-spec =
+    tie.close
+    (tie.spec
+    (λ c κs. search needs)
+    (λ c κs. search needs)
+    (λ c. untouched-ascii _ _ _ _ (sym (c .before .before .is-ascii .ensures) ∙ c .before .if1 .taken) (c .own-bytes .ensures))
+    (λ c κs. search needs)
+    (λ c. untouched-other _ _ _ _ (sym (c .before .before .is-ascii .ensures) ∙ c .before .if1 .left) (c .unedited .ensures)))

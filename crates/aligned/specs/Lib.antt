@@ -1,0 +1,3 @@
+-- Working forms of soundness of the alignments; soundness itself is defined in `note`.
+pub mod Judged
+pub mod Unedited

@@ -1,0 +1,3 @@
+-- Laws of the working forms.
+pub mod Monotone
+pub mod Spanning

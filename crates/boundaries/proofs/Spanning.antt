@@ -1,0 +1,156 @@
+-- Laws of `widthOf`, `spansBelow` and `Inside`: an alignment that is one whole character cuts none.
+use Prim.Native.Nat.{ℕ, zero, suc, _+_, _-_, _≤_, _<_}
+use mathlib.Core.Path.{_≡_, _∙_, ap, refl, sym}
+use mathlib.Core.Bool.{Bool, true, false, cond, _&&_, _||_, not}
+use mathlib.Core.List.{List}
+use mathlib.Mathlib.Data.Bool.Basic.{and-intro, and-elim-left, and-elim-right}
+use borrow.Author.Tests.{le-leb, lt-leb, lt-ltb, le-ltb, leb-true, eqb-true, not-true, not-false}
+use native.Mathlib.Omega.{arith}
+use lib.Dec.{leb, ltb, eqb}
+use lib.ListN.{length, getD, length-take, length-drop}
+use mir.Val.{boolByte}
+use Rattle.buffers.specs.Every.{everyBelow}
+use Rattle.buffers.specs.Splice.{part}
+use Rattle.buffers.specs.Columns.{Filled}
+use Rattle.buffers.proofs.Cases.{true-or-false, le-or-lt, clash}
+use Rattle.buffers.proofs.Booleans.{and-false-l}
+use Rattle.buffers.proofs.Every.{every-suc, every-add, every-at, every-all, every-ext}
+use Rattle.buffers.proofs.Splice.{part-index}
+use Rattle.utf8.specs.Table.{within}
+use Rattle.utf8.specs.Formed.{announced, continues, boundary, wellFormed}
+use Rattle.utf8.proofs.Boundaries.{boundary-at, boundary-begins, char-at, CharAt}
+use Rattle.boundaries.specs.Monotone.{follows, monotoneAt, monotone, uncut, uncutBelow}
+use Rattle.boundaries.specs.Spanning.{widthOf, spansBelow, Inside}
+
+pub width-flags : (b : ℕ) (x : Bool) → x ≡ continues b → boolByte (not x) + boolByte (leb 0xC0 b) + boolByte (leb 0xE0 b) + boolByte (leb 0xF0 b) ≡ widthOf b
+unfolding widthOf continues within
+width-flags b x is =
+    rw is
+    (le-or-lt 0xC0 b
+    (λ c. le-or-lt 0xE0 b
+    (λ e. le-or-lt 0xF0 b
+    (λ f. simp (le-leb 0x80 b (omega arith), lt-leb b 0xBF (omega arith), le-leb 0xC0 b c, le-leb 0xE0 b e, le-leb 0xF0 b f, le-ltb b 0xC0 c, le-ltb b 0xE0 e, le-ltb b 0xF0 f))
+    (λ f. simp (le-leb 0x80 b (omega arith), lt-leb b 0xBF (omega arith), le-leb 0xC0 b c, le-leb 0xE0 b e, lt-leb 0xF0 b f, le-ltb b 0xC0 c, le-ltb b 0xE0 e, lt-ltb b 0xF0 f)))
+    (λ e. simp (le-leb 0x80 b (omega arith), lt-leb b 0xBF (omega arith), le-leb 0xC0 b c, lt-leb 0xE0 b e, lt-leb 0xF0 b (omega arith), le-ltb b 0xC0 c, lt-ltb b 0xE0 e)))
+    (λ c. le-or-lt 0x80 b
+    (λ h. simp (le-leb 0x80 b h, le-leb b 0xBF (omega arith), lt-leb 0xC0 b c, lt-leb 0xE0 b (omega arith), lt-leb 0xF0 b (omega arith)))
+    (λ h. simp (lt-leb 0x80 b h, lt-leb 0xC0 b c, lt-leb 0xE0 b (omega arith), lt-leb 0xF0 b (omega arith), lt-ltb b 0xC0 c))))
+
+pub flag-small : (x : Bool) → boolByte x ≤ 1
+flag-small true = omega arith
+flag-small false = omega arith
+
+-- a byte that leads a character in a well-formed text
+width-announced : (b : ℕ) → continues b ≡ false → 1 ≤ announced b → widthOf b ≡ announced b
+unfolding widthOf announced
+width-announced b f some =
+    le-or-lt 0x80 b
+    (λ h. le-or-lt 0xC2 b
+    (λ c. le-or-lt 0xE0 b
+    (λ e. le-or-lt 0xF0 b
+    (λ g. le-or-lt 0xF5 b
+    (λ k. absurd (omega (arith, simp (le-ltb b 0x80 h, le-ltb b 0xC2 c, le-ltb b 0xE0 e, le-ltb b 0xF0 g, le-ltb b 0xF5 k) at some)))
+    (λ k. simp (f, le-ltb b 0x80 h, le-ltb b 0xC0 (omega arith), le-ltb b 0xC2 c, le-ltb b 0xE0 e, le-ltb b 0xF0 g, lt-ltb b 0xF5 k)))
+    (λ g. simp (f, le-ltb b 0x80 h, le-ltb b 0xC0 (omega arith), le-ltb b 0xC2 c, le-ltb b 0xE0 e, lt-ltb b 0xF0 g)))
+    (λ e. simp (f, le-ltb b 0x80 h, le-ltb b 0xC0 (omega arith), le-ltb b 0xC2 c, lt-ltb b 0xE0 e)))
+    (λ c. absurd (omega (arith, simp (le-ltb b 0x80 h, lt-ltb b 0xC2 c) at some))))
+    (λ h. simp (f, lt-ltb b 0x80 h, lt-ltb b 0xC0 (omega arith)))
+
+width-leads : (b : ℕ) → not (eqb (widthOf b) 0) ≡ true → continues b ≡ false
+unfolding widthOf
+width-leads b some = true-or-false (continues b) (λ t. clash false (rw t at some) refl) (λ f. f)
+
+spans-uncut : (original : List ℕ) (s e : ℕ) {w : ℕ} → wellFormed original ≡ true → s < length original → w ≡ widthOf (getD original s 0) → (not (eqb w 0) && eqb (e - s) w) ≡ true → (uncut original s && uncut original e) ≡ true
+unfolding uncut
+spans-uncut original s e {w} formed h is spans =
+    let some : not (eqb w 0) ≡ true = and-elim-left (not (eqb w 0)) (eqb (e - s) w) spans in
+    let long : e - s ≡ w = eqb-true (e - s) w (and-elim-right (not (eqb w 0)) (eqb (e - s) w) spans) in
+    let leads : continues (getD original s 0) ≡ false = width-leads _ (rw is at some) in
+    let here = char-at original s formed (boundary-at original s (omega arith) leads) h in
+    let wide : w ≡ announced (getD original s 0) = is ∙ width-announced _ leads (here .positive) in
+    let end : s + announced (getD original s 0) ≡ e = omega (arith, here .positive) in
+    and-intro (ap not leads) (ap not (boundary-begins original e (rw end at (here .ends))))
+
+-- the loop over a block
+module _ (widths starts ends : List ℕ) where
+  pub spans-none : true ≡ spansBelow widths starts ends 0
+  unfolding spansBelow everyBelow
+  spans-none = refl
+
+  pub spans-more : (j : ℕ) {ok : Bool} {r : ℕ} → ok ≡ spansBelow widths starts ends j → r ≡ getD ends j 0 - getD starts j 0 → (ok && (not (eqb (getD widths j 0) 0) && eqb r (getD widths j 0))) ≡ spansBelow widths starts ends (j + 1)
+  unfolding spansBelow
+  spans-more j is far = rw (is, far, every-suc j (λ k. not (eqb (getD widths k 0) 0) && eqb (getD ends k 0 - getD starts k 0) (getD widths k 0)))
+
+  pub spans-all : {j : ℕ} {ok : Bool} → ok ≡ spansBelow widths starts ends j → j ≡ length widths → ok ≡ spansBelow widths starts ends (length widths)
+  spans-all is full = rw full at is
+
+pub all-spans : {original starts bytes₀ bytes widths₀ widths : List ℕ} (ends : List ℕ) → Inside original starts → length starts ≡ 128 → length bytes₀ ≡ 128 → length widths₀ ≡ 128 → Filled (λ k. getD original (getD starts k 0) 0) bytes₀ 0 (length bytes₀) bytes → Filled (λ k. widthOf (getD bytes k 0)) widths₀ 0 (length widths₀) widths → spansBelow widths starts ends (length widths) ≡ true → uncutBelow original starts ends 128 ≡ true
+unfolding uncutBelow spansBelow
+all-spans {original} {starts} {bytes = bytes} {widths = widths} ends known long n m read wide spans =
+    let size : length widths ≡ 128 = wide .same ∙ m in
+    every-all 128 _
+    (λ k h.
+    spans-uncut original (getD starts k 0) (getD ends k 0) (known .formed) (known .below k (omega arith))
+    (wide .within k (omega arith) (omega arith) ∙ ap widthOf (read .within k (omega arith) (omega arith)))
+    (every-at (length widths) (λ (i : ℕ). not (eqb (getD widths i 0) 0) && eqb (getD ends i 0 - getD starts i 0) (getD widths i 0)) spans k (omega arith)))
+
+-- alignments in two parts
+pub uncut-parts : (o s e : List ℕ) (i n : ℕ) → uncutBelow o s e (i + n) ≡ (uncutBelow o s e i && uncutBelow o (part s i (i + n)) (part e i (i + n)) n)
+unfolding uncutBelow
+uncut-parts o s e i n =
+    every-add i n (λ k. uncut o (getD s k 0) && uncut o (getD e k 0))
+    ∙ ap (λ (r : Bool). everyBelow i (λ k. uncut o (getD s k 0) && uncut o (getD e k 0)) && r)
+    (every-ext n _ _ (λ k h. rw (part-index s i (i + n) k (omega arith), part-index e i (i + n) k (omega arith))))
+
+module _ (o s e : List ℕ) (i : ℕ) {r : Bool} where
+  -- the next block, of which r was told
+  block-read : (n : ℕ) → uncutBelow o s e i ≡ true → r ≡ uncutBelow o (part s i (i + n)) (part e i (i + n)) n → uncutBelow o s e (i + n) ≡ r
+  block-read n so-far is = uncut-parts o s e i n ∙ rw (so-far, ← is)
+
+  pub blocks-more : uncutBelow o s e i ≡ true → r ≡ uncutBelow o (part s i (i + 128)) (part e i (i + 128)) 128 → not r ≡ false → uncutBelow o s e (i + 128) ≡ true
+  blocks-more so-far is t = block-read 128 so-far is ∙ not-false r t
+
+  pub blocks-cut : uncutBelow o s e i ≡ true → r ≡ uncutBelow o (part s i (i + 128)) (part e i (i + 128)) 128 → not r ≡ true → i + 128 ≤ length s → false ≡ uncutBelow o s e (length s)
+  blocks-cut so-far is f h =
+      let whole : i + 128 + (length s - (i + 128)) ≡ length s = omega arith in
+      sym (rw whole at (uncut-parts o s e (i + 128) (length s - (i + 128)) ∙ and-false-l _ _ (block-read 128 so-far is ∙ not-true r f)))
+
+  pub blocks-rest : i ≤ length s → length e ≡ length s → uncutBelow o s e i ≡ true → r ≡ uncutBelow o (part s i (length s)) (part e i (length e)) (length (part s i (length s))) → r ≡ uncutBelow o s e (length s)
+  blocks-rest h same so-far is =
+      let whole : i + (length s - i) ≡ length s = omega arith in
+      let left : length (part s i (length s)) ≡ length s - i = simp (length-take, length-drop) (omega arith) in
+      is ∙ rw (left, same) (sym (rw (so-far, whole) at (uncut-parts o s e i (length s - i))))
+
+pub inside-part : {o s : List ℕ} (i : ℕ) → Inside o s → i + 128 ≤ length s → Inside o (part s i (i + 128))
+inside-part {o} {s} i known h =
+    record {
+      formed = known .formed;
+      below = λ k b.
+          let low : k < 128 = omega (arith, simp (length-take, length-drop) at b) in
+          rw (part-index s i (i + 128) k (omega arith)) (known .below (i + k) (omega arith));
+    }
+
+-- starts that never go back are all inside where the last one is
+module _ (text starts ends : List ℕ) (size n : ℕ) (e : monotone text starts ends size n ≡ true) where
+  start-next : (k : ℕ) → suc k < n → getD starts k 0 ≤ getD starts (suc k) 0
+  unfolding monotone monotoneAt follows
+  start-next k h =
+      let here = every-at n (monotoneAt text starts ends size) e (suc k) h in
+      let rest = and-elim-left _ (leb (getD ends k 0) (getD ends (suc k) 0)) here in
+      leb-true _ _ (and-elim-right (leb (getD starts (suc k) 0) (getD ends (suc k) 0) && leb (getD ends (suc k) 0) size && (not (continues (getD text (suc k) 0)) || (eqb (getD starts k 0) (getD starts (suc k) 0) && eqb (getD ends k 0) (getD ends (suc k) 0)))) (leb (getD starts k 0) (getD starts (suc k) 0)) rest)
+
+  starts-rise : (i d : ℕ) → i + d < n → getD starts i 0 ≤ getD starts (i + d) 0
+  starts-rise i zero h = let z : i + 0 ≡ i = omega arith in rw z (omega arith)
+  starts-rise i (suc d) h =
+      let next : i + suc d ≡ suc (i + d) = omega arith in
+      rw next (omega (arith, starts-rise i d (omega arith), start-next (i + d) (omega arith)))
+
+  pub starts-inside : {o : List ℕ} → wellFormed o ≡ true → length starts ≡ n → getD starts (length starts - 1) 0 < length o → Inside o starts
+  starts-inside formed long last =
+      record {
+        formed = formed;
+        below = λ k h.
+            let top : k + (n - 1 - k) ≡ length starts - 1 = omega arith in
+            let rise = rw top at (starts-rise k (n - 1 - k) (omega arith)) in
+            omega arith;
+      }

@@ -1,0 +1,26 @@
+-- The bytes at the starts, their widths, and that each alignment is as long as its width.
+use mathlib.Core.Path.{_∙_, refl, sym}
+use borrow.Author.Needs.{needs}
+use Rattle.boundaries.proofs.Spanning.{all-spans}
+use Rattle.boundaries.proofs.one_each.Statement.{statement}
+use Rattle.boundaries.proofs.one_each.Tie as tie
+
+returns : tie.Need-returns
+returns c t =
+    let written = c .before .before .before in
+    let read = written .before .before .before .before in
+    let entry = read .before .before .before .before .before in
+    all-spans _ (entry .pre .1) (entry .pre .0 .0) refl refl (read .read-at .ensures) (written .write-widths .ensures) (sym (c .all-span .ensures) ∙ t)
+
+pub one-each-spec : {M : Type 1} → statement M
+one-each-spec =
+    tie.close
+    (tie.spec
+    (λ c. search needs)
+    (λ c κs. search needs)
+    (λ c. search needs)
+    (λ c. search needs)
+    (λ c κs. search needs)
+    (λ c. search needs)
+    (λ c κs. search needs)
+    returns)

@@ -1,0 +1,158 @@
+// Whether alignments cut no character of the transcript, for alignments that never go back. In a block of 128 the byte
+// at each start is read; where each alignment is the one whole character that this byte leads, as in most notes, no end
+// is looked up.
+use buffers::Offset;
+use utf8::continues;
+ghost use mathlib.Core.Path.{_≡_};
+ghost use mathlib.Core.Bool.{true};
+ghost use Prim.Native.Nat.{ℕ, _-_, _≤_, _<_};
+ghost use lib.ListN.{length, getD};
+ghost use Rattle.buffers.specs.Columns.{Filled};
+ghost use Rattle.utf8.specs.Formed.{wellFormed};
+ghost use Rattle.boundaries.specs.Monotone.{monotone, uncut, uncutBelow};
+ghost use Rattle.boundaries.specs.Spanning.{Inside, spansBelow, widthOf};
+
+// Whether no character of the text is cut at `p`.
+fn uncut(original: &[u8], p: Offset) -> bool
+    ensures { λ r. ⌜ r ≡ uncut (now (original .entry)) p ⌝ }
+{
+    let i = p as usize;
+    if i < original.len() {
+        return !continues(original[i]);
+    }
+    true
+}
+
+fn all_uncut(original: &[u8], starts: &[Offset], ends: &[Offset]) -> bool
+    requires { ⌜ length (now ends) ≡ length (now starts) ⌝ }
+    ensures { λ r. ⌜ r ≡ uncutBelow (now (original .entry)) (now (starts .entry)) (now (ends .entry))
+        (length (now (starts .entry))) ⌝ }
+{
+    let mut ok = true;
+    let mut i = 0;
+    while i < starts.len() {
+        ok = ok & (uncut(original, starts[i]) & uncut(original, ends[i]));
+        i += 1;
+    }
+    ok
+}
+
+// How far `a` is above `b`, or 0.
+fn over(a: Offset, b: Offset) -> Offset
+    ensures { λ r. ⌜ r ≡ a - b ⌝ }
+{
+    if b < a {
+        return a - b;
+    }
+    0
+}
+
+// How many bytes the character has that the byte leads; 0 where it leads none.
+fn width_of(b: u8) -> u8
+    ensures { λ r. ⌜ r ≡ widthOf b ⌝ }
+{
+    !continues(b) as u8 + (0xC0 <= b) as u8 + (0xE0 <= b) as u8 + (0xF0 <= b) as u8
+}
+
+// The byte of the transcript at each start.
+fn read_at(original: &[u8], starts: &[Offset], bytes: &mut [u8])
+    requires { ⌜ length (now bytes) ≤ length (now starts) ⌝ }
+    requires { ⌜ Inside (now original) (now starts) ⌝ }
+    ensures { λ _. ⌜ Filled (λ k. getD (now (original .entry)) (getD (now (starts .entry)) k 0) 0)
+        (now (bytes .entry)) 0 (length (now (bytes .entry))) (now (bytes .exit)) ⌝ }
+{
+    let mut j = 0;
+    while j < bytes.len() {
+        bytes[j] = original[starts[j] as usize];
+        j += 1;
+    }
+}
+
+fn write_widths(bytes: &[u8], widths: &mut [u8])
+    requires { ⌜ length (now widths) ≤ length (now bytes) ⌝ }
+    ensures { λ _. ⌜ Filled (λ k. widthOf (getD (now (bytes .entry)) k 0)) (now (widths .entry)) 0
+        (length (now (widths .entry))) (now (widths .exit)) ⌝ }
+{
+    let mut j = 0;
+    while j < widths.len() {
+        widths[j] = width_of(bytes[j]);
+        j += 1;
+    }
+}
+
+// Whether each alignment is as long as its width, and that is not 0.
+fn all_span(widths: &[u8], starts: &[Offset], ends: &[Offset]) -> bool
+    requires { ⌜ (length (now widths) ≤ length (now starts)) × (length (now widths) ≤ length (now ends)) ⌝ }
+    ensures { λ r. ⌜ r ≡ spansBelow (now (widths .entry)) (now (starts .entry)) (now (ends .entry))
+        (length (now (widths .entry))) ⌝ }
+{
+    let mut ok = true;
+    let mut j = 0;
+    while j < widths.len() {
+        let width = widths[j] as Offset;
+        ok = ok & ((width != 0) & (over(ends[j], starts[j]) == width));
+        j += 1;
+    }
+    ok
+}
+
+// Whether each alignment of a block of 128 is one whole character. An inner function: the transcript was judged, and
+// every start is inside it.
+fn one_each(original: &[u8], starts: &[Offset], ends: &[Offset]) -> bool
+    requires { ⌜ (length (now starts) ≡ 128) × (length (now ends) ≡ 128) ⌝ }
+    requires { ⌜ Inside (now original) (now starts) ⌝ }
+    ensures { λ r. ⌜ (r ≡ true
+        → uncutBelow (now (original .entry)) (now (starts .entry)) (now (ends .entry)) 128 ≡ true) ⌝ }
+{
+    let mut bytes = [0u8; 128];
+    read_at(original, starts, &mut bytes);
+    let mut widths = [0u8; 128];
+    write_widths(&bytes, &mut widths);
+    all_span(&widths, starts, ends)
+}
+
+// Whether a block cuts no character.
+fn block_uncut(original: &[u8], starts: &[Offset], ends: &[Offset]) -> bool
+    requires { ⌜ (length (now starts) ≡ 128) × (length (now ends) ≡ 128) ⌝ }
+    requires { ⌜ Inside (now original) (now starts) ⌝ }
+    ensures { λ r. ⌜ r ≡ uncutBelow (now (original .entry)) (now (starts .entry)) (now (ends .entry)) 128 ⌝ }
+{
+    if one_each(original, starts, ends) {
+        return true;
+    }
+    all_uncut(original, starts, ends)
+}
+
+// The same in blocks.
+fn uncut_blocks(original: &[u8], starts: &[Offset], ends: &[Offset]) -> bool
+    requires { ⌜ length (now ends) ≡ length (now starts) ⌝ }
+    requires { ⌜ Inside (now original) (now starts) ⌝ }
+    ensures { λ r. ⌜ r ≡ uncutBelow (now (original .entry)) (now (starts .entry)) (now (ends .entry))
+        (length (now (starts .entry))) ⌝ }
+{
+    let mut i = 0;
+    while 128 <= starts.len() - i {
+        if !block_uncut(original, &starts[i..i + 128], &ends[i..i + 128]) {
+            return false;
+        }
+        i += 128;
+    }
+    all_uncut(original, &starts[i..], &ends[i..])
+}
+
+// Whether no alignment cuts a character of the transcript: in blocks where the last start, and so each, is inside it.
+pub fn uncut_all(original: &[u8], normalized: &[u8], starts: &[Offset], ends: &[Offset]) -> bool
+    requires { ⌜ (wellFormed (now original) ≡ true) × (length (now starts) ≡ length (now normalized)) ⌝ }
+    requires { ⌜ (length (now ends) ≡ length (now normalized)) × (monotone (now normalized) (now starts) (now ends)
+        (length (now original)) (length (now normalized)) ≡ true) ⌝ }
+    ensures { λ r. ⌜ r ≡ uncutBelow (now (original .entry)) (now (starts .entry)) (now (ends .entry))
+        (length (now (starts .entry))) ⌝ }
+{
+    if 0 < starts.len() {
+        let last = starts[starts.len() - 1] as usize;
+        if last < original.len() {
+            return uncut_blocks(original, starts, ends);
+        }
+    }
+    all_uncut(original, starts, ends)
+}
