@@ -1,5 +1,5 @@
 -- Working forms: one pair after the other, each from a byte whose character is known.
-use Prim.Native.Nat.{ℕ, _-_, _≤_}
+use Prim.Native.Nat.{ℕ, _+_, _-_, _≤_}
 use mathlib.Core.Path.{_≡_}
 use mathlib.Core.List.{List}
 use lib.ListN.{length}
@@ -13,6 +13,12 @@ pub record IndexKnown (most : ℕ) (s : List ℕ) (at index : ℕ) : Type 0 wher
   pub short : length s ≤ most
   pub inside : at ≤ length s - 1
   pub so-far : index ≡ indexOf s at
+
+-- at most 16 bytes of a text that has 16 there
+pub record Near (s : List ℕ) (from to : ℕ) : Type 0 where
+  pub onward : from ≤ to
+  pub few : to ≤ from + 16
+  pub inside : from + 16 ≤ length s
 
 -- one pair: its answer in numbers, and what the next one goes on from
 pub record PairStepped (most : ℕ) (s : List ℕ) (a e : ℕ) (r : Step) : Type 0 where

@@ -11,13 +11,16 @@ use note::Refusal;
 use note::Verdict;
 use note::answers::earlier;
 use note::answers::refused_if;
+use utf8::continues;
 use utf8::count::count_leads;
 ghost use mathlib.Core.Path.{_≡_};
 ghost use Prim.Native.Nat.{_<_};
 ghost use lib.ListN.{length};
+ghost use Rattle.buffers.specs.Splice.{part};
+ghost use Rattle.utf8.specs.Letters.{leads};
 ghost use Rattle.note.specs.Notes.{limit};
 ghost use Rattle.char_offsets.specs.Positions.{charOffsets, CharOffsetsList, indexOf};
-ghost use Rattle.char_offsets.specs.Steps.{IndexKnown, PairRoom, PairsWritten, PairStepped};
+ghost use Rattle.char_offsets.specs.Steps.{IndexKnown, Near, PairRoom, PairsWritten, PairStepped};
 
 // What converting a pair answers.
 pub enum CharOffsets {
@@ -36,6 +39,40 @@ pub fn index_from(text: &[u8], at: usize, index: u32, to: usize) -> u32
         return index + count_leads(&text[at + 1..to + 1]) as u32;
     }
     index - count_leads(&text[to + 1..at + 1]) as u32
+}
+
+// How many of the bytes from..to begin a character, of which there are at most 16: a block of 16 is looked at, so that
+// no loop's number of turns is how many there are. Whether the byte j is one of the first n is a quotient, 1 or 0:
+// compared instead, eight bytes would be spent on each.
+fn near_leads(text: &[u8], from: usize, to: usize) -> u8
+    requires { ⌜ Near (now text) from to ⌝ }
+    ensures { λ r. ⌜ r ≡ leads (part (now (text .entry)) from to) ⌝ }
+{
+    let n = (to - from) as u8;
+    let mut count: u8 = 0;
+    let mut j: u8 = 0;
+    while j < 16 {
+        let begins = !continues(text[from + j as usize]);
+        count += begins as u8 * ((n + (15 - j)) / 16);
+        j += 1;
+    }
+    count
+}
+
+// The same as `index_from`, for a byte that is most often near behind.
+pub fn index_near(text: &[u8], at: usize, index: u32, to: usize) -> u32
+    requires { ⌜ IndexKnown limit (now text) at index ⌝ }
+    requires { ⌜ to < length (now text) ⌝ }
+    ensures { λ r. ⌜ r ≡ indexOf (now (text .entry)) to ⌝ }
+{
+    if at <= to {
+        if to - at <= 16 {
+            if at + 17 <= text.len() {
+                return index + near_leads(text, at + 1, to + 1) as u32;
+            }
+        }
+    }
+    index_from(text, at, index, to)
 }
 
 // One pair's answer in numbers, and a byte whose character is known: where the next pair starts from.
@@ -63,9 +100,9 @@ fn convert_from(text: &[u8], at: usize, index: u32, start: u32, end: u32) -> Ste
             index,
         };
     }
-    let first = index_from(text, at, index, from);
+    let first = index_near(text, at, index, from);
     if to < text.len() {
-        let last = index_from(text, from, first, to);
+        let last = index_near(text, from, first, to);
         return Step {
             number: 0,
             start: first,

@@ -10,30 +10,30 @@ use Rattle.char_offsets.proofs.convert_from.Tie as tie
 returns-2 : tie.Need-returns-2
 returns-2 c =
     let past = c .before .before .before in
-    stepped-chars _ _ _ (past .if1 .left) (c .before .before .index-from .ensures) (end-inside _ _ _ (c .before .if2 .taken) (c .index-from2 .ensures))
-    (record { short = past .before .before .pre .short; inside = omega arith; so-far = c .index-from2 .ensures })
+    stepped-chars _ _ _ (past .if1 .left) (c .before .before .index-near .ensures) (end-inside _ _ _ (c .before .if2 .taken) (c .index-near2 .ensures))
+    (record { short = past .before .before .pre .short; inside = omega arith; so-far = c .index-near2 .ensures })
 
 add-t14 : tie.Need-add-t14
 add-t14 c =
     let entry = c .before .before .before .before .before .before in
-    omega (arith, c .index-from3 .ensures, index-most (entry .args .text .now) (entry .args .end - 1), entry .pre .short)
+    omega (arith, c .index-from .ensures, index-most (entry .args .text .now) (entry .args .end - 1), entry .pre .short)
 
 returns-3 : tie.Need-returns-3
 returns-3 c =
     let past = c .before .before .before .before in
-    stepped-chars _ _ _ (past .if1 .left) (c .before .before .before .index-from .ensures) (omega (arith, end-last _ _ _ (c .before .if3 .taken) (past .if1 .left) (c .index-from3 .ensures)))
-    (record { short = past .before .before .pre .short; inside = omega arith; so-far = c .index-from3 .ensures })
+    stepped-chars _ _ _ (past .if1 .left) (c .before .before .before .index-near .ensures) (omega (arith, end-last _ _ _ (c .before .if3 .taken) (past .if1 .left) (c .index-from .ensures)))
+    (record { short = past .before .before .pre .short; inside = omega arith; so-far = c .index-from .ensures })
 
 add-t15 : tie.Need-add-t15
 add-t15 c =
     let entry = c .before .before .before .before .before in
-    omega (arith, c .before .before .index-from .ensures, index-most (entry .args .text .now) (entry .args .start), entry .pre .short)
+    omega (arith, c .before .before .index-near .ensures, index-most (entry .args .text .now) (entry .args .start), entry .pre .short)
 
 returns-4 : tie.Need-returns-4
 returns-4 c =
     let past = c .before .before .before in
     let args = past .before .before .args in
-    let first = c .before .before .index-from .ensures in
+    let first = c .before .before .index-near .ensures in
     stepped-chars _ _ _ (past .if1 .left) first (omega (arith, end-past (args .text .now) (args .start) (args .end) (omega arith) first))
     (record { short = past .before .before .pre .short; inside = omega arith; so-far = first })
 
