@@ -16,7 +16,7 @@ use Rattle.behaviors.specs.declared.EmptyPieces.{EmptyPieces}
 use Rattle.behaviors.specs.declared.EmptyPieces.the-variants.{Kept, Dropped}
 use Rattle.behaviors.specs.Splits.{unremoved, spanning, endMoved, folded, firstMatched, startMoved, foldedBack, splits, goes, isPiece, remaining, pieces, SplitsCover}
 use Rattle.behaviors.specs.Joining.{joins, begins, beginsBehind, ends, startsOf, endsOf, unmatched, loses, PiecesJoined, PiecesUnmatched}
-use Rattle.behaviors.specs.Runs.{onward, stays, over, given, runsFrom}
+use Rattle.behaviors.specs.Runs.{onwardIf, onward, stays, over, given, runsFrom}
 
 -- a run that takes one more place
 abbrev drawn : Place → Place → Place
@@ -117,7 +117,7 @@ unfolding stays
 stays-kept b e run l = rw l
 
 runs-gathered : (b : SplitDelimiterBehavior) (e : EmptyPieces) (run : Place) (ps : List Place) → loses b ≡ false → runsFrom b e run ps ≡ remaining e (gathered (joins b) run ps)
-unfolding runsFrom gathered over onward remaining given
+unfolding runsFrom gathered over onward onwardIf remaining given
 runs-gathered b e run [] l =
     ap (λ (t : Bool). given t run) (stays-kept b e run l) ∙ sym (first-remains e run [] ∙ append-nil (given (not (goes e run)) run))
 runs-gathered b e run (p ∷ ps) l =
@@ -134,7 +134,7 @@ place-remains e run ps =
     (λ f. true-or-false (goes e run) (λ t. rw (t, f)) (λ u. rw (u, f)))
 
 runs-removed : (e : EmptyPieces) (run : Place) (ps : List Place) → runsFrom Removed e run ps ≡ remaining e (run ∷ ps)
-unfolding runsFrom over onward joins remaining given
+unfolding runsFrom over onward onwardIf joins remaining given
 runs-removed e run [] = sym (place-remains e run [] ∙ append-nil (given (stays Removed e run) run))
 runs-removed e run (p ∷ ps) = rw (runs-removed e p ps) (sym (place-remains e run (p ∷ ps)))
 

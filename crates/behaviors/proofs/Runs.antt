@@ -20,7 +20,7 @@ use Rattle.behaviors.specs.declared.EmptyPieces.{EmptyPieces}
 use Rattle.behaviors.specs.declared.Sizes.{Sizes}
 use Rattle.behaviors.specs.Splits.{unremoved, pieces}
 use Rattle.behaviors.specs.Joining.{joins, startsOf, endsOf}
-use Rattle.behaviors.specs.Runs.{onward, stays, over, given, runsFrom, bytesOf, sizesWith, listPieces, Listed, Addable, RunRoom, RunLaid, SpansRoom, SpansLaid}
+use Rattle.behaviors.specs.Runs.{onwardIf, onward, stays, over, given, runsFrom, bytesOf, sizesWith, listPieces, Listed, Addable, RunRoom, RunLaid, SpansRoom, SpansLaid}
 use Rattle.behaviors.proofs.Gathered.{runs-pieces, pieces-none}
 
 -- the places of a list from i on stand behind an open run
@@ -84,11 +84,27 @@ module _ {most : ℕ} {list : List ℕ} {run : Place} {i : ℕ} (o : Open most l
       }
 
   pub next-open : (b : SplitDelimiterBehavior) {r : Place} → r ≡ onward b run p → Open most list r next
-  unfolding onward
+  unfolding onward onwardIf
   next-open b e =
       true-or-false (joins b (run .matched) (p .matched))
       (λ t. rw (e, t) (open-from _ (omega (arith, o .forward, span .onward)) refl))
       (λ f. rw (e, f) (open-from p (omega (arith, span .from, span .onward)) refl))
+
+-- AS MANY PIECES AS PLACES
+given-few : (t : Bool) (run : Place) → length (given t run) ≤ 1
+unfolding given
+given-few true run = omega arith
+given-few false run = omega arith
+
+runs-few : (b : SplitDelimiterBehavior) (e : EmptyPieces) (run : Place) (ps : List Place) → length (runsFrom b e run ps) ≤ length ps + 1
+unfolding runsFrom
+runs-few b e run [] = omega (arith, given-few (stays b e run) run)
+runs-few b e run (p ∷ ps) =
+    omega (arith, length-append (given (over b e run p) run) (runsFrom b e (onward b run p) ps), given-few (over b e run p) run, runs-few b e (onward b run p) ps)
+
+pub pieces-few : (b : SplitDelimiterBehavior) (e : EmptyPieces) (ps : List Place) → length (pieces b e ps) ≤ length ps
+pieces-few b e [] = rw (pieces-none b e) (omega arith)
+pieces-few b e (p ∷ ps) = rw (← runs-pieces b e p ps) (omega (arith, runs-few b e p ps))
 
 -- THE SIZES
 bytes-append : (xs ys : List Place) → bytesOf (xs ++ ys) ≡ bytesOf xs + bytesOf ys
@@ -103,14 +119,9 @@ sizes-append s xs ys =
     let z : s .bytes + bytesOf xs + bytesOf ys ≡ s .bytes + bytesOf (xs ++ ys) = omega (arith, bytes-append xs ys) in
     λ i. record { pieces = a i; bytes = z i }
 
-given-few : (t : Bool) (run : Place) → length (given t run) ≤ 1
-unfolding given
-given-few true run = omega arith
-given-few false run = omega arith
-
 -- a new run begins behind the bytes that were counted
 begins-behind : (b : SplitDelimiterBehavior) (e : EmptyPieces) (run p : Place) (bytes : ℕ) → bytes ≤ run .start .0 → run .start .0 ≤ run .end .0 → p .start .0 ≡ run .end .0 → bytes + bytesOf (given (over b e run p) run) ≤ onward b run p .start .0
-unfolding over onward given bytesOf unremoved
+unfolding over onward onwardIf given bytesOf unremoved
 begins-behind b e run p bytes low forward from =
     true-or-false (joins b (run .matched) (p .matched))
     (λ t. rw t (omega arith))

@@ -1,9 +1,12 @@
 -- Laws of the tests on one run: by the cases of the code.
-use Prim.Native.Nat.{_+_, _-_}
-use mathlib.Core.Path.{_≡_}
+use Prim.Native.Nat.{_+_, _-_, _*_, _<_}
+use mathlib.Core.Path.{_≡_, _∙_, refl}
 use mathlib.Core.Bool.{Bool, true, false, _&&_, not, Bool·beq}
+use mathlib.Core.List.{List, [], _∷_}
 use native.Mathlib.Omega.{arith}
+use mir.Val.{boolByte}
 use lib.Dec.{eqb}
+use lib.ListN.{getD}
 use Rattle.pattern.specs.declared.Place.{Place}
 use Rattle.behaviors.specs.declared.SplitDelimiterBehavior.{SplitDelimiterBehavior}
 use Rattle.behaviors.specs.declared.SplitDelimiterBehavior.the-variants.{Removed, Isolated, MergedWithPrevious, MergedWithNext, Contiguous}
@@ -12,7 +15,7 @@ use Rattle.behaviors.specs.declared.EmptyPieces.the-variants.{Kept, Drop
 use Rattle.behaviors.specs.declared.Sizes.{Sizes}
 use Rattle.behaviors.specs.Splits.{unremoved, goes}
 use Rattle.behaviors.specs.Joining.{joins, loses}
-use Rattle.behaviors.specs.Runs.{onward, stays, over, given, bytesOf, sizesWith}
+use Rattle.behaviors.specs.Runs.{onwardIf, onward, joinTable, joinedBy, stays, over, given, bytesOf, sizesWith}
 
 module _ (b : SplitDelimiterBehavior) (before now : Bool) where
   pub joins-removed : b ≡ Removed → false ≡ joins b before now
@@ -55,14 +58,44 @@ module _ (b : SplitDelimiterBehavior) (e : EmptyPieces) (run : Place) where
   unfolding over
   over-by p is at = rw (is, at)
 
-module _ (b : SplitDelimiterBehavior) (run p : Place) {j : Bool} (is : j ≡ joins b (run .matched) (p .matched)) where
-  pub onward-joined : j ≡ true → _≡_ {A = Place} (record { start = run .start; end = p .end; matched = p .matched }) (onward b run p)
-  unfolding onward
-  onward-joined t = rw (← is, t)
+pub onward-by : (b : SplitDelimiterBehavior) (run p : Place) {j : Bool} {r : Place} → j ≡ joins b (run .matched) (p .matched) → r ≡ onwardIf j run p → r ≡ onward b run p
+unfolding onward
+onward-by b run p is at = at ∙ rw is
 
-  pub onward-anew : j ≡ false → p ≡ onward b run p
-  unfolding onward
-  onward-anew f = rw (← is, f)
+-- two flags are an index of the table
+pub flags-small : (before now : Bool) → boolByte before * 2 + boolByte now < 4
+flags-small true true = omega arith
+flags-small true false = omega arith
+flags-small false true = omega arith
+flags-small false false = omega arith
+
+pub flags-read : (table : List Bool) (before now : Bool) → getD table (boolByte before * 2 + boolByte now) false ≡ joinedBy table before now
+unfolding joinedBy
+flags-read table true true = refl
+flags-read table true false = refl
+flags-read table false true = refl
+flags-read table false false = refl
+
+pub table-by : (b : SplitDelimiterBehavior) {w x y z : Bool} → w ≡ joins b false false → x ≡ joins b false true → y ≡ joins b true false → z ≡ joins b true true → _≡_ {A = List Bool} (w ∷ x ∷ y ∷ z ∷ []) (joinTable b)
+unfolding joinTable
+table-by b w x y z = rw (w, x, y, z)
+
+-- the table's answer is the behaviour's
+pub joined-by : (b : SplitDelimiterBehavior) (before now : Bool) {table : List Bool} {j : Bool} → table ≡ joinTable b → j ≡ joinedBy table before now → j ≡ joins b before now
+unfolding joinTable joinedBy
+joined-by b true true e is = is ∙ rw e
+joined-by b true false e is = is ∙ rw e
+joined-by b false true e is = is ∙ rw e
+joined-by b false false e is = is ∙ rw e
+
+module _ (run p : Place) {j : Bool} where
+  pub drawn-out : j ≡ true → _≡_ {A = Place} (record { start = run .start; end = p .end; matched = p .matched }) (onwardIf j run p)
+  unfolding onwardIf
+  drawn-out t = rw t
+
+  pub begun-anew : j ≡ false → p ≡ onwardIf j run p
+  unfolding onwardIf
+  begun-anew f = rw f
 
 module _ (s : Sizes) (met : Bool) (run : Place) where
   pub one-counted : met ≡ true → _≡_ {A = Sizes} (record { pieces = s .pieces + 1; bytes = s .bytes + (run .end .0 - run .start .0) }) (sizesWith s (given met run))

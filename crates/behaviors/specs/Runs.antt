@@ -1,9 +1,9 @@
 -- The working form of the pieces: places are gathered into a run, and a run that is over gives a piece or none.
 use Prim.Native.Nat.{ℕ, _+_, _-_, _^_, _≤_, _<_}
 use mathlib.Core.Path.{_≡_}
-use mathlib.Core.Bool.{Bool, true, cond, _&&_, not}
+use mathlib.Core.Bool.{Bool, true, false, cond, _&&_, not}
 use mathlib.Core.List.{List, [], _∷_, _++_}
-use lib.ListN.{length}
+use lib.ListN.{length, getD}
 use Rattle.buffers.specs.Splice.{splice, overlay}
 use Rattle.pattern.specs.declared.Place.{Place}
 use Rattle.pattern.specs.Entries.{placesOf}
@@ -16,10 +16,19 @@ use Rattle.behaviors.specs.Joining.{joins, loses, startsOf, endsOf}
 
 -- a run is the place from its first place's start to its last one's end, with the flag of its last; it takes one more
 -- place, or a new one begins
+unfoldable pub onwardIf : Bool → Place → Place → Place
+onwardIf joined run p = cond joined (record { start = run .start; end = p .end; matched = p .matched }) p
+
 unfoldable pub onward : SplitDelimiterBehavior → Place → Place → Place
-onward behavior run p =
-    cond (joins behavior (run .matched) (p .matched))
-    (record { start = run .start; end = p .end; matched = p .matched }) p
+onward behavior run p = onwardIf (joins behavior (run .matched) (p .matched)) run p
+
+-- what a behaviour says of each pair of flags, and one of its answers
+unfoldable pub joinTable : SplitDelimiterBehavior → List Bool
+joinTable behavior =
+    joins behavior false false ∷ joins behavior false true ∷ joins behavior true false ∷ joins behavior true true ∷ []
+
+unfoldable pub joinedBy : List Bool → Bool → Bool → Bool
+joinedBy table before now = getD table (cond before 2 0 + cond now 1 0) false
 
 -- whether a run that is over gives a piece
 unfoldable pub stays : SplitDelimiterBehavior → EmptyPieces → Place → Bool

@@ -13,7 +13,7 @@ ghost use lib.ListN.{length};
 ghost use Rattle.note.specs.Notes.{limit};
 ghost use Rattle.behaviors.specs.Splits.{goes};
 ghost use Rattle.behaviors.specs.Joining.{joins, loses};
-ghost use Rattle.behaviors.specs.Runs.{bytesOf, given, listPieces, onward, over, stays};
+ghost use Rattle.behaviors.specs.Runs.{bytesOf, given, joinedBy, joinTable, listPieces, onwardIf, stays};
 ghost use Rattle.behaviors.specs.Runs.{Addable, Listed, RunLaid, RunRoom, SpansLaid, SpansRoom, sizesWith};
 
 // What becomes of the delimiters, the matched places.
@@ -50,6 +50,25 @@ fn joins(behavior: SplitDelimiterBehavior, before: bool, now: bool) -> bool
     }
 }
 
+// What `joins` says of the four pairs of flags: asked once, so that a place of a list takes no case on the behaviour.
+fn join_table(behavior: SplitDelimiterBehavior) -> [bool; 4]
+    ensures { λ r. ⌜ r ≡ joinTable behavior ⌝ }
+{
+    [
+        joins(behavior, false, false),
+        joins(behavior, false, true),
+        joins(behavior, true, false),
+        joins(behavior, true, true),
+    ]
+}
+
+// The same by the table, for the flags of two places.
+fn joined(table: &[bool; 4], before: bool, matched: bool) -> bool
+    ensures { λ r. ⌜ r ≡ joinedBy (now (table .entry)) before matched ⌝ }
+{
+    table[before as usize * 2 + matched as usize]
+}
+
 // Whether matched places are lost.
 fn loses(behavior: SplitDelimiterBehavior) -> bool
     ensures { λ r. ⌜ r ≡ loses behavior ⌝ }
@@ -77,11 +96,11 @@ fn goes(empty: EmptyPieces, run: Place) -> bool
     }
 }
 
-// The run behind the next place: drawn out to it, or begun with it.
-fn onward(behavior: SplitDelimiterBehavior, run: Place, place: Place) -> Place
-    ensures { λ r. ⌜ r ≡ onward behavior run place ⌝ }
+// The run behind the next place: drawn out to it where that belongs to it, else begun with it.
+fn onward(joined: bool, run: Place, place: Place) -> Place
+    ensures { λ r. ⌜ r ≡ onwardIf joined run place ⌝ }
 {
-    if joins(behavior, run.matched, place.matched) {
+    if joined {
         let start = run.start;
         let end = place.end;
         return Place {
@@ -98,13 +117,6 @@ fn stays(behavior: SplitDelimiterBehavior, empty: EmptyPieces, run: Place) -> bo
     ensures { λ r. ⌜ r ≡ stays behavior empty run ⌝ }
 {
     !(loses(behavior) & run.matched) & !goes(empty, run)
-}
-
-// Whether a run is over at the next place, and gives a piece.
-fn over(behavior: SplitDelimiterBehavior, empty: EmptyPieces, run: Place, place: Place) -> bool
-    ensures { λ r. ⌜ r ≡ over behavior empty run place ⌝ }
-{
-    !joins(behavior, run.matched, place.matched) & stays(behavior, empty, run)
 }
 
 // The sizes with those of a piece, where there is one.
@@ -137,13 +149,15 @@ pub fn measure(list: &[u8], behavior: SplitDelimiterBehavior, empty: EmptyPieces
         return none;
     };
     let mut sizes = none;
+    let table = join_table(behavior);
     let mut run = first;
     let mut i = second;
     while i < list.len() {
         match entry_at(list, i) {
             Entry::At(place, next) => {
-                sizes = counted(sizes, over(behavior, empty, run, place), run);
-                run = onward(behavior, run, place);
+                let joins = joined(&table, run.matched, place.matched);
+                sizes = counted(sizes, !joins & stays(behavior, empty, run), run);
+                run = onward(joins, run, place);
                 i = next;
             }
             Entry::Broken => break,
@@ -183,14 +197,16 @@ pub fn write_spans(
     let Entry::At(first, second) = entry_at(list, 0) else {
         return 0;
     };
+    let table = join_table(behavior);
     let mut run = first;
     let mut i = second;
     let mut at = 0;
     while i < list.len() {
         match entry_at(list, i) {
             Entry::At(place, next) => {
-                at = write_run(over(behavior, empty, run, place), run, starts, ends, at);
-                run = onward(behavior, run, place);
+                let joins = joined(&table, run.matched, place.matched);
+                at = write_run(!joins & stays(behavior, empty, run), run, starts, ends, at);
+                run = onward(joins, run, place);
                 i = next;
             }
             Entry::Broken => break,

@@ -1,8 +1,9 @@
 // The pieces of a list as `write_spans` has them, into columns of 32 bits.
 use crate::EmptyPieces;
 use crate::SplitDelimiterBehavior;
+use crate::join_table;
+use crate::joined;
 use crate::onward;
-use crate::over;
 use crate::stays;
 use pattern::Entry;
 use pattern::Place;
@@ -41,14 +42,16 @@ pub fn write_spans(
     let Entry::At(first, second) = entry_at(list, 0) else {
         return 0;
     };
+    let table = join_table(behavior);
     let mut run = first;
     let mut i = second;
     let mut at = 0;
     while i < list.len() {
         match entry_at(list, i) {
             Entry::At(place, next) => {
-                at = write_run(over(behavior, empty, run, place), run, starts, ends, at);
-                run = onward(behavior, run, place);
+                let joins = joined(&table, run.matched, place.matched);
+                at = write_run(!joins & stays(behavior, empty, run), run, starts, ends, at);
+                run = onward(joins, run, place);
                 i = next;
             }
             Entry::Broken => break,

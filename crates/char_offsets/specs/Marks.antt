@@ -1,13 +1,9 @@
 -- Working forms: the marks of a text, the index of every 16th byte.
-use Prim.Native.Nat.{ℕ, _+_, _*_, _≤_, _<_}
+use Prim.Native.Nat.{ℕ, _*_, _≤_, _<_}
 use mathlib.Core.Path.{_≡_}
-use mathlib.Core.List.{List, _++_}
-use lib.ListN.{length, getD, replicate}
+use mathlib.Core.List.{List}
+use lib.ListN.{length, getD}
 use Rattle.char_offsets.specs.Positions.{indexOf}
-
--- 16 ones, then 16 zeros
-unfoldable pub ladder16 : List ℕ
-ladder16 = replicate 16 1 ++ replicate 16 0
 
 -- the mark of every 16th byte stands in front
 pub record Marked (s marks : List ℕ) : Type 0 where
@@ -15,14 +11,12 @@ pub record Marked (s marks : List ℕ) : Type 0 where
   pub marked : (k : ℕ) → 16 * k < length s → getD marks k 0 ≡ indexOf s (16 * k)
 
 -- a text within a limit, and room for its marks
-pub record Markable (most : ℕ) (s lent marks : List ℕ) : Type 0 where
+pub record Markable (most : ℕ) (s marks : List ℕ) : Type 0 where
   pub short : length s ≤ most
   pub room : length s ≤ 16 * length marks
   pub some : 1 ≤ length marks
-  pub ladder-is : lent ≡ ladder16
 
 -- what a look-up is lent
-pub record MarksLent (most : ℕ) (s marks lent : List ℕ) : Type 0 where
+pub record MarksLent (most : ℕ) (s marks : List ℕ) : Type 0 where
   pub short : length s ≤ most
   pub marks-are : Marked s marks
-  pub ladder-is : lent ≡ ladder16

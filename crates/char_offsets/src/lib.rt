@@ -9,7 +9,6 @@ use checks::check_text;
 use checks::least_room;
 use marks::blank_marks;
 use marks::index_at;
-use marks::ladder;
 use marks::write_marks;
 use note::CharIndex;
 use note::OriginalByte;
@@ -17,14 +16,17 @@ use note::Refusal;
 use note::Verdict;
 use note::answers::earlier;
 use note::answers::refused_if;
+use utf8::continues;
 use utf8::count::count_leads;
 ghost use mathlib.Core.Path.{_≡_};
 ghost use Prim.Native.Nat.{_≤_, _<_};
 ghost use lib.ListN.{length};
+ghost use Rattle.buffers.specs.Splice.{part};
+ghost use Rattle.utf8.specs.Letters.{leads};
 ghost use Rattle.note.specs.Notes.{limit};
 ghost use Rattle.char_offsets.specs.Positions.{charOffsets, CharOffsetsList, indexOf};
 ghost use Rattle.char_offsets.specs.Marks.{MarksLent};
-ghost use Rattle.char_offsets.specs.Steps.{EndTold, IndexKnown, PairRoom, PairsWritten, PairTold};
+ghost use Rattle.char_offsets.specs.Steps.{EndTold, IndexKnown, Near, PairRoom, PairsWritten, PairTold};
 
 // What converting a pair answers.
 pub enum CharOffsets {
@@ -43,6 +45,40 @@ pub fn index_from(text: &[u8], at: usize, index: u32, to: usize) -> u32
         return index + count_leads(&text[at + 1..to + 1]) as u32;
     }
     index - count_leads(&text[to + 1..at + 1]) as u32
+}
+
+// How many of the bytes from..to begin a character, of which there are at most 16: a block of 16 is looked at, so that
+// no loop's number of turns is how many there are. Whether the byte j is one of the first n is a quotient, 1 or 0:
+// compared instead, eight bytes would be spent on each.
+pub fn near_leads(text: &[u8], from: usize, to: usize) -> u8
+    requires { ⌜ Near (now text) from to ⌝ }
+    ensures { λ r. ⌜ r ≡ leads (part (now (text .entry)) from to) ⌝ }
+{
+    let n = (to - from) as u8;
+    let mut count: u8 = 0;
+    let mut j: u8 = 0;
+    while j < 16 {
+        let begins = !continues(text[from + j as usize]);
+        count += begins as u8 * ((n + (15 - j)) / 16);
+        j += 1;
+    }
+    count
+}
+
+// The same as `index_from`, for a byte that is most often near behind.
+pub fn index_near(text: &[u8], at: usize, index: u32, to: usize) -> u32
+    requires { ⌜ IndexKnown limit (now text) at index ⌝ }
+    requires { ⌜ to < length (now text) ⌝ }
+    ensures { λ r. ⌜ r ≡ indexOf (now (text .entry)) to ⌝ }
+{
+    if at <= to {
+        if to - at <= 16 {
+            if at + 17 <= text.len() {
+                return index + near_leads(text, at + 1, to + 1) as u32;
+            }
+        }
+    }
+    index_from(text, at, index, to)
 }
 
 // The byte by which a pair's end is told, and how much is added to its index.
@@ -79,8 +115,8 @@ pub struct Pair {
 }
 
 // One pair of a text whose marks are lent.
-fn convert_pair(text: &[u8], marks: &[Offset], ladder: &[u8], start: u32, end: u32) -> Pair
-    requires { ⌜ MarksLent limit (now text) (now marks) (now ladder) ⌝ }
+fn convert_pair(text: &[u8], marks: &[Offset], start: u32, end: u32) -> Pair
+    requires { ⌜ MarksLent limit (now text) (now marks) ⌝ }
     ensures { λ r. ⌜ PairTold (now (text .entry)) start end r ⌝ }
 {
     let from = start as usize;
@@ -93,8 +129,8 @@ fn convert_pair(text: &[u8], marks: &[Offset], ladder: &[u8], start: u32, end: u
     }
     let last = end_byte(text.len(), from, end as usize);
     let to = last.byte;
-    let first = index_at(text, marks, ladder, from);
-    let past = index_at(text, marks, ladder, to);
+    let first = index_at(text, marks, from);
+    let past = index_at(text, marks, to);
     Pair {
         number: 0,
         start: first,
@@ -106,14 +142,13 @@ fn convert_pair(text: &[u8], marks: &[Offset], ladder: &[u8], start: u32, end: u
 fn write_pairs(
     text: &[u8],
     marks: &[Offset],
-    ladder: &[u8],
     starts: &[u32],
     ends: &[u32],
     numbers: &mut [u8],
     char_starts: &mut [u32],
     char_ends: &mut [u32],
 )
-    requires { ⌜ MarksLent limit (now text) (now marks) (now ladder) ⌝ }
+    requires { ⌜ MarksLent limit (now text) (now marks) ⌝ }
     requires { ⌜ PairRoom (now starts) (now ends) (now numbers) (now «char_starts») (now «char_ends») ⌝ }
     ensures { λ _. ⌜ PairsWritten (now (text .entry)) (now (starts .entry)) (now (ends .entry))
         (now (numbers .entry)) (now («char_starts» .entry)) (now («char_ends» .entry))
@@ -121,7 +156,7 @@ fn write_pairs(
 {
     let mut i = 0;
     while i < starts.len() {
-        let pair = convert_pair(text, marks, ladder, starts[i], ends[i]);
+        let pair = convert_pair(text, marks, starts[i], ends[i]);
         numbers[i] = pair.number;
         char_starts[i] = pair.start;
         char_ends[i] = pair.end;
@@ -144,19 +179,9 @@ fn mark_and_write(
         (now (numbers .entry)) (now («char_starts» .entry)) (now («char_ends» .entry))
         (now (numbers .exit)) (now («char_starts» .exit)) (now («char_ends» .exit)) ⌝ }
 {
-    let ladder = ladder();
     let mut marks = blank_marks();
-    write_marks(text, &ladder, &mut marks);
-    write_pairs(
-        text,
-        &marks,
-        &ladder,
-        starts,
-        ends,
-        numbers,
-        char_starts,
-        char_ends,
-    );
+    write_marks(text, &mut marks);
+    write_pairs(text, &marks, starts, ends, numbers, char_starts, char_ends);
 }
 
 // A pair of bytes of the text as a pair of its characters. Refusals: those of a text, then `Missing`.

@@ -1,5 +1,5 @@
 -- Laws of `entryAt`, `placesOf` and `whole`: a list is read entry by entry, and nobody needs to know how long one is.
-use Prim.Native.Nat.{ℕ, zero, suc, _+_, _-_, _≤_, _<_}
+use Prim.Native.Nat.{ℕ, zero, suc, _+_, _-_, _*_, _/_, _≤_, _<_}
 use mathlib.Core.Path.{_≡_, _∙_, ap, refl, sym}
 use mathlib.Core.Bool.{Bool, true, false, cond, _&&_, _||_, or-true}
 use mathlib.Mathlib.Data.Bool.Basic.{and-elim-right}
@@ -123,3 +123,17 @@ entry-broken l {i} h is at =
 pub entries-end : (l : List ℕ) {i : ℕ} → length l ≤ i → (placesOf (drop i l) ≡ []) × (whole (drop i l) ≡ true)
 unfolding placesFrom placesOf wholeFrom whole
 entries-end l h = (rw (drop-of-length-le l h), rw (drop-of-length-le l h))
+
+-- each place has five bytes
+places-few : (k : ℕ) (l : List ℕ) → 5 * length (placesFrom k l) ≤ length l - k
+unfolding placesFrom entryAt
+places-few k [] = omega arith
+places-few zero (x ∷ l) =
+    true-or-false (test (x ∷ l) 0)
+    (λ t. rw t (omega (arith, places-few 4 l, leb-true 5 (length (x ∷ l)) (and-elim-right (eqb x 11 || eqb x 12) _ t))))
+    (λ f. rw f (omega arith))
+places-few (suc k) (x ∷ l) = omega (arith, places-few k l)
+
+pub places-most : (l : List ℕ) → length (placesOf l) ≤ length l / 5
+unfolding placesOf
+places-most l = omega (arith, places-few 0 l)

@@ -8,7 +8,7 @@ use utf8::is_char_boundary;
 ghost use mathlib.Core.Path.{_≡_};
 ghost use Prim.Native.Nat.{_+_, _≤_};
 ghost use lib.ListN.{length};
-ghost use Rattle.pattern.specs.Entries.{entryAt, positionAt};
+ghost use Rattle.pattern.specs.Entries.{entryAt, placesOf, positionAt};
 ghost use Rattle.pattern.specs.Places.{covers, fitsAt};
 
 // A place of the cleaned text, and whether the pattern matched there (Rust: `(Offsets, bool)`).
@@ -63,6 +63,13 @@ pub fn entry_at(list: &[u8], i: usize) -> Entry
         },
         i + 5,
     )
+}
+
+// As many places as a list can have at most.
+pub fn most_places(list: &[u8]) -> usize
+    ensures { λ r. ⌜ length (placesOf (now (list .entry))) ≤ r ⌝ }
+{
+    list.len() / 5
 }
 
 // Whether a place can stand behind one that ended at `at`.

@@ -1,10 +1,11 @@
 -- Laws of `cut`: a piece's slice by its two cleaned numbers, and the six columns of the pieces by theirs.
-use Prim.Native.Nat.{ℕ, zero, suc, _-_, _≤_, _<_}
+use Prim.Native.Nat.{ℕ, zero, suc, _+_, _-_, _≤_, _<_}
 use mathlib.Core.Path.{_≡_, _∙_, ap, refl, sym}
 use mathlib.Core.Bool.{true}
 use mathlib.Core.List.{List, [], _∷_, map, flatMap}
 use native.Mathlib.Omega.{arith}
 use lib.ListN.{length, getD, length-append, length-map}
+use borrow.Author.Tests.{eqb-true}
 use Rattle.buffers.specs.Splice.{part}
 use Rattle.buffers.proofs.Cases.{true-or-false, le-or-lt}
 use Rattle.buffers.proofs.Splice.{length-part}
@@ -27,6 +28,7 @@ use Rattle.behaviors.specs.Joining.{startsOf, endsOf}
 use Rattle.behaviors.specs.Runs.{bytesOf}
 use Rattle.behaviors.proofs.Gathered.{splits-cover}
 use Rattle.split.specs.Splitting.{pieceOf, transcriptLength, cut}
+use Rattle.split.specs.PieceSlices.{bytesBefore}
 use Rattle.split.specs.Writing.{fromStart, toEnd, shiftOf, lengthOf, columnOf, joined, Inside, Spans}
 use Rattle.split.proofs.Joined.{start-empty, start-read, end-empty, end-read}
 
@@ -48,7 +50,7 @@ module _ (n : Note) (sound : Sound n) (a b : ℕ) (i : Inside (length (n .normal
   unfolding sliced
   sliced-as = rw (in-original, normalized-own (n .starts) (n .ends) a b)
 
-  -- its transcript starts before it ends, and at or before each of its alignments
+  -- its transcript starts before it ends and, where it has a byte, at or before each alignment from there on
   pub in-order : fromStart (n .starts) a b ≤ toEnd (n .ends) a b
   in-order =
       le-or-lt b a
@@ -59,12 +61,12 @@ module _ (n : Note) (sound : Sound n) (a b : ℕ) (i : Inside (length (n .normal
       let other : a ≡ b → ⊥ = λ e. omega arith in
       omega (arith, start-read (n .starts) a b other, end-read (n .ends) a b other, i .most, inside-at n sound a (omega (arith, i .most)) .0, alignments-on n sound a (b - 1) (omega arith) (omega (arith, i .most)) .1))
 
-  pub starts-above : (k : ℕ) → a ≤ k → k < b → fromStart (n .starts) a b ≤ startAt n k
-  starts-above k from to =
-      omega (arith, start-read (n .starts) a b (λ e. omega arith), alignments-on n sound a k from (omega (arith, i .most)) .0)
+  pub starts-above : a < b → (k : ℕ) → a ≤ k → k < length (n .normalized) → fromStart (n .starts) a b ≤ startAt n k
+  starts-above some k from to =
+      omega (arith, start-read (n .starts) a b (λ e. omega arith), alignments-on n sound a k from to .0)
 
-  pub ends-above : (k : ℕ) → a ≤ k → k < b → fromStart (n .starts) a b ≤ endAt n k
-  ends-above k from to = omega (arith, starts-above k from to, inside-at n sound k (omega (arith, i .most)) .0)
+  pub ends-above : a < b → (k : ℕ) → a ≤ k → k < length (n .normalized) → fromStart (n .starts) a b ≤ endAt n k
+  ends-above some k from to = omega (arith, starts-above some k from to, inside-at n sound k to .0)
 
 -- pairs of a list of pieces
 pub spans-first : {size a b : ℕ} {from to : List ℕ} → Spans size (a ∷ from) (b ∷ to) → Inside size a b
@@ -93,6 +95,27 @@ remaining-spans text at e (p ∷ ps) c =
 pub pieces-spans : (text : List ℕ) (b : SplitDelimiterBehavior) (e : EmptyPieces) (ps : List Place) → coversFrom text 0 ps ≡ true → Spans (length text) (startsOf (pieces b e ps)) (endsOf (pieces b e ps))
 unfolding pieces
 pieces-spans text b e ps c = remaining-spans text 0 e (splits b ps) (splits-cover text 0 b ps c)
+
+-- pieces have no more bytes than the text
+remaining-short : (text : List ℕ) (at : ℕ) (e : EmptyPieces) (ps : List Place) → coversFrom text at ps ≡ true → at + bytesOf (remaining e ps) ≤ length text
+unfolding remaining bytesOf coversFrom
+remaining-short text at e [] c = omega (arith, eqb-true at (length text) c)
+remaining-short text at e (p ∷ ps) c =
+    let span : Span text at p = covers-span text at p ps c in
+    let more = remaining-short text (p .end .0) e ps (covers-rest text at p ps c) in
+    true-or-false (isPiece e p)
+    (λ t. rw t (omega (arith, span .from, span .onward, more)))
+    (λ f. rw f (omega (arith, span .from, span .onward, more)))
+
+pub pieces-short : (text : List ℕ) (b : SplitDelimiterBehavior) (e : EmptyPieces) (ps : List Place) → coversFrom text 0 ps ≡ true → bytesOf (pieces b e ps) ≤ length text
+unfolding pieces
+pieces-short text b e ps c = omega (arith, remaining-short text 0 e (splits b ps) (splits-cover text 0 b ps c))
+
+-- counted by their starts and ends
+pub bytes-counted : (ps : List Place) → bytesBefore (startsOf ps) (endsOf ps) (length ps) ≡ bytesOf ps
+unfolding bytesBefore bytesOf
+bytes-counted [] = refl
+bytes-counted (p ∷ ps) = ap (_+_ (p .end .0 - p .start .0)) (bytes-counted ps)
 
 -- THE COLUMNS
 module _ (n : Note) (sound : Sound n) where

@@ -6,7 +6,6 @@ use mathlib.Core.List.{List}
 use native.Mathlib.Omega.{arith}
 use lib.ListN.{length, take, length-map}
 use borrow.Author.Tests.{not-true, not-false, le-leb, lt-leb}
-use Rattle.buffers.specs.Splice.{overlay}
 use Rattle.buffers.proofs.Splice.{take-overlay, overlay-long}
 use Rattle.note.specs.declared.Refusal.{Refusal}
 use Rattle.note.specs.declared.Refusal.the-variants.{BadMatches, NoRoom}
@@ -28,11 +27,13 @@ use Rattle.behaviors.specs.declared.EmptyPieces.{EmptyPieces}
 use Rattle.behaviors.specs.declared.Sizes.{Sizes}
 use Rattle.behaviors.specs.Joining.{startsOf, endsOf}
 use Rattle.behaviors.specs.Runs.{bytesOf, sizesWith, listPieces, Listed, SpansRoom, SpansLaid}
+use Rattle.behaviors.proofs.Runs.{pieces-few}
 use Rattle.split.specs.declared.Pieces.{Pieces}
 use Rattle.split.specs.declared.Pieces.the-variants.{Cut, Refused}
 use Rattle.split.specs.Splitting.{Columns, cutBy, splitFaults, cutUnlessRefused, pieceRoom, alignmentRoom, Splitting}
-use Rattle.split.specs.Writing.{shiftOf, lengthOf, columnOf, joined, Spans, ShiftsRoom, LengthsRoom, ColumnRoom, CutInto}
-use Rattle.split.proofs.Cuts.{pieces-spans, in-order, starts-above, ends-above, shifts-are, lengths-are, alignment-starts-are, alignment-ends-are, starts-long, ends-long, alignments-long, starts-are, ends-are, pieces-long}
+use Rattle.split.specs.PieceSlices.{bytesBefore}
+use Rattle.split.specs.Writing.{Spans, ColumnsRoom, ColumnsLaid, Countable, CutInto}
+use Rattle.split.proofs.Cuts.{pieces-spans, pieces-short, bytes-counted, in-order, starts-above, ends-above, shifts-are, lengths-are, alignment-starts-are, alignment-ends-are, starts-long, ends-long, alignments-long, starts-are, ends-are, pieces-long}
 
 -- the list, then the two rooms
 module _ (text list : List ℕ) (pieces alignments forPieces forAlignments : ℕ) where
@@ -70,17 +71,17 @@ module _ (most : ℕ) (n : Note) (list : List ℕ) (b : SplitDelimiterBehavior) 
   abbrev listed : Refusal → Bool
   listed = results (n .normalized) list (length (cutBy n list b e .starts)) (length (cutBy n list b e .alignment-starts)) forPieces forAlignments
 
-  abbrev said : Pieces
-  said = cutUnlessRefused (verdict (splitFaults most n list b e forPieces forAlignments)) (cutBy n list b e)
+  abbrev said : Verdict
+  said = verdict (splitFaults most n list b e forPieces forAlignments)
 
-  pub note-refused : {k : Refusal} → v ≡ Rejected k → Refused k ≡ said
-  note-refused is = ap (λ (u : Verdict). cutUnlessRefused u (cutBy n list b e)) (refused-then 4 (noteFaults most n) listed refl refl noted is)
+  pub note-refused : {k : Refusal} → v ≡ Rejected k → Rejected k ≡ said
+  note-refused is = refused-then 4 (noteFaults most n) listed refl refl noted is
 
   module _ (ok : v ≡ Accepted) {t : Bool} (covering : t ≡ covers (n .normalized) list) where
-    by-list : (u : Verdict) → u ≡ verdict listed → cutUnlessRefused u (cutBy n list b e) ≡ said
-    by-list u w = ap (λ (x : Verdict). cutUnlessRefused x (cutBy n list b e)) (accepted-then 4 (noteFaults most n) listed refl refl noted ok w)
+    by-list : (u : Verdict) → u ≡ verdict listed → u ≡ said
+    by-list u w = accepted-then 4 (noteFaults most n) listed refl refl noted ok w
 
-    pub list-refused : not t ≡ true → Refused BadMatches ≡ said
+    pub list-refused : not t ≡ true → Rejected BadMatches ≡ said
     list-refused is = by-list (Rejected BadMatches) (bad-list (n .normalized) list _ _ forPieces forAlignments (sym covering ∙ not-true t is))
 
     module _ (is : not t ≡ false) where
@@ -89,6 +90,16 @@ module _ (most : ℕ) (n : Note) (list : List ℕ) (b : SplitDelimiterBehavior) 
 
       sound : Sound n
       sound = accepted-sound most n (sym noted ∙ ok) .0
+
+      bytes-long : length (cutBy n list b e .alignment-starts) ≡ bytesOf (listPieces b e list)
+      bytes-long = alignments-long n sound (listPieces b e list) (pieces-spans (n .normalized) b e (placesOf list) (covers-places (n .normalized) list covers-it))
+
+      -- as many pieces as places, and no more bytes than the text has
+      pub roomy-accepted : {places : ℕ} → length (placesOf list) ≤ places → places ≤ forPieces → length (n .normalized) ≤ forAlignments → Accepted ≡ said
+      roomy-accepted few fits short =
+          by-list Accepted
+          (good-rooms (n .normalized) list _ _ forPieces forAlignments covers-it (omega (arith, pieces-long n (listPieces b e list), pieces-few b e (placesOf list)))
+          (omega (arith, bytes-long, pieces-short (n .normalized) b e (placesOf list) (covers-places (n .normalized) list covers-it))))
 
       module _ {s : Sizes} (sizes : s ≡ sizesWith (record { pieces = 0; bytes = 0 }) (listPieces b e list)) where
         count-is : s .pieces ≡ length (cutBy n list b e .starts)
@@ -101,20 +112,18 @@ module _ (most : ℕ) (n : Note) (list : List ℕ) (b : SplitDelimiterBehavior) 
         unfolding sizesWith
         bytes-are =
             let z : s .bytes ≡ 0 + bytesOf (listPieces b e list) = ap (λ (x : Sizes). x .bytes) sizes in
-            let spans = pieces-spans (n .normalized) b e (placesOf list) (covers-places (n .normalized) list covers-it) in
-            omega (arith, z, alignments-long n sound (listPieces b e list) spans)
+            omega (arith, z, bytes-long)
 
-        pub no-piece-room : forPieces < s .pieces → Refused NoRoom ≡ said
+        pub no-piece-room : forPieces < s .pieces → Rejected NoRoom ≡ said
         no-piece-room h = by-list (Rejected NoRoom) (bad-pieces (n .normalized) list _ _ forPieces forAlignments covers-it (omega (arith, count-is)))
 
-        pub no-alignment-room : s .pieces ≤ forPieces → forAlignments < s .bytes → Refused NoRoom ≡ said
+        pub no-alignment-room : s .pieces ≤ forPieces → forAlignments < s .bytes → Rejected NoRoom ≡ said
         no-alignment-room fits h =
             by-list (Rejected NoRoom) (bad-alignments (n .normalized) list _ _ forPieces forAlignments covers-it (omega (arith, count-is)) (omega (arith, bytes-are)))
 
-        pub all-accepted : s .pieces ≤ forPieces → s .bytes ≤ forAlignments → Cut (s .pieces) (s .bytes) ≡ said
+        pub all-accepted : s .pieces ≤ forPieces → s .bytes ≤ forAlignments → Accepted ≡ said
         all-accepted fits short =
-            (λ i. Cut (count-is i) (bytes-are i))
-            ∙ by-list Accepted (good-rooms (n .normalized) list _ _ forPieces forAlignments covers-it (omega (arith, count-is)) (omega (arith, bytes-are)))
+            by-list Accepted (good-rooms (n .normalized) list _ _ forPieces forAlignments covers-it (omega (arith, count-is)) (omega (arith, bytes-are)))
 
 -- AN ACCEPTED CALL
 module _ (most : ℕ) (n : Note) (list : List ℕ) (b : SplitDelimiterBehavior) (e : EmptyPieces) (forPieces forAlignments : ℕ) (ok : verdict (splitFaults most n list b e forPieces forAlignments) ≡ Accepted) where
@@ -198,60 +207,65 @@ module _ (most : ℕ) (n : Note) (list : List ℕ) (b : SplitDelimiterBehavior) 
     spans-of : Spans (length (n .starts)) (startsOf ps) (endsOf ps)
     spans-of = rw (length-starts n good) inside
 
-    pub shifts-room : ShiftsRoom most (n .starts) (take count starts) (take count ends) (n .original-shift) (c .shifts)
-    shifts-room =
+    pub countable : Countable most (take count starts) (take count ends)
+    countable =
         rw (from-is, to-is)
         (record {
-          spans = spans-of;
-          low = cut-short most n list b e (pieceRoom c) (alignmentRoom c) ok .shift-low;
-          room = omega (arith, fit, starts-count, l .reach);
+          paired = inside .paired;
+          forward = λ k h. inside .each k h .forward;
+          few = rw (length-map ps (λ (p : Place). p .start .0)) (omega (arith, bytes-counted ps, pieces-short (n .normalized) b e (placesOf list) (cut-covered most n list b e (pieceRoom c) (alignmentRoom c) ok), cut-short most n list b e (pieceRoom c) (alignmentRoom c) ok .normalized-short));
         })
 
-    pub lengths-room : LengthsRoom (n .starts) (n .ends) (take count starts) (take count ends) (c .lengths)
-    lengths-room =
-        rw (from-is, to-is)
-        (record {
-          spans = spans-of;
-          one-end = length-ends n good ∙ sym (length-starts n good);
-          ordered = λ k h. in-order n good _ _ (inside .each k h);
-          room = omega (arith, fit, starts-count, l .reach);
-        })
+    module _ {alignments : ℕ} (total : alignments ≡ bytesBefore (take count starts) (take count ends) (length (take count starts))) where
+      total-is : alignments ≡ bytesOf ps
+      total-is = total ∙ rw (from-is, to-is, length-map ps (λ (p : Place). p .start .0)) (bytes-counted ps)
 
-    pub starts-room : ColumnRoom (n .starts) (n .starts) (take count starts) (take count ends) (c .alignment-starts)
-    starts-room =
-        rw (from-is, to-is)
-        (record {
-          spans = spans-of;
-          one-each = refl;
-          above = λ k i h low high. starts-above n good _ _ (inside .each k h) i low high;
-          room = omega (arith, long, starts-long n good ps inside);
-        })
+      pub columns-room : ColumnsRoom most (n .starts) (n .ends) (take count starts) (take count ends) (n .original-shift) alignments (c .shifts) (c .lengths) (c .alignment-starts) (c .alignment-ends)
+      columns-room =
+          rw (from-is, to-is)
+          (record {
+            shifts-room = record {
+              spans = spans-of;
+              low = cut-short most n list b e (pieceRoom c) (alignmentRoom c) ok .shift-low;
+              room = omega (arith, fit, starts-count, l .reach);
+            };
+            lengths-room = record {
+              spans = spans-of;
+              one-end = length-ends n good ∙ sym (length-starts n good);
+              ordered = λ k h. in-order n good _ _ (inside .each k h);
+              room = omega (arith, fit, starts-count, l .reach);
+            };
+            starts-room = record {
+              spans = spans-of;
+              one-each = refl;
+              above = λ k i h some low high. starts-above n good _ _ (inside .each k h) some i low (omega (arith, length-starts n good));
+              below = omega (arith, total-is, starts-long n good ps inside);
+              room = omega (arith, long, starts-long n good ps inside);
+            };
+            ends-room = record {
+              spans = spans-of;
+              one-each = length-ends n good ∙ sym (length-starts n good);
+              above = λ k i h some low high. ends-above n good _ _ (inside .each k h) some i low (omega (arith, length-ends n good));
+              below = omega (arith, total-is, ends-long n good ps inside);
+              room = omega (arith, long, ends-long n good ps inside);
+            };
+          })
 
-    pub ends-room : ColumnRoom (n .starts) (n .ends) (take count starts) (take count ends) (c .alignment-ends)
-    ends-room =
-        rw (from-is, to-is)
-        (record {
-          spans = spans-of;
-          one-each = length-ends n good ∙ sym (length-starts n good);
-          above = λ k i h low high. ends-above n good _ _ (inside .each k h) i low high;
-          room = omega (arith, long, ends-long n good ps inside);
-        })
-
-    pub all-cut : {shifts lengths alignmentStarts alignmentEnds : List ℕ}
-        → shifts ≡ overlay (joined (shiftOf (n .starts) (n .original-shift)) (take count starts) (take count ends)) (c .shifts)
-        → lengths ≡ overlay (joined (lengthOf (n .starts) (n .ends)) (take count starts) (take count ends)) (c .lengths)
-        → alignmentStarts ≡ overlay (joined (columnOf (n .starts) (n .starts)) (take count starts) (take count ends)) (c .alignment-starts)
-        → alignmentEnds ≡ overlay (joined (columnOf (n .starts) (n .ends)) (take count starts) (take count ends)) (c .alignment-ends)
-        → CutInto n list b e c (record { starts = starts; ends = ends; shifts = shifts; lengths = lengths; alignment-starts = alignmentStarts; alignment-ends = alignmentEnds })
-    all-cut s z a o =
-        record {
-          starts-are = l .starts-are ∙ rw (starts-are n ps);
-          ends-are = l .ends-are ∙ rw (ends-are n ps);
-          shifts-are = s ∙ rw (from-is, to-is, shifts-are n good ps inside);
-          lengths-are = z ∙ rw (from-is, to-is, lengths-are n good ps inside);
-          alignment-starts-are = a ∙ rw (from-is, to-is, alignment-starts-are n good ps inside);
-          alignment-ends-are = o ∙ rw (from-is, to-is, alignment-ends-are n good ps inside);
-        }
+      pub all-cut : {shifts lengths alignmentStarts alignmentEnds : List ℕ}
+          → ColumnsLaid (n .starts) (n .ends) (take count starts) (take count ends) (n .original-shift) (c .shifts) (c .lengths) (c .alignment-starts) (c .alignment-ends) shifts lengths alignmentStarts alignmentEnds
+          → CutInto n list b e c (Cut count alignments) (record { starts = starts; ends = ends; shifts = shifts; lengths = lengths; alignment-starts = alignmentStarts; alignment-ends = alignmentEnds })
+      all-cut w =
+          let counts : count ≡ length (cutBy n list b e .starts) = l .reach ∙ sym (pieces-long n ps) in
+          let bytes : alignments ≡ length (cutBy n list b e .alignment-starts) = total-is ∙ sym (alignments-long n good ps inside) in
+          record {
+            answer = λ i. Cut (counts i) (bytes i);
+            starts-are = l .starts-are ∙ rw (starts-are n ps);
+            ends-are = l .ends-are ∙ rw (ends-are n ps);
+            shifts-are = w .shifts-are ∙ rw (from-is, to-is, shifts-are n good ps inside);
+            lengths-are = w .lengths-are ∙ rw (from-is, to-is, lengths-are n good ps inside);
+            alignment-starts-are = w .starts-are ∙ rw (from-is, to-is, alignment-starts-are n good ps inside);
+            alignment-ends-are = w .ends-are ∙ rw (from-is, to-is, alignment-ends-are n good ps inside);
+          }
 
 -- THE CALL
 pub cut-told : (v : Verdict) (c : Columns) {x y : ℕ} → Cut x y ≡ cutUnlessRefused v c → v ≡ Accepted
@@ -261,21 +275,17 @@ cut-told (Rejected k) c e = let z : _≡_ {A = ℕ} 0 1 = cc in absurd (omega ar
 pub count-told : {v : Verdict} (c : Columns) {x y : ℕ} → v ≡ Accepted → Cut x y ≡ cutUnlessRefused v c → x ≡ length (c .starts)
 count-told c {x = x} {y = y} a e = let z : Cut x y ≡ Cut (length (c .starts)) (length (c .alignment-starts)) = rw a at e in cc
 
-refused-told : (v : Verdict) (c : Columns) {k : Refusal} → Refused k ≡ cutUnlessRefused v c → v ≡ Rejected k
-refused-told Accepted c e = let z : _≡_ {A = ℕ} 0 1 = cc in absurd (omega arith)
-refused-told (Rejected j) c e = cc
-
-module _ (most : ℕ) (n : Note) (list : List ℕ) (b : SplitDelimiterBehavior) (e : EmptyPieces) (c : Columns) {r : Pieces} {spans numbers forPieces forAlignments : ℕ}
+module _ (most : ℕ) (n : Note) (list : List ℕ) (b : SplitDelimiterBehavior) (e : EmptyPieces) (c : Columns) {v : Verdict} {spans numbers forPieces forAlignments : ℕ}
     (first : spans ≡ min (length (c .starts)) (length (c .ends))) (second : numbers ≡ min (length (c .shifts)) (length (c .lengths))) (third : forPieces ≡ min spans numbers) (fourth : forAlignments ≡ alignmentRoom c)
-    (says : r ≡ cutUnlessRefused (verdict (splitFaults most n list b e forPieces forAlignments)) (cutBy n list b e)) where
-  whole : r ≡ cutUnlessRefused (verdict (splitFaults most n list b e (pieceRoom c) (alignmentRoom c))) (cutBy n list b e)
+    (says : v ≡ verdict (splitFaults most n list b e forPieces forAlignments)) where
+  whole : v ≡ verdict (splitFaults most n list b e (pieceRoom c) (alignmentRoom c))
   whole = says ∙ rw (third, first, second, fourth)
 
-  pub split-refused : {k : Refusal} → r ≡ Refused k → Splitting most n list b e c (Refused k) c
+  pub split-refused : {k : Refusal} → v ≡ Rejected k → Splitting most n list b e c (Refused k) c
   split-refused {k} is =
       record {
         says = Rejected k;
-        says-is = sym (refused-told _ _ (sym is ∙ whole));
+        says-is = sym is ∙ whole;
         answer = refl;
         starts-are = refl;
         ends-are = refl;
@@ -285,16 +295,16 @@ module _ (most : ℕ) (n : Note) (list : List ℕ) (b : SplitDelimiterBehavior) 
         alignment-ends-are = refl;
       }
 
-  module _ {x y : ℕ} (is : r ≡ Cut x y) where
+  module _ (is : v ≡ Accepted) where
     pub split-accepted : verdict (splitFaults most n list b e (pieceRoom c) (alignmentRoom c)) ≡ Accepted
-    split-accepted = cut-told _ _ (sym is ∙ whole)
+    split-accepted = sym whole ∙ is
 
-    pub split-cut : {c₁ : Columns} → CutInto n list b e c c₁ → Splitting most n list b e c (Cut x y) c₁
+    pub split-cut : {r : Pieces} {c₁ : Columns} → CutInto n list b e c r c₁ → Splitting most n list b e c r c₁
     split-cut w =
         record {
           says = Accepted;
           says-is = sym split-accepted;
-          answer = sym is ∙ whole ∙ rw split-accepted;
+          answer = w .answer;
           starts-are = w .starts-are;
           ends-are = w .ends-are;
           shifts-are = w .shifts-are;

@@ -6,11 +6,15 @@ use mathlib.Core.List.{List, [], _∷_, _++_}
 use lib.Dec.{eqb}
 use lib.ListN.{length, getD}
 use Rattle.buffers.specs.Splice.{part, overlay}
+use Rattle.buffers.specs.Over.{Source}
+use Rattle.note.specs.declared.Verdict.the-variants.{Accepted}
 use Rattle.note.specs.Notes.{Note}
 use Rattle.slice.specs.Slicing.{lowered}
 use Rattle.behaviors.specs.declared.SplitDelimiterBehavior.{SplitDelimiterBehavior}
 use Rattle.behaviors.specs.declared.EmptyPieces.{EmptyPieces}
-use Rattle.split.specs.Splitting.{Columns, cutBy}
+use Rattle.split.specs.declared.Pieces.{Pieces}
+use Rattle.split.specs.Splitting.{Columns, cutBy, cutUnlessRefused}
+use Rattle.split.specs.PieceSlices.{bytesBefore}
 
 -- where the transcript of the cleaned bytes a..b starts and where it ends; an empty range is its own numbers
 unfoldable pub fromStart : List ℕ → ℕ → ℕ → ℕ
@@ -57,16 +61,56 @@ pub record LengthsRoom (starts ends from to out : List ℕ) : Type 0 where
       → fromStart starts (getD from k 0) (getD to k 0) ≤ toEnd ends (getD from k 0) (getD to k 0)
   pub room : length from ≤ length out
 
-pub record ColumnRoom (starts column from to out : List ℕ) : Type 0 where
+pub record ColumnRoom (starts column from to : List ℕ) (until : ℕ) (out : List ℕ) : Type 0 where
   pub spans : Spans (length starts) from to
   pub one-each : length column ≡ length starts
-  pub above : (k i : ℕ) → k < length from → getD from k 0 ≤ i → i < getD to k 0
+  pub above : (k i : ℕ) → k < length from → getD from k 0 < getD to k 0 → getD from k 0 ≤ i → i < length column
       → fromStart starts (getD from k 0) (getD to k 0) ≤ getD column i 0
+  pub below : until ≤ length (joined (columnOf starts column) from to)
   pub room : length (joined (columnOf starts column) from to) ≤ length out
 
--- the pieces stand in front of the six columns
+-- room for all that pieces give beside their starts and ends, and that stands there
+pub record ColumnsRoom (most : ℕ) (starts ends from to : List ℕ) (shift until : ℕ)
+    (shifts lengths outStarts outEnds : List ℕ) : Type 0 where
+  pub shifts-room : ShiftsRoom most starts from to shift shifts
+  pub lengths-room : LengthsRoom starts ends from to lengths
+  pub starts-room : ColumnRoom starts starts from to until outStarts
+  pub ends-room : ColumnRoom starts ends from to until outEnds
+
+pub record ColumnsLaid (starts ends from to : List ℕ) (shift : ℕ) (shifts₀ lengths₀ outStarts₀ outEnds₀ : List ℕ)
+    (shifts lengths outStarts outEnds : List ℕ) : Type 0 where
+  pub shifts-are : shifts ≡ overlay (joined (shiftOf starts shift) from to) shifts₀
+  pub lengths-are : lengths ≡ overlay (joined (lengthOf starts ends) from to) lengths₀
+  pub starts-are : outStarts ≡ overlay (joined (columnOf starts starts) from to) outStarts₀
+  pub ends-are : outEnds ≡ overlay (joined (columnOf starts ends) from to) outEnds₀
+
+-- pieces whose bytes can be counted
+pub record Countable (most : ℕ) (from to : List ℕ) : Type 0 where
+  pub paired : length from ≡ length to
+  pub forward : (k : ℕ) → k < length from → getD from k 0 ≤ getD to k 0
+  pub few : bytesBefore from to (length from) ≤ most
+
+-- room for a block of a column, and no number of it is below `base`
+pub record BlockRoom (column : List ℕ) (i base : ℕ) (out : List ℕ) (at : ℕ) : Type 0 where
+  pub inside : i + 16 ≤ length column
+  pub room : at + 16 ≤ length out
+  pub above : (j : ℕ) → i ≤ j → j < length column → base ≤ getD column j 0
+
+-- room for a stretch of a column; where it has a number, none from there on is below `base`
+pub record StretchRoom (column : List ℕ) (from to base : ℕ) (out : List ℕ) (at until : ℕ) : Type 0 where
+  pub source : Source column from to out at until
+  pub above : from < to → (j : ℕ) → from ≤ j → j < length column → base ≤ getD column j 0
+
+-- room for a stretch of both columns
+pub record BothRoom (starts ends : List ℕ) (from to base : ℕ) (outStarts outEnds : List ℕ) (at until : ℕ) : Type 0 where
+  pub one-end : length ends ≡ length starts
+  pub starts-room : StretchRoom starts from to base outStarts at until
+  pub ends-room : StretchRoom ends from to base outEnds at until
+
+-- the pieces stand in front of the six columns, and are counted
 pub record CutInto (n : Note) (list : List ℕ) (behavior : SplitDelimiterBehavior) (empty : EmptyPieces)
-    (c₀ c : Columns) : Type 0 where
+    (c₀ : Columns) (r : Pieces) (c : Columns) : Type 0 where
+  pub answer : r ≡ cutUnlessRefused Accepted (cutBy n list behavior empty)
   pub starts-are : c .starts ≡ overlay (cutBy n list behavior empty .starts) (c₀ .starts)
   pub ends-are : c .ends ≡ overlay (cutBy n list behavior empty .ends) (c₀ .ends)
   pub shifts-are : c .shifts ≡ overlay (cutBy n list behavior empty .shifts) (c₀ .shifts)

@@ -5,22 +5,27 @@ use behaviors::SplitDelimiterBehavior;
 use behaviors::measure;
 use behaviors::write_spans;
 use buffers::Offset;
+use buffers::copy_offsets;
 use checks::check_note;
 use checks::least_of_two;
 use note::Refusal;
 use note::Verdict;
 use pattern::covers;
+use pattern::most_places;
 use slice::write_lowered;
 ghost use mathlib.Core.Path.{_≡_};
+ghost use Prim.Native.Nat.{_+_};
 ghost use lib.ListN.{length};
-ghost use Rattle.buffers.specs.Splice.{overlay};
+ghost use Rattle.buffers.specs.Over.{Over};
+ghost use Rattle.buffers.specs.Splice.{part, splice};
 ghost use Rattle.note.specs.declared.Verdict.the-variants.{Accepted};
 ghost use Rattle.note.specs.Notes.{lent, limit};
 ghost use Rattle.note.specs.Refusals.{verdict};
-ghost use Rattle.split.specs.Splitting.{alignmentRoom, columns, cutBy, cutUnlessRefused, pieceRoom, splitFaults};
-ghost use Rattle.split.specs.Splitting.{Splitting};
-ghost use Rattle.split.specs.Writing.{columnOf, fromStart, joined, lengthOf, shiftOf, toEnd};
-ghost use Rattle.split.specs.Writing.{ColumnRoom, CutInto, Inside, LengthsRoom, ShiftsRoom};
+ghost use Rattle.slice.specs.Slicing.{lowered};
+ghost use Rattle.split.specs.PieceSlices.{bytesBefore};
+ghost use Rattle.split.specs.Splitting.{alignmentRoom, columns, pieceRoom, splitFaults, Splitting};
+ghost use Rattle.split.specs.Writing.{BlockRoom, BothRoom, ColumnsLaid, ColumnsRoom, Countable, CutInto};
+ghost use Rattle.split.specs.Writing.{fromStart, Inside, toEnd};
 
 // What `split` says: how many pieces there are, and how many alignments they have; or why there are none.
 pub enum Pieces {
@@ -50,58 +55,97 @@ fn original_end(ends: &[Offset], from: Offset, to: Offset) -> Offset
     ends[to as usize - 1]
 }
 
-// The shift of each piece from..to.
-fn write_shifts(starts: &[Offset], from: &[Offset], to: &[Offset], shift: u32, out: &mut [u32])
-    requires { ⌜ ShiftsRoom limit (now starts) (now from) (now to) shift (now out) ⌝ }
-    ensures { λ _. ⌜ now (out .exit) ≡ overlay (joined (shiftOf (now (starts .entry)) shift)
-        (now (from .entry)) (now (to .entry))) (now (out .entry)) ⌝ }
+// How many bytes the pieces from..to have together.
+fn byte_count(from: &[Offset], to: &[Offset]) -> usize
+    requires { ⌜ Countable limit (now from) (now to) ⌝ }
+    ensures { λ r. ⌜ r ≡ bytesBefore (now (from .entry)) (now (to .entry)) (length (now (from .entry))) ⌝ }
 {
+    let mut sum: u32 = 0;
     let mut k = 0;
     while k < from.len() {
-        out[k] = shift + original_start(starts, from[k], to[k]) as u32;
+        sum += (to[k] - from[k]) as u32;
         k += 1;
     }
+    sum as usize
 }
 
-// The transcript length of each piece from..to.
-fn write_lengths(
+// The 16 numbers of `column` from `i` on, each less `base`, stand in `out` from `at` on: through a local array, so that
+// source and destination are not tested for an overlap.
+fn lower_block(column: &[Offset], i: usize, base: Offset, out: &mut [Offset], at: usize)
+    requires { ⌜ BlockRoom (now column) i base (now out) at ⌝ }
+    ensures { λ _. ⌜ now (out .exit) ≡ splice (now (out .entry)) at
+        (lowered base (part (now (column .entry)) i (i + 16))) ⌝ }
+{
+    let mut block = [0u16; 16];
+    write_lowered(&column[i..i + 16], base, &mut block, 0);
+    copy_offsets(&block, out, at);
+}
+
+// The alignments of the piece from..to, each less `base`, stand in the two columns from `at` on. Those of a short piece
+// are laid as the front of a block, so that no loop's number of turns is its length; what the block has behind them
+// stays below `until`.
+fn lower_piece(
+    starts: &[Offset],
+    ends: &[Offset],
+    from: usize,
+    to: usize,
+    base: Offset,
+    out_starts: &mut [Offset],
+    out_ends: &mut [Offset],
+    at: usize,
+    until: usize,
+)
+    requires { ⌜ BothRoom (now starts) (now ends) from to base (now «out_starts») (now «out_ends») at until ⌝ }
+    ensures { λ _. ⌜ Over (lowered base (part (now (starts .entry)) from to)) (now («out_starts» .entry)) at until
+        (now («out_starts» .exit))
+        × Over (lowered base (part (now (ends .entry)) from to)) (now («out_ends» .entry)) at until
+        (now («out_ends» .exit)) ⌝ }
+{
+    if from < to {
+        if to - from <= 16 {
+            if 16 <= starts.len() - from {
+                if at + 16 <= until {
+                    lower_block(starts, from, base, out_starts, at);
+                    lower_block(ends, from, base, out_ends, at);
+                    return;
+                }
+            }
+        }
+    }
+    write_lowered(&starts[from..to], base, out_starts, at);
+    write_lowered(&ends[from..to], base, out_ends, at);
+}
+
+// For each piece from..to its shift, its transcript's length, and its alignments, each less where its transcript starts.
+// The alignments of all pieces are `until`.
+fn write_columns(
     starts: &[Offset],
     ends: &[Offset],
     from: &[Offset],
     to: &[Offset],
-    out: &mut [Offset],
+    shift: u32,
+    until: usize,
+    shifts: &mut [u32],
+    lengths: &mut [Offset],
+    out_starts: &mut [Offset],
+    out_ends: &mut [Offset],
 )
-    requires { ⌜ LengthsRoom (now starts) (now ends) (now from) (now to) (now out) ⌝ }
-    ensures { λ _. ⌜ now (out .exit) ≡ overlay (joined (lengthOf (now (starts .entry)) (now (ends .entry)))
-        (now (from .entry)) (now (to .entry))) (now (out .entry)) ⌝ }
-{
-    let mut k = 0;
-    while k < from.len() {
-        let end = original_end(ends, from[k], to[k]);
-        out[k] = end - original_start(starts, from[k], to[k]);
-        k += 1;
-    }
-}
-
-// A column of the note's alignments for each piece from..to, less where its transcript starts, end to end.
-fn write_column(
-    starts: &[Offset],
-    column: &[Offset],
-    from: &[Offset],
-    to: &[Offset],
-    out: &mut [Offset],
-)
-    requires { ⌜ ColumnRoom (now starts) (now column) (now from) (now to) (now out) ⌝ }
-    ensures { λ _. ⌜ now (out .exit) ≡ overlay (joined (columnOf (now (starts .entry)) (now (column .entry)))
-        (now (from .entry)) (now (to .entry))) (now (out .entry)) ⌝ }
+    requires { ⌜ ColumnsRoom limit (now starts) (now ends) (now from) (now to) shift until
+        (now shifts) (now lengths) (now «out_starts») (now «out_ends») ⌝ }
+    ensures { λ _. ⌜ ColumnsLaid (now (starts .entry)) (now (ends .entry)) (now (from .entry)) (now (to .entry)) shift
+        (now (shifts .entry)) (now (lengths .entry)) (now («out_starts» .entry)) (now («out_ends» .entry))
+        (now (shifts .exit)) (now (lengths .exit)) (now («out_starts» .exit)) (now («out_ends» .exit)) ⌝ }
 {
     let mut at = 0;
     let mut k = 0;
     while k < from.len() {
-        let base = original_start(starts, from[k], to[k]);
+        let start = original_start(starts, from[k], to[k]);
+        let end = original_end(ends, from[k], to[k]);
+        shifts[k] = shift + start as u32;
+        lengths[k] = end - start;
         let a = from[k] as usize;
         let b = to[k] as usize;
-        write_lowered(&column[a..b], base, out, at);
+        lower_piece(starts, ends, a, b, start, out_starts, out_ends, at, until);
         at += b - a;
         k += 1;
     }
@@ -119,28 +163,31 @@ fn check_split(
     empty: EmptyPieces,
     for_pieces: usize,
     for_alignments: usize,
-) -> Pieces
-    ensures { λ r. ⌜ r ≡ cutUnlessRefused (verdict (splitFaults limit
+) -> Verdict
+    ensures { λ r. ⌜ r ≡ verdict (splitFaults limit
         (lent (now (original .entry)) (now (normalized .entry))
         (now (starts .entry)) (now (ends .entry)) «original_shift»)
-        (now (list .entry)) behavior empty «for_pieces» «for_alignments»))
-        (cutBy (lent (now (original .entry)) (now (normalized .entry))
-        (now (starts .entry)) (now (ends .entry)) «original_shift») (now (list .entry)) behavior empty) ⌝ }
+        (now (list .entry)) behavior empty «for_pieces» «for_alignments») ⌝ }
 {
     if let Verdict::Refused(k) = check_note(original, normalized, starts, ends, original_shift) {
-        return Pieces::Refused(k);
+        return Verdict::Refused(k);
     }
     if !covers(normalized, list) {
-        return Pieces::Refused(Refusal::BadMatches);
+        return Verdict::Refused(Refusal::BadMatches);
+    }
+    if most_places(list) <= for_pieces {
+        if normalized.len() <= for_alignments {
+            return Verdict::Accepted;
+        }
     }
     let sizes = measure(list, behavior, empty);
     if for_pieces < sizes.pieces {
-        return Pieces::Refused(Refusal::NoRoom);
+        return Verdict::Refused(Refusal::NoRoom);
     }
     if for_alignments < sizes.bytes {
-        return Pieces::Refused(Refusal::NoRoom);
+        return Verdict::Refused(Refusal::NoRoom);
     }
-    Pieces::Cut(sizes.pieces, sizes.bytes)
+    Verdict::Accepted
 }
 
 // The pieces of an accepted note, in front of the six columns.
@@ -159,7 +206,7 @@ fn write_pieces(
     piece_lengths: &mut [Offset],
     out_starts: &mut [Offset],
     out_ends: &mut [Offset],
-)
+) -> Pieces
     requires { ⌜ verdict (splitFaults limit
         (lent (now original) (now normalized) (now starts) (now ends) «original_shift»)
         (now list) behavior empty
@@ -167,21 +214,32 @@ fn write_pieces(
         (now «out_starts») (now «out_ends»)))
         (alignmentRoom (columns (now «piece_starts») (now «piece_ends») (now «piece_shifts») (now «piece_lengths»)
         (now «out_starts») (now «out_ends»)))) ≡ Accepted ⌝ }
-    ensures { λ _. ⌜ CutInto
+    ensures { λ r. ⌜ CutInto
         (lent (now (original .entry)) (now (normalized .entry))
         (now (starts .entry)) (now (ends .entry)) «original_shift») (now (list .entry)) behavior empty
         (columns (now («piece_starts» .entry)) (now («piece_ends» .entry)) (now («piece_shifts» .entry))
         (now («piece_lengths» .entry)) (now («out_starts» .entry)) (now («out_ends» .entry)))
+        r
         (columns (now («piece_starts» .exit)) (now («piece_ends» .exit)) (now («piece_shifts» .exit))
         (now («piece_lengths» .exit)) (now («out_starts» .exit)) (now («out_ends» .exit))) ⌝ }
 {
     let count = write_spans(list, behavior, empty, piece_starts, piece_ends);
     let from = &piece_starts[..count];
     let to = &piece_ends[..count];
-    write_shifts(starts, from, to, original_shift, piece_shifts);
-    write_lengths(starts, ends, from, to, piece_lengths);
-    write_column(starts, starts, from, to, out_starts);
-    write_column(starts, ends, from, to, out_ends);
+    let alignments = byte_count(from, to);
+    write_columns(
+        starts,
+        ends,
+        from,
+        to,
+        original_shift,
+        alignments,
+        piece_shifts,
+        piece_lengths,
+        out_starts,
+        out_ends,
+    );
+    Pieces::Cut(count, alignments)
 }
 
 // The note cut into pieces: their cleaned starts and ends, their shifts and transcript lengths stand in front of the
@@ -227,25 +285,22 @@ pub fn split(
         for_pieces,
         for_alignments,
     ) {
-        Pieces::Refused(k) => Pieces::Refused(k),
-        Pieces::Cut(pieces, alignments) => {
-            write_pieces(
-                original,
-                normalized,
-                starts,
-                ends,
-                original_shift,
-                list,
-                behavior,
-                empty,
-                piece_starts,
-                piece_ends,
-                piece_shifts,
-                piece_lengths,
-                out_starts,
-                out_ends,
-            );
-            Pieces::Cut(pieces, alignments)
-        }
+        Verdict::Refused(k) => Pieces::Refused(k),
+        Verdict::Accepted => write_pieces(
+            original,
+            normalized,
+            starts,
+            ends,
+            original_shift,
+            list,
+            behavior,
+            empty,
+            piece_starts,
+            piece_ends,
+            piece_shifts,
+            piece_lengths,
+            out_starts,
+            out_ends,
+        ),
     }
 }

@@ -6,10 +6,10 @@ use Rattle.char_offsets.proofs.PairTold.{told-missing, told-chars}
 use Rattle.char_offsets.proofs.convert_pair.Statement.{statement}
 use Rattle.char_offsets.proofs.convert_pair.Tie as tie
 
-add-end : tie.Need-add-t14
+add-end : tie.Need-add-t13
 add-end c =
     let told = c .before .before .before in
-    let entry = told .before .before .before .before .before in
+    let entry = told .before .before .before .before in
     omega (arith, c .before .index-at2 .ensures, index-most (entry .args .text .now) (told .end-byte .result .byte), told .end-byte .ensures .inside, told .end-byte .ensures .little, entry .pre .short)
 
 returns-2 : tie.Need-returns-2

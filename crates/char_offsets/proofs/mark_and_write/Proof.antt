@@ -6,16 +6,13 @@ use Rattle.char_offsets.proofs.mark_and_write.Tie as tie
 
 write-marks-requires : tie.Need-write-marks-requires
 write-marks-requires c κs =
-    let made = c .before .before in
-    let entry = made .before .before .before .before .before .before .before .before in
-    record { short = entry .pre .0; room = omega (arith, entry .pre .0, made .blank-marks .ensures); some = omega (arith, made .blank-marks .ensures); ladder-is = made .before .ladder .ensures }
+    let entry = c .before .before .before .before .before .before .before .before in
+    record { short = entry .pre .0; room = omega (arith, entry .pre .0, c .before .blank-marks .ensures); some = omega (arith, c .before .blank-marks .ensures) }
 
 write-pairs-requires : tie.Need-write-pairs-requires
 write-pairs-requires c κs =
-    let marked = c .before .before .before .before .before .before in
-    let made = marked .before .before .before in
-    let entry = made .before .before .before .before .before .before .before .before in
-    (record { short = entry .pre .0; marks-are = marked .write-marks .ensures; ladder-is = made .before .ladder .ensures }, entry .pre .1)
+    let entry = c .before .before .before .before .before .before .before .before .before .before .before .before .before .before in
+    (record { short = entry .pre .0; marks-are = c .before .before .before .before .before .write-marks .ensures }, entry .pre .1)
 
 returns : tie.Need-returns
 returns c = search needs
@@ -25,11 +22,8 @@ mark-and-write-spec =
     tie.close
     (tie.spec
     (λ c κs. search needs)
-    (λ c κs. search needs)
-    (λ c. search needs)
     (λ c. search needs)
     write-marks-requires
-    (λ c. search needs)
     (λ c. search needs)
     write-pairs-requires
     (λ c. search needs)

@@ -1,35 +1,24 @@
--- The note, then the list, then the two rooms.
+-- The note, then the list, then the two rooms: by bounds that need no look at the places, else by the sizes.
 use borrow.Author.Needs.{needs}
 use Rattle.note.specs.Notes.{limit}
-use Rattle.split.proofs.Judged.{note-refused, list-refused, measurable, no-piece-room, no-alignment-room, all-accepted}
+use Rattle.split.proofs.Judged.{note-refused, list-refused, roomy-accepted, measurable, no-piece-room, no-alignment-room, all-accepted}
 use Rattle.split.proofs.check_split.Statement.{statement}
 use Rattle.split.proofs.check_split.Tie as tie
 
-returns : tie.Need-returns
-returns c = note-refused limit _ _ _ _ _ _ (c .before .before .before .check-note .ensures) (c .before .k .given .1)
-
 returns-2 : tie.Need-returns-2
-returns-2 c =
-    list-refused limit _ _ _ _ _ _ (c .before .before .before .before .check-note .ensures) (c .before .before .enum-told .given .1) (c .before .covers .ensures) (c .if1 .taken)
-
-measure-requires : tie.Need-measure-requires
-measure-requires c κs =
-    measurable limit _ _ (c .before .before .before .before .check-note .ensures) (c .before .before .enum-told .given .1) (c .before .covers .ensures) (c .if1 .left)
+returns-2 c = list-refused limit _ _ _ _ _ _ (c .before .before .before .before .check-note .ensures) (c .before .before .enum-told .given .1) (c .before .covers .ensures) (c .if1 .taken)
 
 returns-3 : tie.Need-returns-3
-returns-3 c =
-    no-piece-room limit _ _ _ _ _ _ (c .before .before .before .before .before .before .before .check-note .ensures) (c .before .before .before .before .before .enum-told .given .1) (c .before .before .before .before .covers .ensures) (c .before .before .before .if1 .left)
-    (c .before .before .measure .ensures) (c .if2 .taken)
+returns-3 c = roomy-accepted limit _ _ _ _ _ _ (c .before .before .before .before .before .before .before .check-note .ensures) (c .before .before .before .before .before .enum-told .given .1) (c .before .before .before .before .covers .ensures) (c .before .before .before .if1 .left) (c .before .before .most-places .ensures) (c .before .if2 .taken) (c .if3 .taken)
 
 returns-4 : tie.Need-returns-4
-returns-4 c =
-    no-alignment-room limit _ _ _ _ _ _ (c .before .before .before .before .before .before .before .before .before .check-note .ensures) (c .before .before .before .before .before .before .before .enum-told .given .1) (c .before .before .before .before .before .before .covers .ensures) (c .before .before .before .before .before .if1 .left)
-    (c .before .before .before .before .measure .ensures) (c .before .before .if2 .left) (c .if3 .taken)
+returns-4 c = no-piece-room limit _ _ _ _ _ _ (c .before .before .before .before .before .before .before .before .before .check-note .ensures) (c .before .before .before .before .before .before .before .enum-told .given .1) (c .before .before .before .before .before .before .covers .ensures) (c .before .before .before .before .before .if1 .left) (c .before .before .measure .ensures) (c .if4 .taken)
 
 returns-5 : tie.Need-returns-5
-returns-5 c =
-    all-accepted limit _ _ _ _ _ _ (c .before .before .before .before .before .before .before .before .before .check-note .ensures) (c .before .before .before .before .before .before .before .enum-told .given .1) (c .before .before .before .before .before .before .covers .ensures) (c .before .before .before .before .before .if1 .left)
-    (c .before .before .before .before .measure .ensures) (c .before .before .if2 .left) (c .if3 .left)
+returns-5 c = no-alignment-room limit _ _ _ _ _ _ (c .before .before .before .before .before .before .before .before .before .before .before .check-note .ensures) (c .before .before .before .before .before .before .before .before .before .enum-told .given .1) (c .before .before .before .before .before .before .before .before .covers .ensures) (c .before .before .before .before .before .before .before .if1 .left) (c .before .before .before .before .measure .ensures) (c .before .before .if4 .left) (c .if5 .taken)
+
+returns-6 : tie.Need-returns-6
+returns-6 c = all-accepted limit _ _ _ _ _ _ (c .before .before .before .before .before .before .before .before .before .before .before .check-note .ensures) (c .before .before .before .before .before .before .before .before .before .enum-told .given .1) (c .before .before .before .before .before .before .before .before .covers .ensures) (c .before .before .before .before .before .before .before .if1 .left) (c .before .before .before .before .measure .ensures) (c .before .before .if4 .left) (c .if5 .left)
 
 pub check-split-spec : {M : Type 1} → statement M
 check-split-spec =
@@ -37,11 +26,13 @@ check-split-spec =
     (tie.spec
     (λ c κs. search needs)
     (λ c. search needs)
-    returns
+    (λ c. note-refused limit _ _ _ _ _ _ (c .before .before .before .check-note .ensures) (c .before .k .given .1))
     (λ c. search needs)
     (λ c κs. search needs)
     returns-2
-    measure-requires
+    (λ c κs. search needs)
     returns-3
+    (λ c κs. measurable limit _ _ (c .before .before .before .before .before .before .check-note .ensures) (c .before .before .before .before .enum-told .given .1) (c .before .before .before .covers .ensures) (c .before .before .if1 .left))
     returns-4
-    returns-5)
+    returns-5
+    returns-6)

@@ -4,7 +4,7 @@ use lib.Seq.{length-take-le}
 use borrow.Author.Needs.{needs}
 use Rattle.note.specs.Notes.{limit}
 use Rattle.split.specs.Splitting.{columns}
-use Rattle.split.proofs.Judged.{spans-room, from-long, to-long, shifts-room, lengths-room, starts-room, ends-room, all-cut}
+use Rattle.split.proofs.Judged.{spans-room, from-long, to-long, countable, columns-room, all-cut}
 use Rattle.split.proofs.write_pieces.Statement.{statement}
 use Rattle.split.proofs.write_pieces.Tie as tie
 
@@ -37,36 +37,23 @@ to-whole c =
     let a = spans .before .before .before .before .before .before .before .before .before .before .before .before .before .before .args in
     sym (length-take-le _ _ (to-long limit _ _ _ _ (columns (a .piece-starts .now) (a .piece-ends .now) (a .piece-shifts .now) (a .piece-lengths .now) (a .out-starts .now) (a .out-ends .now)) (spans .before .before .before .before .before .before .before .before .before .before .before .before .before .before .pre) (spans .write-spans .ensures)))
 
-write-shifts-requires : tie.Need-write-shifts-requires
-write-shifts-requires c κs =
-    let spans = c .before .before .before .before .before .before .before in
+byte-count-requires : tie.Need-byte-count-requires
+byte-count-requires c κs =
+    let spans = c .before .before .before .before .before .before in
     let a = spans .before .before .before .before .before .before .before .before .before .before .before .before .before .before .args in
-    shifts-room limit _ _ _ _ (columns (a .piece-starts .now) (a .piece-ends .now) (a .piece-shifts .now) (a .piece-lengths .now) (a .out-starts .now) (a .out-ends .now)) (spans .before .before .before .before .before .before .before .before .before .before .before .before .before .before .pre) (spans .write-spans .ensures)
+    countable limit _ _ _ _ (columns (a .piece-starts .now) (a .piece-ends .now) (a .piece-shifts .now) (a .piece-lengths .now) (a .out-starts .now) (a .out-ends .now)) (spans .before .before .before .before .before .before .before .before .before .before .before .before .before .before .pre) (spans .write-spans .ensures)
 
-write-lengths-requires : tie.Need-write-lengths-requires
-write-lengths-requires c κs =
+write-columns-requires : tie.Need-write-columns-requires
+write-columns-requires c κs =
     let spans = c .before .before .before .before .before .before .before .before .before .before .before in
     let a = spans .before .before .before .before .before .before .before .before .before .before .before .before .before .before .args in
-    lengths-room limit _ _ _ _ (columns (a .piece-starts .now) (a .piece-ends .now) (a .piece-shifts .now) (a .piece-lengths .now) (a .out-starts .now) (a .out-ends .now)) (spans .before .before .before .before .before .before .before .before .before .before .before .before .before .before .pre) (spans .write-spans .ensures)
-
-write-column-requires : tie.Need-write-column-requires
-write-column-requires c κs =
-    let spans = c .before .before .before .before .before .before .before .before .before .before .before .before .before .before .before in
-    let a = spans .before .before .before .before .before .before .before .before .before .before .before .before .before .before .args in
-    starts-room limit _ _ _ _ (columns (a .piece-starts .now) (a .piece-ends .now) (a .piece-shifts .now) (a .piece-lengths .now) (a .out-starts .now) (a .out-ends .now)) (spans .before .before .before .before .before .before .before .before .before .before .before .before .before .before .pre) (spans .write-spans .ensures)
-
-write-column-requires-2 : tie.Need-write-column-requires-2
-write-column-requires-2 c κs =
-    let spans = c .before .before .before .before .before .before .before .before .before .before .before .before .before .before .before .before .before .before .before in
-    let a = spans .before .before .before .before .before .before .before .before .before .before .before .before .before .before .args in
-    ends-room limit _ _ _ _ (columns (a .piece-starts .now) (a .piece-ends .now) (a .piece-shifts .now) (a .piece-lengths .now) (a .out-starts .now) (a .out-ends .now)) (spans .before .before .before .before .before .before .before .before .before .before .before .before .before .before .pre) (spans .write-spans .ensures)
+    columns-room limit _ _ _ _ (columns (a .piece-starts .now) (a .piece-ends .now) (a .piece-shifts .now) (a .piece-lengths .now) (a .out-starts .now) (a .out-ends .now)) (spans .before .before .before .before .before .before .before .before .before .before .before .before .before .before .pre) (spans .write-spans .ensures) (c .before .before .before .before .byte-count .ensures)
 
 returns : tie.Need-returns
 returns c =
-    let spans = c .before .before .before .before .before .before .before .before .before .before .before .before .before .before .before .before .before .before .before .before .before .before in
+    let spans = c .before .before .before .before .before .before .before .before .before .before .before .before .before .before .before .before .before .before .before .before in
     let a = spans .before .before .before .before .before .before .before .before .before .before .before .before .before .before .args in
-    all-cut limit _ _ _ _ (columns (a .piece-starts .now) (a .piece-ends .now) (a .piece-shifts .now) (a .piece-lengths .now) (a .out-starts .now) (a .out-ends .now)) (spans .before .before .before .before .before .before .before .before .before .before .before .before .before .before .pre) (spans .write-spans .ensures)
-    (c .before .before .before .before .before .before .before .before .before .before .before .before .before .before .write-shifts .ensures) (c .before .before .before .before .before .before .before .before .before .before .write-lengths .ensures) (c .before .before .before .before .before .before .write-column .ensures) (c .before .before .write-column2 .ensures)
+    all-cut limit _ _ _ _ (columns (a .piece-starts .now) (a .piece-ends .now) (a .piece-shifts .now) (a .piece-lengths .now) (a .out-starts .now) (a .out-ends .now)) (spans .before .before .before .before .before .before .before .before .before .before .before .before .before .before .pre) (spans .write-spans .ensures) (c .before .before .before .before .before .before .before .before .before .before .before .before .before .byte-count .ensures) (c .before .before .before .before .before .before .before .before .write-columns .ensures)
 
 pub write-pieces-spec : {M : Type 1} → statement M
 write-pieces-spec =
@@ -77,10 +64,8 @@ write-pieces-spec =
     from-whole
     to-fits
     to-whole
-    write-shifts-requires
-    write-lengths-requires
-    write-column-requires
-    write-column-requires-2
+    byte-count-requires
+    write-columns-requires
     (λ c. search needs)
     (λ c. search needs)
     (λ c. search needs)

@@ -1,0 +1,22 @@
+-- The local array holds the 16 numbers, and they are copied from there.
+use mathlib.Core.Path.{refl}
+use borrow.Author.Needs.{needs}
+use Rattle.split.proofs.Joined.{block-lowerable, block-through}
+use Rattle.split.proofs.lower_block.Statement.{statement}
+use Rattle.split.proofs.lower_block.Tie as tie
+
+pub lower-block-spec : {M : Type 1} → statement M
+lower-block-spec =
+    tie.close
+    (tie.spec
+    (λ c. search needs)
+    (λ c. search needs)
+    (λ c. search needs)
+    (λ c. search needs)
+    (λ c. search needs)
+    (λ c. search needs)
+    (λ c κs. block-lowerable (c .before .before .before .before .pre) _ refl)
+    (λ c. search needs)
+    (λ c κs. search needs)
+    (λ c. search needs)
+    (λ c. block-through (c .before .before .before .before .before .before .before .before .before .before .before .pre) _ refl (c .before .before .before .before .before .before .write-lowered .ensures) (c .before .before .copy-offsets .ensures)))
