@@ -5,6 +5,8 @@
 
 mod calls;
 mod cutting;
+mod editing;
+mod printing;
 mod slicing;
 
 use crate::characters::{self, sequences};
@@ -25,7 +27,8 @@ const FOLDER: &str = "crates/replay/data";
 
 pub fn write() -> ExitCode {
     let lists = [well_formed(), letter_counts(), starting_notes(), checked_notes()];
-    for answers in lists.into_iter().chain(calls::answers()).chain([slicing::slices()]).chain(cutting::answers()) {
+    let cut = [slicing::slices()].into_iter().chain(cutting::answers()).chain([printing::printed()]);
+    for answers in lists.into_iter().chain(calls::answers()).chain(cut).chain(editing::answers()) {
         let path = format!("{FOLDER}/{}", answers.name);
         std::fs::write(&path, answers.file()).unwrap_or_else(|error| panic!("{path}: {error}"));
         println!("{answers}");

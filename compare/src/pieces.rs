@@ -44,7 +44,7 @@ fn places(literal: &str, note: &str) -> Vec<Place> {
     }
 }
 
-fn expected(input: &[u8]) -> Vec<u8> {
+pub fn expected(input: &[u8]) -> Vec<u8> {
     let refused = |number: u32| format!("refused {number}\n").into_bytes();
     let lines: Vec<&[u8]> = input.split(|&byte| byte == b'\n').collect();
     let [literal, [digit @ b'1'..=b'5'], note, []] = lines[..] else {
@@ -109,7 +109,7 @@ fn pieces_of(tally: &mut Tally, parts: &[&[u8]]) {
     });
 }
 
-fn input(literal: &[u8], digit: u8, note: &[u8]) -> Vec<u8> {
+pub fn input(literal: &[u8], digit: u8, note: &[u8]) -> Vec<u8> {
     [literal, b"\n", &[digit], b"\n", note, b"\n"].concat()
 }
 

@@ -151,7 +151,7 @@ none-counting {list = list} b e l is there =
     }
 
 module _ {most : ℕ} {list : List ℕ} {b : SplitDelimiterBehavior} {e : EmptyPieces} {s : Sizes} {run : Place} {i : ℕ} (k : Counting most list b e s run i) where
-  pub addable : most ≤ 65535 → length list < 2 ^ 64 → Addable s run
+  pub addable : most + most < 2 ^ 64 → length list < 2 ^ 64 → Addable s run
   addable low few =
       record {
         onward = k .opened .forward;

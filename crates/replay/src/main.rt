@@ -1,6 +1,7 @@
 // Replays fixed lists of the Rust original's answers on the exported calls, and prints for each call how many there
 // are and how many differ. `compare/run list` wrote the lists; compare/src/list.rs says how they are laid out. Each
 // call has a file, an arm and a line here.
+mod edits;
 mod matches;
 mod notes;
 mod pairs;
@@ -110,6 +111,16 @@ fn replay_slices() {
     replay(17, b"get_splits");
 }
 
+fn replay_edits() {
+    replay(19, b"transform_range");
+    replay(20, b"transform");
+    replay(21, b"map");
+    replay(22, b"filter");
+    replay(23, b"append");
+    replay(24, b"prepend");
+    replay(25, b"clear");
+}
+
 fn replay_programs() {
     replay(18, b"pieces");
 }
@@ -120,5 +131,6 @@ fn main() {
     replay_ranges();
     replay_matches();
     replay_slices();
+    replay_edits();
     replay_programs();
 }

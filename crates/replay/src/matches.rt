@@ -1,8 +1,7 @@
 // The calls on matches: finding, replacing, whether two notes are published alike, and blanking a literal.
-use crate::told::are_published;
 use crate::told::is_list;
-use crate::told::is_published;
 use buffers::Offset;
+use replayed_edits::told::is_published;
 use stored_answers::columns::bytes;
 use stored_answers::columns::offsets;
 use stored_answers::columns::zeros;

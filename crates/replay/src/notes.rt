@@ -1,4 +1,5 @@
 // The starting note, and the calls on a note, whose first fields are transcript, cleaned text, starts, ends, shift.
+use crate::edits::on_edit;
 use crate::matches::published_alike;
 use crate::matches::replace;
 use crate::pairs::on_pairs;
@@ -52,6 +53,10 @@ fn called(call: u8, case: &[u8], starts: &[Offset], ends: &[Offset]) -> bool {
         15 => slice(case, starts, ends),
         16 => split(case, starts, ends),
         17 => get_splits(case, starts, ends),
+        19 => on_edit(call, case, 10, starts, ends),
+        20 => on_edit(call, case, 7, starts, ends),
+        21 | 22 | 23 | 24 => on_edit(call, case, 6, starts, ends),
+        25 => on_edit(call, case, 5, starts, ends),
         _ => false,
     }
 }

@@ -5,7 +5,6 @@ use stored_answers::columns::are_offsets;
 use stored_answers::fields::is_number;
 use stored_answers::fields::is_size;
 use stored_answers::fields::is_text;
-use zulmyren::answers::Count;
 use zulmyren::answers::Listed;
 use zulmyren::answers::Offsets;
 ghost use mathlib.Core.Path.{_≡_};
@@ -77,43 +76,4 @@ pub fn are_pairs(
         & is_text(case, index + 1, numbers)
         & are_numbers(case, index + 2, starts)
         & are_numbers(case, index + 3, ends)
-}
-
-// A text and its columns.
-pub fn are_published(
-    case: &[u8],
-    index: usize,
-    text: &[u8],
-    starts: &[Offset],
-    ends: &[Offset],
-) -> bool
-    requires { ⌜ index < 100 ⌝ }
-    ensures { λ r. ⌜ r ≡ (same (fieldOf index (now (case .entry))) (now (text .entry))
-        && same (now (starts .entry)) (offsetsOf limit (fieldOf (index + 1) (now (case .entry)))))
-        && same (now (ends .entry)) (offsetsOf limit (fieldOf (index + 2) (now (case .entry)))) ⌝ }
-{
-    is_text(case, index, text)
-        & are_offsets(case, index + 1, starts)
-        & are_offsets(case, index + 2, ends)
-}
-
-// The refusal, a size, and a text with its columns.
-pub fn is_published(
-    case: &[u8],
-    index: usize,
-    answer: Count,
-    text: &[u8],
-    starts: &[Offset],
-    ends: &[Offset],
-) -> bool
-    requires { ⌜ index < 98 ⌝ }
-    ensures { λ r. ⌜ r ≡ (isNumber (fieldOf index (now (case .entry))) (answer .refusal)
-        && isNumber (fieldOf (index + 1) (now (case .entry))) (answer .count))
-        && ((same (fieldOf (index + 2) (now (case .entry))) (now (text .entry))
-        && same (now (starts .entry)) (offsetsOf limit (fieldOf (index + 2 + 1) (now (case .entry)))))
-        && same (now (ends .entry)) (offsetsOf limit (fieldOf (index + 2 + 2) (now (case .entry))))) ⌝ }
-{
-    is_number(case, index, answer.refusal)
-        & is_number(case, index + 1, answer.count)
-        & are_published(case, index + 2, text, starts, ends)
 }

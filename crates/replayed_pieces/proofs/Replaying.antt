@@ -1,10 +1,10 @@
 -- A call that was lent what its case's fields hold, and buffers that hold their fields' columns.
-use Prim.Native.Nat.{ℕ, _+_, _^_}
-use mathlib.Core.Path.{_≡_, _∙_, ap, sym}
+use Prim.Native.Nat.{ℕ}
+use mathlib.Core.Path.{_≡_, _∙_, ap}
 use mathlib.Core.Bool.{Bool, _&&_}
 use mathlib.Core.List.{List}
 use lib.Dec.{eqb}
-use lib.ListN.{length, take, replicate}
+use lib.ListN.{take}
 use Rattle.buffers.specs.Same.{same}
 use Rattle.buffers.specs.Splice.{Laid}
 use Rattle.note.specs.Notes.{lent, limit}
@@ -14,10 +14,9 @@ use Rattle.split.specs.Splitting.{Columns, Splitting, columns}
 use Rattle.splits.specs.SplitOffsets.{GetSplits}
 use Rattle.piece_lines.specs.Printing.{printed}
 use Rattle.stored_answers.specs.Framing.{fieldOf}
-use Rattle.stored_answers.specs.Differences.{columnOf, offsetsOf, numbersOf}
+use Rattle.stored_answers.specs.Differences.{offsetsOf}
 use Rattle.stored_answers.specs.Lending.{numberAt}
 use Rattle.stored_answers.proofs.Framing.{both}
-use Rattle.stored_answers.proofs.Differences.{filled}
 use Rattle.stored_answers.proofs.Splice.{take-laid}
 use Rattle.zulmyren.specs.declared.answers.Cut.{Cut}
 use Rattle.zulmyren.specs.declared.answers.Listed.{Listed}
@@ -57,13 +56,6 @@ module _ {case starts ends original normalized : List ℕ} {shift : ℕ} (o : or
           met = coe 0 1 (i. Told splitsNumbers (λ v. GetSplits limit (lent (o i) (n i) starts ends (k i)) (l i) (behaviorOf (b i)) (sideOf (eqb (f i) 1)) (unitOf (eqb (u i) 1)) s₀ e₀ v s e) a) call;
           says = t;
         }
-
--- buffers that are filled from a field, up to where they are filled
-pub offsets-filled : (field : List ℕ) {d₀ d : List ℕ} {end : ℕ} → Laid (columnOf (limit + 1) (length d₀) field) d₀ 0 end d → limit + 1 ≡ length d₀ → take end d ≡ offsetsOf limit field
-offsets-filled field l long = filled (limit + 1) (limit + 1) field l (sym long)
-
-pub numbers-filled : (field : List ℕ) {d : List ℕ} {end : ℕ} → Laid (columnOf (256 ^ 4) 256 field) (replicate 256 0) 0 end d → take end d ≡ numbersOf field
-numbers-filled field l = take-laid l
 
 -- lent buffers by what they hold
 pub slice-lent : {case starts ends s₀ e₀ s e : List ℕ} {r : Bool} → s₀ ≡ s → e₀ ≡ e → SliceReplayed case starts ends s₀ e₀ r → SliceReplayed case starts ends s e r

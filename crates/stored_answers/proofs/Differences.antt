@@ -1,16 +1,17 @@
 -- Laws of `summed`: its length, and an element more.
-use Prim.Native.Nat.{ℕ, zero, suc, _+_, _*_, _-_, _/_, _%_, _≤_, _<_, min}
+use Prim.Native.Nat.{ℕ, zero, suc, _+_, _*_, _-_, _/_, _%_, _^_, _≤_, _<_, min}
 use mathlib.Core.Path.{_≡_, _∙_, ap, refl, sym}
 use mathlib.Core.Bool.{Bool}
 use mathlib.Core.List.{List, [], _∷_}
 use native.Mathlib.Omega.{arith}
-use lib.ListN.{length, take, drop, set}
+use lib.ListN.{length, take, drop, set, replicate}
 use lib.Seq.{drop-drop}
 use Rattle.buffers.specs.Same.{same}
 use Rattle.buffers.specs.Splice.{Laid}
 use Rattle.io.specs.Counts.{Counts}
+use Rattle.note.specs.Notes.{limit}
 use Rattle.stored_answers.specs.Framing.{numberOf}
-use Rattle.stored_answers.specs.Differences.{summed, columnOf}
+use Rattle.stored_answers.specs.Differences.{summed, columnOf, offsetsOf, numbersOf}
 use Rattle.stored_answers.proofs.Splice.{LayingFrom, none-laid, element-laid, all-laid, counted, take-laid}
 
 length-summed : (width n last : ℕ) (s : List ℕ) → length (summed width n last s) ≡ n
@@ -65,3 +66,10 @@ filled width room field l long = take-laid l ∙ ap (λ k. columnOf width k fiel
 -- a lent buffer beside the column of a field
 pub same-column : (width room : ℕ) (column field : List ℕ) {d₀ d : List ℕ} {end : ℕ} {r : Bool} → r ≡ same column (take end d) → Laid (columnOf width (length d₀) field) d₀ 0 end d → length d₀ ≡ room → r ≡ same column (columnOf width room field)
 same-column width room column field is l long = is ∙ ap (same column) (filled width room field l long)
+
+-- buffers that are filled from a field, up to where they are filled
+pub offsets-filled : (field : List ℕ) {d₀ d : List ℕ} {end : ℕ} → Laid (columnOf (limit + 1) (length d₀) field) d₀ 0 end d → limit + 1 ≡ length d₀ → take end d ≡ offsetsOf limit field
+offsets-filled field l long = filled (limit + 1) (limit + 1) field l (sym long)
+
+pub numbers-filled : (field : List ℕ) {d : List ℕ} {end : ℕ} → Laid (columnOf (256 ^ 4) 256 field) (replicate 256 0) 0 end d → take end d ≡ numbersOf field
+numbers-filled field l = take-laid l

@@ -28,7 +28,8 @@ use Rattle.edits.specs.declared.Clearing.{Clearing}
 use Rattle.edits.specs.declared.Clearing.the-variants.{Cleared, Refused as Uncleared}
 use Rattle.edits.specs.Whole.{clearEdit, clearFaults, clearing, Emptied}
 use Rattle.zulmyren.specs.declared.answers.Count.{Count}
-use Rattle.zulmyren.specs.Calls.{Told, editedOf, sideOf, EditingShort, ClearingShort}
+use Rattle.zulmyren.specs.Calls.{editedOf, sideOf, EditingShort, ClearingShort}
+use Rattle.zulmyren.specs.Edits.{TransformTold}
 
 says-edited : (w : Verdict) (m size : ℕ) → Edited m ≡ editing w size → (w ≡ Accepted) × (m ≡ size)
 says-edited Accepted m size e = (refl, cc)
@@ -72,5 +73,5 @@ cleared-within is short = rw is at short
 -- a range's edit, through the side
 pub range-edit : (n : Note) (b : Bool) (a e : ℕ) (script : List ℕ) (skip : ℕ) (out₀ starts₀ ends₀ : List ℕ) {side : OffsetReferential} {range : Range} {v : Editing} {out starts ends : List ℕ} {r : Count} → side ≡ sideOf b → range ≡ rangeOf side a e
     → Rewritten (verdict (transformFaults limit n range script skip (least (length out₀) (length starts₀) (length ends₀)))) (transformed n (scriptEdit n range script skip)) out₀ starts₀ ends₀ v out starts ends → r ≡ editedOf v
-    → Told editedOf (λ w. Rewritten (verdict (transformFaults limit n (rangeOf (sideOf b) a e) script skip (least (length out₀) (length starts₀) (length ends₀)))) (transformed n (scriptEdit n (rangeOf (sideOf b) a e) script skip)) out₀ starts₀ ends₀ w out starts ends) r
+    → TransformTold n (rangeOf (sideOf b) a e) script skip out₀ starts₀ ends₀ r out starts ends
 range-edit n b a e script skip out₀ starts₀ ends₀ {v = v} p q call t = record { answer = v; told = t; met = rw (q, p) at call }

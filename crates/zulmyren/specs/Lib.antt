@@ -1,3 +1,4 @@
 -- What the exported calls say, in plain numbers.
 pub mod Calls
+pub mod Edits
 pub mod Exported

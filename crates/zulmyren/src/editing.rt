@@ -6,15 +6,11 @@ use crate::answers::edited_told;
 use crate::ranges::side_of;
 use buffers::Offset;
 use convert::range_of;
-ghost use lib.ListN.{length};
-ghost use Rattle.note.specs.Notes.{lent, limit};
-ghost use Rattle.note.specs.Refusals.{least, verdict};
+ghost use Rattle.note.specs.Notes.{lent};
 ghost use Rattle.convert.specs.Converting.{rangeOf};
-ghost use Rattle.edit_steps.specs.Edits.{transformed};
-ghost use Rattle.transform.specs.Transforming.{Rewritten, scriptEdit, transformFaults, wholeTranscript};
-ghost use Rattle.edits.specs.Whole.{appendEdit, clearEdit, clearFaults, Emptied, filterEdit, filterFaults};
-ghost use Rattle.edits.specs.Whole.{joinFaults, mapEdit, mapFaults, prependEdit};
-ghost use Rattle.zulmyren.specs.Calls.{Told, clearedOf, editedOf, sideOf};
+ghost use Rattle.transform.specs.Transforming.{wholeTranscript};
+ghost use Rattle.zulmyren.specs.Calls.{sideOf};
+ghost use Rattle.zulmyren.specs.Edits.{AppendTold, ClearTold, FilterTold, MapTold, PrependTold, TransformTold};
 
 #[no_mangle]
 pub extern "C" fn zulmyren_transform_range(
@@ -32,21 +28,12 @@ pub extern "C" fn zulmyren_transform_range(
     out_starts: &mut [Offset],
     out_ends: &mut [Offset],
 ) -> Count
-    ensures { λ r. ⌜ Told editedOf (λ v. Rewritten
-        (verdict (transformFaults limit
+    ensures { λ r. ⌜ TransformTold
         (lent (now (original .entry)) (now (normalized .entry)) (now (starts .entry)) (now (ends .entry))
         «original_shift»)
         (rangeOf (sideOf «of_original») start end) (now (script .entry)) «initial_offset»
-        (least (length (now (out .entry))) (length (now («out_starts» .entry))) (length (now («out_ends» .entry))))))
-        (transformed
-        (lent (now (original .entry)) (now (normalized .entry)) (now (starts .entry)) (now (ends .entry))
-        «original_shift»)
-        (scriptEdit
-        (lent (now (original .entry)) (now (normalized .entry)) (now (starts .entry)) (now (ends .entry))
-        «original_shift»)
-        (rangeOf (sideOf «of_original») start end) (now (script .entry)) «initial_offset»))
         (now (out .entry)) (now («out_starts» .entry)) (now («out_ends» .entry))
-        v (now (out .exit)) (now («out_starts» .exit)) (now («out_ends» .exit))) r ⌝ }
+        r (now (out .exit)) (now («out_starts» .exit)) (now («out_ends» .exit)) ⌝ }
 {
     let range = range_of(side_of(of_original), start, end);
     edited_told(transform::transform_range(
@@ -77,21 +64,12 @@ pub extern "C" fn zulmyren_transform(
     out_starts: &mut [Offset],
     out_ends: &mut [Offset],
 ) -> Count
-    ensures { λ r. ⌜ Told editedOf (λ v. Rewritten
-        (verdict (transformFaults limit
+    ensures { λ r. ⌜ TransformTold
         (lent (now (original .entry)) (now (normalized .entry)) (now (starts .entry)) (now (ends .entry))
         «original_shift»)
         (wholeTranscript (now (original .entry))) (now (script .entry)) «initial_offset»
-        (least (length (now (out .entry))) (length (now («out_starts» .entry))) (length (now («out_ends» .entry))))))
-        (transformed
-        (lent (now (original .entry)) (now (normalized .entry)) (now (starts .entry)) (now (ends .entry))
-        «original_shift»)
-        (scriptEdit
-        (lent (now (original .entry)) (now (normalized .entry)) (now (starts .entry)) (now (ends .entry))
-        «original_shift»)
-        (wholeTranscript (now (original .entry))) (now (script .entry)) «initial_offset»))
         (now (out .entry)) (now («out_starts» .entry)) (now («out_ends» .entry))
-        v (now (out .exit)) (now («out_starts» .exit)) (now («out_ends» .exit))) r ⌝ }
+        r (now (out .exit)) (now («out_starts» .exit)) (now («out_ends» .exit)) ⌝ }
 {
     edited_told(transform::transform(
         original,
@@ -119,21 +97,11 @@ pub extern "C" fn zulmyren_map(
     out_starts: &mut [Offset],
     out_ends: &mut [Offset],
 ) -> Count
-    ensures { λ r. ⌜ Told editedOf (λ v. Rewritten
-        (verdict (mapFaults limit
+    ensures { λ r. ⌜ MapTold
         (lent (now (original .entry)) (now (normalized .entry)) (now (starts .entry)) (now (ends .entry))
-        «original_shift»)
-        (now (codes .entry))
-        (least (length (now (out .entry))) (length (now («out_starts» .entry))) (length (now («out_ends» .entry))))))
-        (transformed
-        (lent (now (original .entry)) (now (normalized .entry)) (now (starts .entry)) (now (ends .entry))
-        «original_shift»)
-        (mapEdit
-        (lent (now (original .entry)) (now (normalized .entry)) (now (starts .entry)) (now (ends .entry))
-        «original_shift»)
-        (now (codes .entry))))
+        «original_shift») (now (codes .entry))
         (now (out .entry)) (now («out_starts» .entry)) (now («out_ends» .entry))
-        v (now (out .exit)) (now («out_starts» .exit)) (now («out_ends» .exit))) r ⌝ }
+        r (now (out .exit)) (now («out_starts» .exit)) (now («out_ends» .exit)) ⌝ }
 {
     edited_told(edits::mapping::map(
         original,
@@ -160,21 +128,11 @@ pub extern "C" fn zulmyren_filter(
     out_starts: &mut [Offset],
     out_ends: &mut [Offset],
 ) -> Count
-    ensures { λ r. ⌜ Told editedOf (λ v. Rewritten
-        (verdict (filterFaults limit
+    ensures { λ r. ⌜ FilterTold
         (lent (now (original .entry)) (now (normalized .entry)) (now (starts .entry)) (now (ends .entry))
-        «original_shift»)
-        (now (flags .entry))
-        (least (length (now (out .entry))) (length (now («out_starts» .entry))) (length (now («out_ends» .entry))))))
-        (transformed
-        (lent (now (original .entry)) (now (normalized .entry)) (now (starts .entry)) (now (ends .entry))
-        «original_shift»)
-        (filterEdit
-        (lent (now (original .entry)) (now (normalized .entry)) (now (starts .entry)) (now (ends .entry))
-        «original_shift»)
-        (now (flags .entry))))
+        «original_shift») (now (flags .entry))
         (now (out .entry)) (now («out_starts» .entry)) (now («out_ends» .entry))
-        v (now (out .exit)) (now («out_starts» .exit)) (now («out_ends» .exit))) r ⌝ }
+        r (now (out .exit)) (now («out_starts» .exit)) (now («out_ends» .exit)) ⌝ }
 {
     edited_told(filters::filter(
         original,
@@ -201,25 +159,11 @@ pub extern "C" fn zulmyren_append(
     out_starts: &mut [Offset],
     out_ends: &mut [Offset],
 ) -> Count
-    ensures { λ r. ⌜ Told editedOf (λ v. Rewritten
-        (verdict (joinFaults limit
+    ensures { λ r. ⌜ AppendTold
         (lent (now (original .entry)) (now (normalized .entry)) (now (starts .entry)) (now (ends .entry))
-        «original_shift»)
-        (now (string .entry))
-        (appendEdit
-        (lent (now (original .entry)) (now (normalized .entry)) (now (starts .entry)) (now (ends .entry))
-        «original_shift»)
-        (now (string .entry)))
-        (least (length (now (out .entry))) (length (now («out_starts» .entry))) (length (now («out_ends» .entry))))))
-        (transformed
-        (lent (now (original .entry)) (now (normalized .entry)) (now (starts .entry)) (now (ends .entry))
-        «original_shift»)
-        (appendEdit
-        (lent (now (original .entry)) (now (normalized .entry)) (now (starts .entry)) (now (ends .entry))
-        «original_shift»)
-        (now (string .entry))))
+        «original_shift») (now (string .entry))
         (now (out .entry)) (now («out_starts» .entry)) (now («out_ends» .entry))
-        v (now (out .exit)) (now («out_starts» .exit)) (now («out_ends» .exit))) r ⌝ }
+        r (now (out .exit)) (now («out_starts» .exit)) (now («out_ends» .exit)) ⌝ }
 {
     edited_told(joins::append(
         original,
@@ -246,25 +190,11 @@ pub extern "C" fn zulmyren_prepend(
     out_starts: &mut [Offset],
     out_ends: &mut [Offset],
 ) -> Count
-    ensures { λ r. ⌜ Told editedOf (λ v. Rewritten
-        (verdict (joinFaults limit
+    ensures { λ r. ⌜ PrependTold
         (lent (now (original .entry)) (now (normalized .entry)) (now (starts .entry)) (now (ends .entry))
-        «original_shift»)
-        (now (string .entry))
-        (prependEdit
-        (lent (now (original .entry)) (now (normalized .entry)) (now (starts .entry)) (now (ends .entry))
-        «original_shift»)
-        (now (string .entry)))
-        (least (length (now (out .entry))) (length (now («out_starts» .entry))) (length (now («out_ends» .entry))))))
-        (transformed
-        (lent (now (original .entry)) (now (normalized .entry)) (now (starts .entry)) (now (ends .entry))
-        «original_shift»)
-        (prependEdit
-        (lent (now (original .entry)) (now (normalized .entry)) (now (starts .entry)) (now (ends .entry))
-        «original_shift»)
-        (now (string .entry))))
+        «original_shift») (now (string .entry))
         (now (out .entry)) (now («out_starts» .entry)) (now («out_ends» .entry))
-        v (now (out .exit)) (now («out_starts» .exit)) (now («out_ends» .exit))) r ⌝ }
+        r (now (out .exit)) (now («out_starts» .exit)) (now («out_ends» .exit)) ⌝ }
 {
     edited_told(joins::prepend(
         original,
@@ -290,21 +220,11 @@ pub extern "C" fn zulmyren_clear(
     out_starts: &mut [Offset],
     out_ends: &mut [Offset],
 ) -> Lengths
-    ensures { λ r. ⌜ Told clearedOf (λ v. Emptied
-        (verdict (clearFaults limit
+    ensures { λ r. ⌜ ClearTold
         (lent (now (original .entry)) (now (normalized .entry)) (now (starts .entry)) (now (ends .entry))
         «original_shift»)
-        (least (length (now (out .entry))) (length (now («out_starts» .entry))) (length (now («out_ends» .entry))))))
-        (lent (now (original .entry)) (now (normalized .entry)) (now (starts .entry)) (now (ends .entry))
-        «original_shift»)
-        (transformed
-        (lent (now (original .entry)) (now (normalized .entry)) (now (starts .entry)) (now (ends .entry))
-        «original_shift»)
-        (clearEdit
-        (lent (now (original .entry)) (now (normalized .entry)) (now (starts .entry)) (now (ends .entry))
-        «original_shift»)))
         (now (out .entry)) (now («out_starts» .entry)) (now («out_ends» .entry))
-        v (now (out .exit)) (now («out_starts» .exit)) (now («out_ends» .exit))) r ⌝ }
+        r (now (out .exit)) (now («out_starts» .exit)) (now («out_ends» .exit)) ⌝ }
 {
     cleared_told(edits::clear(
         original,

@@ -1,6 +1,7 @@
 -- The lent alignments are those of their fields.
 use borrow.Author.Needs.{needs}
-use Rattle.replayed_pieces.proofs.Replaying.{alignments-lent, offsets-filled}
+use Rattle.stored_answers.proofs.Differences.{offsets-filled}
+use Rattle.replayed_pieces.proofs.Replaying.{alignments-lent}
 use Rattle.replayed_pieces.proofs.pieces.cut_beside.Statement.{statement}
 use Rattle.replayed_pieces.proofs.pieces.cut_beside.Tie as tie
 

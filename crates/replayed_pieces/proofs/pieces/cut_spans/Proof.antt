@@ -1,6 +1,7 @@
 -- The lent shifts and lengths are those of their fields.
 use borrow.Author.Needs.{needs}
-use Rattle.replayed_pieces.proofs.Replaying.{sizes-lent, numbers-filled, offsets-filled}
+use Rattle.stored_answers.proofs.Differences.{numbers-filled, offsets-filled}
+use Rattle.replayed_pieces.proofs.Replaying.{sizes-lent}
 use Rattle.replayed_pieces.proofs.pieces.cut_spans.Statement.{statement}
 use Rattle.replayed_pieces.proofs.pieces.cut_spans.Tie as tie
 

@@ -1,6 +1,7 @@
 -- The lent columns are those of their fields.
 use borrow.Author.Needs.{needs}
-use Rattle.replayed_pieces.proofs.Replaying.{splits-lent, numbers-filled}
+use Rattle.stored_answers.proofs.Differences.{numbers-filled}
+use Rattle.replayed_pieces.proofs.Replaying.{splits-lent}
 use Rattle.replayed_pieces.proofs.pieces.get_splits.Statement.{statement}
 use Rattle.replayed_pieces.proofs.pieces.get_splits.Tie as tie
 

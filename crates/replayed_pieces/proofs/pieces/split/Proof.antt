@@ -1,6 +1,7 @@
 -- The lent starts and ends are those of their fields.
 use borrow.Author.Needs.{needs}
-use Rattle.replayed_pieces.proofs.Replaying.{spans-lent, offsets-filled}
+use Rattle.stored_answers.proofs.Differences.{offsets-filled}
+use Rattle.replayed_pieces.proofs.Replaying.{spans-lent}
 use Rattle.replayed_pieces.proofs.pieces.split.Statement.{statement}
 use Rattle.replayed_pieces.proofs.pieces.split.Tie as tie
 

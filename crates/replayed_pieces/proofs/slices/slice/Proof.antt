@@ -1,6 +1,7 @@
 -- The lent columns are those of their fields.
 use borrow.Author.Needs.{needs}
-use Rattle.replayed_pieces.proofs.Replaying.{slice-lent, offsets-filled}
+use Rattle.stored_answers.proofs.Differences.{offsets-filled}
+use Rattle.replayed_pieces.proofs.Replaying.{slice-lent}
 use Rattle.replayed_pieces.proofs.slices.slice.Statement.{statement}
 use Rattle.replayed_pieces.proofs.slices.slice.Tie as tie
 

@@ -1,0 +1,2 @@
+-- Laws of replaying.
+pub mod Replaying

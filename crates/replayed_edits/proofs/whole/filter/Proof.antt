@@ -1,0 +1,27 @@
+-- What the case holds is lent, and what comes back is compared.
+use borrow.Author.Needs.{needs}
+use Rattle.zulmyren.specs.Edits.{FilterTold}
+use Rattle.replayed_edits.proofs.Replaying.{whole-replayed}
+use Rattle.replayed_edits.proofs.whole.filter.Statement.{statement}
+use Rattle.replayed_edits.proofs.whole.filter.Tie as tie
+
+returns : tie.Need-returns
+returns c =
+    let call = c .before .before .before .before .before .before .before .before .before .before in
+    let read = call .before .before .before .before in
+    whole-replayed _ _ _ (read .before .before .before .field .ensures) (read .before .before .field2 .ensures) (read .before .value .ensures) FilterTold (read .field3 .ensures) (call .zulmyren-filter .ensures) (c .is-published .ensures)
+
+pub filter-spec : {M : Type 1} → statement M
+filter-spec =
+    tie.close
+    (tie.spec
+    (λ c κs. search needs)
+    (λ c κs. search needs)
+    (λ c κs. search needs)
+    (λ c κs. search needs)
+    (λ c κs. search needs)
+    (λ c κs. search needs)
+    (λ c. search needs)
+    (λ c. search needs)
+    (λ c. search needs)
+    returns)

@@ -1,0 +1,2 @@
+-- What the replay of an edit says.
+pub mod Replaying
