@@ -1,7 +1,7 @@
 -- Laws of `measured`: a script is measured command by command.
 use Prim.Native.Nat.{ℕ, _+_, _^_, _≤_, _<_}
-use mathlib.Core.Path.{_≡_, _∙_, ap, refl, sym}
-use mathlib.Core.Bool.{Bool, true, false, cond, _||_}
+use mathlib.Core.Path.{_≡_, _∙_, ap, refl}
+use mathlib.Core.Bool.{Bool, true, false, _||_}
 use mathlib.Core.List.{List, [], _∷_}
 use native.Mathlib.Omega.{arith}
 use lib.ListN.{length, drop}
@@ -12,9 +12,8 @@ use Rattle.script.specs.declared.Entry.the-variants.{At, Broken}
 use Rattle.script.specs.Scripts.{sizeOf, entryAt, commandsOf}
 use Rattle.script.proofs.Scripts.{Stepped, entry-step, entry-broken, entries-end}
 use Rattle.edit_steps.specs.declared.walking.Progress.{Progress}
-use Rattle.edit_steps.specs.declared.walking.Extent.{Extent}
 use Rattle.edit_steps.specs.declared.walking.Extent.the-variants.{Size, Starved}
-use Rattle.edit_steps.specs.Edits.{skipped, starves, moved, starved}
+use Rattle.edit_steps.specs.Edits.{starves, moved, starved}
 use Rattle.edit_steps.specs.Walking.{Standing, Tabled, Counting, sizes, stepped, measured}
 use Rattle.edit_steps.proofs.Positions.{standing-moved, stepped-fed, stepped-told}
 

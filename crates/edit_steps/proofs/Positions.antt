@@ -1,15 +1,14 @@
 -- Laws of `skipped` and `moved`: the position goes from boundary to boundary, never back, and never past the range.
 use Prim.Native.Nat.{ℕ, zero, suc, _+_, _-_, _≤_, _<_}
-use mathlib.Core.Path.{_≡_, _∙_, ap, refl, sym}
-use mathlib.Core.Bool.{Bool, true, false, cond, not}
+use mathlib.Core.Path.{_≡_, _∙_, refl, sym}
+use mathlib.Core.Bool.{Bool, true, false}
 use mathlib.Core.List.{List}
 use native.Mathlib.Omega.{arith}
-use lib.Dec.{leb, ltb}
-use lib.ListN.{length, getD}
-use borrow.Author.Tests.{lt-ltb, le-ltb, le-leb, lt-leb, leb-false}
+use lib.Dec.{leb}
+use lib.ListN.{getD}
+use borrow.Author.Tests.{lt-ltb, le-ltb, leb-false}
 use Rattle.buffers.proofs.Cases.{le-or-lt, true-or-false, clash}
-use Rattle.buffers.proofs.Booleans.{and-false-l, and-false-r}
-use Rattle.utf8.specs.Formed.{announced, continues, boundary}
+use Rattle.utf8.specs.Formed.{announced, continues}
 use Rattle.utf8.specs.Lengths.{CharBegins, CharLen}
 use Rattle.utf8.proofs.Boundaries.{CharAt, char-at, boundary-begins, boundary-most}
 use Rattle.script.specs.declared.Command.{Command}

@@ -1,20 +1,17 @@
 -- What the inner functions are told and say: a position in the range, the record that goes through a script, the script
 -- measured, and what has been laid into the lent buffers.
-use Prim.Native.Nat.{ℕ, _+_, _-_, _^_, _≤_, _<_}
+use Prim.Native.Nat.{ℕ, _+_, _^_, _≤_, _<_}
 use mathlib.Core.Path.{_≡_}
 use mathlib.Core.Bool.{true, false, cond}
-use mathlib.Core.List.{List, [], _∷_, _++_}
-use lib.ListN.{length, drop}
-use Rattle.buffers.specs.Splice.{splice, overlay}
+use mathlib.Core.List.{List, [], _∷_}
 use Rattle.utf8.specs.Formed.{wellFormed, boundary}
-use Rattle.utf8.specs.Scalar.{bytesOf}
 use Rattle.utf8.specs.Lengths.{lengthTable}
 use Rattle.script.specs.declared.Command.{Command}
-use Rattle.script.specs.Scripts.{sizeOf, commandsOf}
+use Rattle.script.specs.Scripts.{sizeOf}
 use Rattle.edit_steps.specs.declared.walking.Progress.{Progress}
 use Rattle.edit_steps.specs.declared.walking.Extent.{Extent}
 use Rattle.edit_steps.specs.declared.walking.Extent.the-variants.{Size, Starved}
-use Rattle.edit_steps.specs.Edits.{starves, moved, starved, characters, carried, given, Edit, begins, edited}
+use Rattle.edit_steps.specs.Edits.{starves, moved, starved}
 
 -- a position of a well-formed text, at a boundary before another one or there
 pub record Standing (s : List ℕ) (b p : ℕ) : Type 0 where

@@ -10,8 +10,8 @@ ghost use Rattle.script.specs.Scripts.{commandsOf};
 ghost use Rattle.edit_steps.specs.Edits.{skipped, starves};
 ghost use Rattle.edit_steps.specs.Walking.{Counting, Tabled, measured, stepped};
 
-// How far an edit is: the running position in the cleaned text, how many bytes have been written so far, and whether the
-// last command found no character left. It is lent to each command and advanced there.
+// How far an edit is: the running position in the cleaned text, how many bytes have been written so far, and whether
+// the last command found no character left. It is lent to each command and advanced there.
 pub struct Progress {
     pub position: usize,
     pub written: usize,

@@ -114,7 +114,16 @@ fn lay_codes(
             added: false,
             removed: 0,
         };
-        lay_command(starts, ends, progress, command, out, out_starts, out_ends);
+        lay_command(
+            starts,
+            ends,
+            progress,
+            command,
+            out,
+            out_starts,
+            out_ends,
+            0,
+        );
         progress = advanced(text, to, progress, command, table);
         i += 1;
     }
