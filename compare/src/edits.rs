@@ -12,7 +12,7 @@ use tokenizers::normalizer::Range;
 use tokenizers::NormalizedString;
 
 /// A character and its change, as the Rust takes them.
-pub type Change = (char, isize);
+type Change = (char, isize);
 
 const STRINGS: [&str; 5] = ["", "x", "é", "xé", "日x"];
 
@@ -123,7 +123,7 @@ fn short_notes() -> Vec<Note> {
 }
 
 /// The script's bytes, written from docs/RULES.md.
-pub fn bytes(changes: &[Change]) -> Vec<u8> {
+fn bytes(changes: &[Change]) -> Vec<u8> {
     let mut script = vec![];
     for &(character, change) in changes {
         script.push(match change {
