@@ -23,7 +23,9 @@ use Rattle.pattern.proofs.Places.{covers-places}
 use Rattle.slice.proofs.Judged.{Short, accepted-short}
 use Rattle.behaviors.specs.declared.SplitDelimiterBehavior.{SplitDelimiterBehavior}
 use Rattle.behaviors.specs.declared.Sizes.{Sizes}
+use Rattle.behaviors.specs.declared.EmptyPieces.the-variants.{Dropped}
 use Rattle.behaviors.specs.Runs.{sizesWith, Listed}
+use Rattle.behaviors.proofs.Runs.{pieces-few}
 use Rattle.splits.specs.SplitOffsets.{splitPieces, splitsFaults}
 
 no-more : (a : ℕ) → 0 + a ≡ a
@@ -71,6 +73,12 @@ module _ (most : ℕ) (n : Note) (list : List ℕ) (behavior : SplitDelimiterBeh
           let size : s .pieces ≡ length (splitPieces list behavior) = ap (λ (x : Sizes). x .pieces) sum ∙ no-more (length (splitPieces list behavior)) in
           past-note (accepted-then 6 (listFaults (n .normalized) list) small refl refl {v = Accepted} (covered (sym tested ∙ y)) refl
           (is ∙ rw size (room-verdict (length (splitPieces list behavior)) room)))
+
+      -- as many pieces as places
+      pub judged-roomy : {places : ℕ} → t ≡ true → length (placesOf list) ≤ places → places ≤ room → Accepted ≡ verdict (splitsFaults most n list behavior room)
+      judged-roomy y few enough =
+          let some : length (splitPieces list behavior) ≤ room = omega (arith, pieces-few behavior Dropped (placesOf list)) in
+          past-note (accepted-then 6 (listFaults (n .normalized) list) small refl refl {v = Accepted} (covered (sym tested ∙ y)) refl (enough-room some))
 
   -- WHAT AN ACCEPTED CALL TELLS
   module _ (e : verdict (splitsFaults most n list behavior room) ≡ Accepted) where

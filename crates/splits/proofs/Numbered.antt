@@ -1,12 +1,14 @@
 -- Laws of `fromByte`, `toByte`, `startNumber` and `endNumber`: the numbers of one piece, case by case as the code comes to them.
-use Prim.Native.Nat.{ℕ, _+_, _-_, _≤_, _<_}
-use mathlib.Core.Path.{_≡_}
+use Prim.Native.Nat.{ℕ, _+_, _-_, _≤_, _<_, min}
+use mathlib.Core.Path.{_≡_, _∙_, ap, refl, sym}
 use mathlib.Core.List.{List}
 use native.Mathlib.Omega.{arith}
 use lib.ListN.{length, getD}
 use borrow.Author.Tests.{lt-ltb, le-ltb}
+use Rattle.buffers.proofs.Cases.{le-or-lt}
 use Rattle.char_offsets.specs.Positions.{indexOf, endIndex, pairOf}
 use Rattle.char_offsets.specs.Steps.{IndexKnown}
+use Rattle.char_offsets.proofs.PairTold.{end-inside, end-last}
 use Rattle.convert.specs.declared.OffsetReferential.{OffsetReferential}
 use Rattle.convert.specs.declared.OffsetReferential.the-variants.{Original, Normalized}
 use Rattle.splits.specs.declared.OffsetType.{OffsetType}
@@ -28,6 +30,25 @@ module _ (starts ends : List ℕ) (shift sum a b : ℕ) {side : OffsetReferentia
 -- a byte inside the text, and its character
 pub cursor-at : {most : ℕ} {s : List ℕ} {at index : ℕ} → length s ≤ most → at < length s → index ≡ indexOf s at → IndexKnown most s at index
 cursor-at short below is = record { short = short; inside = omega arith; so-far = is }
+
+-- a start where the last end was
+pub start-same : {most : ℕ} {s : List ℕ} {a : ℕ} {first last : Cursor} → BothKnown most s first last → a ≡ last .at → last .index ≡ indexOf s a
+start-same {s = s} known is = known .last-known .so-far ∙ ap (indexOf s) (sym is)
+
+-- the character past an end, from that of the last byte there or before
+pub end-near : (s : List ℕ) (a e : ℕ) {at past : ℕ} → a < length s → e ≤ length s → at ≡ min e (length s - 1) → past ≡ indexOf s at → past + (e - at) ≡ endIndex s a e
+end-near s a e {at} {past} some most is l =
+    le-or-lt (length s) e
+    (λ whole.
+    let back : at ≡ e - 1 = omega arith in
+    let told : endIndex s a e ≡ indexOf s (e - 1) + 1 = end-last a e some (omega arith) .right s refl in
+    let here : past ≡ indexOf s (e - 1) = l ∙ ap (indexOf s) back in
+    omega (arith, told, here, back))
+    (λ below.
+    let same : at ≡ e = omega arith in
+    let told : endIndex s a e ≡ indexOf s e + 0 = end-inside a e some below .right s refl in
+    let here : past ≡ indexOf s e = l ∙ ap (indexOf s) same in
+    omega (arith, told, here, same))
 
 module _ {most : ℕ} (s : List ℕ) (a e : ℕ) {first last : Cursor} (known : BothKnown most s first last) where
   pub unmapped : length s ≤ a → Stepped most s Char a e (record { start = a; end = e; first = first; last = last })

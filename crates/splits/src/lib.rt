@@ -5,6 +5,7 @@ use behaviors::measure;
 use behaviors::wide::write_spans;
 use buffers::Offset;
 use char_offsets::index_from;
+use char_offsets::index_near;
 use checks::check_note;
 use checks::least_of_two;
 use convert::OffsetReferential;
@@ -12,9 +13,13 @@ use note::Refusal;
 use note::Verdict;
 use note::answers::refused_if;
 use pattern::covers;
+use pattern::most_places;
 ghost use mathlib.Core.Path.{_≡_};
+ghost use Prim.Native.Nat.{_<_};
+ghost use lib.ListN.{length};
 ghost use Rattle.note.specs.Notes.{lent, limit};
 ghost use Rattle.note.specs.Refusals.{verdict};
+ghost use Rattle.char_offsets.specs.Positions.{indexOf};
 ghost use Rattle.splits.specs.declared.OffsetType.the-variants.{Char};
 ghost use Rattle.splits.specs.SplitOffsets.{GetSplits, splitsFaults};
 ghost use Rattle.splits.specs.Steps.{BothKnown, BytesAre, Piece, SpansConverted, SpansReady, Stepped};
@@ -80,6 +85,19 @@ fn piece_bytes(
     }
 }
 
+// The character of the byte `from`: that of the last byte where they are the same, as along pieces without a gap; else
+// from the first one on.
+fn start_index(text: &[u8], first: Cursor, last: Cursor, from: usize) -> u32
+    requires { ⌜ BothKnown limit (now text) first last ⌝ }
+    requires { ⌜ from < length (now text) ⌝ }
+    ensures { λ r. ⌜ r ≡ indexOf (now (text .entry)) from ⌝ }
+{
+    if from == last.at {
+        return last.index;
+    }
+    index_from(text, first.at, first.index, from)
+}
+
 // Two bytes as characters of the text; the bytes themselves where the text has none at `start`. Starts and ends have a
 // byte each to go on from: along pieces neither goes back, so that a list takes one pass.
 fn in_chars(text: &[u8], first: Cursor, last: Cursor, start: u32, end: u32) -> Offsets
@@ -96,7 +114,7 @@ fn in_chars(text: &[u8], first: Cursor, last: Cursor, start: u32, end: u32) -> O
             last,
         };
     }
-    let index = index_from(text, first.at, first.index, from);
+    let index = start_index(text, first, last, from);
     let first = Cursor { at: from, index };
     if text.len() < to {
         return Offsets {
@@ -106,27 +124,13 @@ fn in_chars(text: &[u8], first: Cursor, last: Cursor, start: u32, end: u32) -> O
             last,
         };
     }
-    if to == text.len() {
-        let before = index_from(text, last.at, last.index, to - 1);
-        return Offsets {
-            start: index,
-            end: before + 1,
-            first,
-            last: Cursor {
-                at: to - 1,
-                index: before,
-            },
-        };
-    }
-    let past = index_from(text, last.at, last.index, to);
+    let at = least_of_two(to, text.len() - 1);
+    let past = index_near(text, last.at, last.index, at);
     Offsets {
         start: index,
-        end: past,
+        end: past + (to - at) as u32,
         first,
-        last: Cursor {
-            at: to,
-            index: past,
-        },
+        last: Cursor { at, index: past },
     }
 }
 
@@ -209,6 +213,9 @@ fn check_splits(
     }
     if !covers(normalized, list) {
         return Verdict::Refused(Refusal::BadMatches);
+    }
+    if most_places(list) <= room {
+        return Verdict::Accepted;
     }
     let sizes = measure(list, behavior, EmptyPieces::Dropped);
     refused_if(room < sizes.pieces, Refusal::NoRoom)

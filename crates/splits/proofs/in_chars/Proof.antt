@@ -1,45 +1,38 @@
--- A start past the text; an end past it, at its end, inside it.
-use Prim.Native.Nat.{_-_}
+-- A start past the text; an end past it, else inside it or at its end.
 use mathlib.Core.Path.{refl}
 use native.Mathlib.Omega.{arith}
 use borrow.Author.Needs.{needs}
 use Rattle.char_offsets.proofs.IndexOf.{index-most}
-use Rattle.char_offsets.proofs.PairTold.{end-inside, end-last, end-past}
-use Rattle.splits.proofs.Numbered.{cursor-at, unmapped, mapped-chars}
+use Rattle.char_offsets.proofs.PairTold.{end-past}
+use Rattle.splits.proofs.Numbered.{cursor-at, end-near, unmapped, mapped-chars}
 use Rattle.splits.proofs.in_chars.Statement.{statement}
 use Rattle.splits.proofs.in_chars.Tie as tie
 
 add-two : tie.Need-add-t14
 add-two c =
     let entry = c .before .before .before .before in
-    omega (arith, c .before .index-from .ensures, index-most (entry .args .text .now) (entry .args .start), entry .pre .first-known .short)
+    omega (arith, c .before .start-index .ensures, index-most (entry .args .text .now) (entry .args .start), entry .pre .first-known .short)
 
 returns-2 : tie.Need-returns-2
 returns-2 c =
     let entry = c .before .before .before .before in
     let args = entry .args in
     let below = c .before .before .if1 .left in
-    let first = c .before .index-from .ensures in
+    let first = c .before .start-index .ensures in
     mapped-chars _ _ _ (record { first-known = cursor-at (entry .pre .first-known .short) below first; last-known = entry .pre .last-known }) below first (omega (arith, first, end-past (args .start) (args .end) below (c .if2 .taken) .right (args .text .now) refl))
 
-add-one-more : tie.Need-add-t16
-add-one-more c =
+add-past : tie.Need-add-t17
+add-past c =
     let entry = c .before .before .before .before .before .before in
-    omega (arith, c .index-from2 .ensures, index-most (entry .args .text .now) (entry .args .end - 1), entry .pre .last-known .short)
+    omega (arith, c .index-near .ensures, c .before .least-of-two .ensures, index-most (entry .args .text .now) (c .before .least-of-two .result), entry .pre .last-known .short)
 
 returns-3 : tie.Need-returns-3
 returns-3 c =
     let entry = c .before .before .before .before .before .before in
     let below = c .before .before .before .before .if1 .left in
-    let first = c .before .before .before .index-from .ensures in
-    mapped-chars _ _ _ (record { first-known = cursor-at (entry .pre .first-known .short) below first; last-known = cursor-at (entry .pre .last-known .short) (omega arith) (c .index-from2 .ensures) }) below first (omega (arith, c .index-from2 .ensures, end-last (entry .args .start) (entry .args .end) below (c .before .if3 .taken) .right (entry .args .text .now) refl))
-
-returns-4 : tie.Need-returns-4
-returns-4 c =
-    let entry = c .before .before .before .before .before .before in
-    let below = c .before .before .before .before .if1 .left in
-    let first = c .before .before .before .index-from .ensures in
-    mapped-chars _ _ _ (record { first-known = cursor-at (entry .pre .first-known .short) below first; last-known = cursor-at (entry .pre .last-known .short) (omega arith) (c .index-from3 .ensures) }) below first (omega (arith, c .index-from3 .ensures, end-inside (entry .args .start) (entry .args .end) below (omega arith) .right (entry .args .text .now) refl))
+    let first = c .before .before .before .start-index .ensures in
+    let at = c .before .least-of-two .ensures in
+    mapped-chars _ _ _ (record { first-known = cursor-at (entry .pre .first-known .short) below first; last-known = cursor-at (entry .pre .last-known .short) (omega (arith, at)) (c .index-near .ensures) }) below first (end-near _ _ _ below (c .before .before .if2 .left) at (c .index-near .ensures))
 
 pub in-chars-spec : {M : Type 1} → statement M
 in-chars-spec =
@@ -51,8 +44,8 @@ in-chars-spec =
     returns-2
     (λ c. search needs)
     (λ c κs. search needs)
-    add-one-more
-    (λ c. search needs)
-    returns-3
     (λ c κs. search needs)
-    returns-4)
+    (λ c. search needs)
+    (λ c. search needs)
+    add-past
+    returns-3)
