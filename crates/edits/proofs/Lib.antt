@@ -1,6 +1,7 @@
 -- Laws of whole-note edits.
 pub mod Characters
 pub mod Codes
+pub mod Shares
 pub mod Head
 pub mod Sifted
 pub mod Inputs

@@ -1,11 +1,11 @@
 -- An edit behind inputs that are accepted: what it is refused for, by the note that it makes.
 use Prim.Native.Nat.{ℕ, _≤_, _<_, min}
-use mathlib.Core.Path.{_≡_, _∙_, ap, refl, sym}
+use mathlib.Core.Path.{_≡_, _∙_, ap, refl}
 use mathlib.Core.Bool.{Bool, true, false}
 use mathlib.Core.List.{List}
 use native.Mathlib.Omega.{arith}
 use lib.ListN.{length, drop}
-use Rattle.buffers.specs.Splice.{splice, overlay}
+use Rattle.buffers.specs.Splice.{splice}
 use Rattle.buffers.proofs.Splice.{splice-overlay}
 use Rattle.note.specs.declared.Refusal.{Refusal}
 use Rattle.note.specs.declared.Refusal.the-variants.{Exhausted, NoRoom}
@@ -14,7 +14,7 @@ use Rattle.note.specs.declared.Verdict.the-variants.{Accepted, Refused as Rejec
 use Rattle.note.specs.Refusals.{order, also, verdict}
 use Rattle.note.specs.Notes.{Note}
 use Rattle.note.proofs.Verdicts.{unmet, accepted-then}
-use Rattle.edit_steps.specs.Edits.{characters, starved, Edit, placed, begins, edited, transformed}
+use Rattle.edit_steps.specs.Edits.{characters, Edit, edited, transformed}
 use Rattle.transform.specs.Transforming.{editFaults}
 use Rattle.transform.proofs.Verdicts.{starving, too-large, small-enough}
 use Rattle.edits.specs.declared.Clearing.the-variants.{Cleared, Refused}

@@ -10,6 +10,7 @@ use lib.ListN.{length, getD, take, drop, replicate, drop-of-length-le, length-dr
 use lib.Seq.{drop-cons, length-take-le}
 use borrow.Author.Tests.{le-leb, lt-leb, lt-ltb, ltb-false}
 use Rattle.buffers.proofs.Cases.{le-or-lt, true-or-false, clash}
+use Rattle.buffers.proofs.Splice.{length-part}
 use Rattle.utf8.specs.Formed.{announced, wellFormed, continues, boundary}
 use Rattle.utf8.specs.Scalar.{bytesOf}
 use Rattle.utf8.specs.Letters.{lettersFrom, letters, leadAt, leads}
@@ -22,9 +23,10 @@ use Rattle.script.specs.Scripts.{sizeOf}
 use Rattle.edit_steps.specs.Edits.{skipped, starves, moved, starved, carries, characters, carried, given, begins, relaid, edited, transformed, unchanging}
 use Rattle.edit_steps.specs.Walking.{Standing}
 use Rattle.edit_steps.proofs.Positions.{standing-next, skipped-none, skipped-past, skipped-on, starves-replacing, moved-replacing}
-use Rattle.edits.specs.Characters.{codesFrom, codesOf, textOf}
+use Rattle.edits.specs.Characters.{codeAt, codesFrom, codesOf, textOf}
 use Rattle.edits.specs.Whole.{replacing, allReplacing, wholeEdit, mapEdit, droppedAhead, anyKept, keptCommands, filterEdit}
 use Rattle.edits.specs.Plain.{MakesUnless, headBytes, headLetters, ofLetters, spread, mapped, MappedClosed, sifted, cleared, sieved, tailKept, FilteredClosed}
+use Rattle.edits.proofs.Characters.{code-bytes}
 use Rattle.edits.proofs.Head.{none-of, head-is-all, head-most, head-stands, head-placed, zero-placed, whole-cases}
 
 -- characters skipped one by one
@@ -34,7 +36,7 @@ skipped-suc s b d p =
     (λ past. skipped-past s b (suc d) p past ∙ sym (rw (skipped-past s b 1 p past) (skipped-past s b d p past)))
     (λ more. skipped-on s b d p more ∙ sym (rw (skipped-on s b 0 p more, skipped-none s b (p + announced (getD s p 0)))))
 
-sifted-none : (ks : List ℕ) → sifted ks [] ≡ []
+pub sifted-none : (ks : List ℕ) → sifted ks [] ≡ []
 unfolding sifted
 sifted-none [] = refl
 sifted-none (k ∷ ks) = refl
@@ -118,7 +120,7 @@ no-flags [] = refl
 no-flags (c ∷ cs) = refl
 
 -- what they give to the text, wherever they stand
-given-sifted : (s : List ℕ) (b p : ℕ) (cs ks : List ℕ) → given characters s b p (keptCommands cs ks) ≡ textOf (sifted ks cs)
+pub given-sifted : (s : List ℕ) (b p : ℕ) (cs ks : List ℕ) → given characters s b p (keptCommands cs ks) ≡ textOf (sifted ks cs)
 unfolding keptCommands given sifted textOf
 given-sifted s b p [] [] = refl
 given-sifted s b p [] (k ∷ ks) = refl
@@ -139,16 +141,16 @@ starved-past s b p (c ∷ cs) (k ∷ ks) past same =
     (λ drops. rw drops (starved-past s b p cs ks past (omega arith)))
     (λ keeps. rw (keeps, le-leb b p past))
 
-sifts-out : (k x : ℕ) (xs ks : List ℕ) → eqb k 0 ≡ true → sifted (k ∷ ks) (x ∷ xs) ≡ sifted ks xs
+pub sifts-out : (k x : ℕ) (xs ks : List ℕ) → eqb k 0 ≡ true → sifted (k ∷ ks) (x ∷ xs) ≡ sifted ks xs
 unfolding sifted
 sifts-out k x xs ks e = rw e
 
-sifts-in : (k x : ℕ) (xs ks : List ℕ) → eqb k 0 ≡ false → sifted (k ∷ ks) (x ∷ xs) ≡ x ∷ sifted ks xs
+pub sifts-in : (k x : ℕ) (xs ks : List ℕ) → eqb k 0 ≡ false → sifted (k ∷ ks) (x ∷ xs) ≡ x ∷ sifted ks xs
 unfolding sifted
 sifts-in k x xs ks e = rw e
 
 -- where nothing is kept
-none-sifted : (ks xs : List ℕ) → anyKept ks ≡ false → sifted ks xs ≡ []
+pub none-sifted : (ks xs : List ℕ) → anyKept ks ≡ false → sifted ks xs ≡ []
 unfolding anyKept sifted
 none-sifted [] xs e = refl
 none-sifted (k ∷ ks) [] e = refl
@@ -166,9 +168,17 @@ none-commands (c ∷ cs) (k ∷ ks) e =
     (λ drops. rw drops (none-commands cs ks (rw drops at e)))
     (λ keeps. clash true refl (rw keeps at e))
 
-spread-on : (c x : ℕ) (cs xs : List ℕ) {r : List ℕ} → r ≡ spread cs xs → replicate (sizeOf c) x ++ r ≡ spread (c ∷ cs) (x ∷ xs)
+pub spread-on : (c x : ℕ) (cs xs : List ℕ) {r : List ℕ} → r ≡ spread cs xs → replicate (sizeOf c) x ++ r ≡ spread (c ∷ cs) (x ∷ xs)
 unfolding spread
 spread-on c x cs xs e = ap (_++_ (replicate (sizeOf c) x)) e
+
+pub kept-cons : (k : ℕ) (ks : List ℕ) → eqb k 0 ≡ true → anyKept (k ∷ ks) ≡ anyKept ks
+unfolding anyKept
+kept-cons k ks e = rw e
+
+pub kept-now : (k : ℕ) (ks : List ℕ) → eqb k 0 ≡ false → anyKept (k ∷ ks) ≡ true
+unfolding anyKept
+kept-now k ks e = rw e
 
 module _ (s : List ℕ) where
   abbrev end : ℕ
@@ -192,19 +202,11 @@ module _ (s : List ℕ) where
   one-on : (p : ℕ) → p < end → skipped s end 1 p ≡ p + announced (getD s p 0)
   one-on p more = skipped-on s end 0 p more ∙ skipped-none s end (p + announced (getD s p 0))
 
-  kept-cons : (k : ℕ) (ks : List ℕ) → eqb k 0 ≡ true → anyKept (k ∷ ks) ≡ anyKept ks
-  unfolding anyKept
-  kept-cons k ks e = rw e
-
-  kept-now : (k : ℕ) (ks : List ℕ) → eqb k 0 ≡ false → anyKept (k ∷ ks) ≡ true
-  unfolding anyKept
-  kept-now k ks e = rw e
-
   starved-cons : (p : ℕ) (c : Command) (cs : List Command) → c .added ≡ false → p < end → starved s end p (c ∷ cs) ≡ starved s end (moved s end p c) cs
   unfolding starved
   starved-cons p c cs replaces more = rw (starves-replacing end p c replaces, lt-leb end p more)
 
-  no-leads : (p : ℕ) → end ≤ p → leads (drop p s) ≡ 0
+  pub no-leads : (p : ℕ) → end ≤ p → leads (drop p s) ≡ 0
   unfolding leads
   no-leads p past = rw (drop-of-length-le s past)
 
@@ -370,6 +372,13 @@ module _ (n : Note) (sound : Sound n) (codes flags : List ℕ) (coded : length c
       behind-sieved start-sieved nothing-sieved
 
 -- FILTER
+-- a code point's width
+pub code-size : (s : List ℕ) (q : ℕ) → wellFormed s ≡ true → boundary s q ≡ true → q < length s → sizeOf (codeAt s q) ≡ announced (getD s q 0)
+unfolding sizeOf
+code-size s q w e h =
+    let here = char-at s q w e h in
+    ap length (code-bytes s q w e h) ∙ (length-part s q (q + announced (getD s q 0)) (here .inside) ∙ omega arith)
+
 length-codes : (k : ℕ) (s : List ℕ) → length (codesFrom k s) ≡ lettersFrom k s
 unfolding codesFrom lettersFrom
 length-codes k [] = refl

@@ -2,3 +2,5 @@
 pub mod Kept
 pub mod Flagged
 pub mod Counted
+pub mod Chosen
+pub mod Spanned

@@ -1,2 +1,3 @@
 -- Filtering (RULES 8).
 pub mod Flags
+pub mod Chosen

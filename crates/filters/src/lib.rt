@@ -1,7 +1,12 @@
 // Filtering (RULES 8; Rust: `filter`): a flag for each cleaned character, 0 drops it.
+mod bytewise;
+
 use buffers::Offset;
 use buffers::copy_bytes;
 use buffers::fill_offsets;
+use bytewise::kept_end;
+use bytewise::lay_kept;
+use bytewise::spans;
 use checks::check_note;
 use checks::least_of_two;
 use checks::least_room;
@@ -34,6 +39,7 @@ ghost use Rattle.edit_steps.specs.Laying.{CommandsLaid, Editable, EditLaid};
 ghost use Rattle.transform.specs.Transforming.{editFaults, Rewritten};
 ghost use Rattle.edit_steps.specs.Walking.{measured};
 ghost use Rattle.edits.specs.Whole.{filterEdit, filterFaults};
+ghost use Rattle.filters.specs.Chosen.{RangeReady};
 ghost use Rattle.filters.specs.Flags.{begun, counts, FilterRoom, FlagLaid, FlagRoom, FlagsReady, FlagsRoom};
 ghost use Rattle.filters.specs.Flags.{kept, skips, wants};
 
@@ -272,6 +278,56 @@ fn edit_flags(
     }
 }
 
+// The same where the bytes of each character carry one alignment: the whole text is filtered byte by byte.
+fn filter_range(
+    text: &[u8],
+    starts: &[Offset],
+    ends: &[Offset],
+    from: usize,
+    to: usize,
+    flags: &[u8],
+    out: &mut [u8],
+    out_starts: &mut [Offset],
+    out_ends: &mut [Offset],
+) -> Editing
+    requires { ⌜ RangeReady (now text) (now starts) (now ends) (now flags) ⌝ }
+    ensures { λ r. ⌜ Rewritten
+        (verdict (editFaults limit (now (text .entry))
+        (record {
+          from = from;
+          to = to;
+          skip = skips (now (flags .entry));
+          commands = kept (now (text .entry)) (now (flags .entry));
+        })
+        (least (length (now (out .entry))) (length (now («out_starts» .entry))) (length (now («out_ends» .entry))))))
+        (transformed (lent [] (now (text .entry)) (now (starts .entry)) (now (ends .entry)) 0)
+        (record {
+          from = from;
+          to = to;
+          skip = skips (now (flags .entry));
+          commands = kept (now (text .entry)) (now (flags .entry));
+        }))
+        (now (out .entry)) (now («out_starts» .entry)) (now («out_ends» .entry))
+        r (now (out .exit)) (now («out_starts» .exit)) (now («out_ends» .exit)) ⌝ }
+{
+    let room = least_room(out.len(), out_starts.len(), out_ends.len());
+    if spans(from, to, text.len(), room) {
+        let end = kept_end(text, flags);
+        return Editing::Edited(lay_kept(text, starts, ends, flags, end, out, out_starts, out_ends));
+    }
+    edit_flags(
+        text,
+        starts,
+        ends,
+        from,
+        to,
+        flags,
+        out,
+        out_starts,
+        out_ends,
+    )
+}
+
 // Rust: `filter`. Refusals: those of a note, 11 for another number of flags than cleaned characters, then the edit's.
 pub fn filter(
     original: &[u8],
@@ -311,7 +367,7 @@ pub fn filter(
                 ends,
                 Range::Original(OriginalByte(0), OriginalByte(original.len() as u32)),
             ) {
-                Converted::Found(found) => edit_flags(
+                Converted::Found(found) => filter_range(
                     normalized,
                     starts,
                     ends,

@@ -1,44 +1,35 @@
 -- `append` and `prepend` by their commands are what their plain words say.
-use Prim.Native.Nat.{ℕ, zero, suc, _+_, _-_, _≤_, _<_}
+use Prim.Native.Nat.{ℕ, _+_, _-_, _≤_, _<_}
 use mathlib.Core.Path.{_≡_, _∙_, ap, refl, sym}
-use mathlib.Core.Bool.{Bool, true, false, cond, _&&_, _||_, not}
+use mathlib.Core.Bool.{true, false}
 use mathlib.Core.List.{List, [], _∷_, _++_, append-assoc, append-nil}
-use mathlib.Mathlib.Data.Bool.Basic.{and-intro}
 use native.Mathlib.Omega.{arith}
-use lib.Dec.{leb, eqb}
 use lib.ListN.{length, getD, take, drop, replicate, length-append, drop-of-length-le, take-append-drop}
-use lib.Seq.{take-length}
-use borrow.Author.Tests.{le-leb, lt-leb, eq-eqb, ne-eqb}
+use borrow.Author.Tests.{lt-leb, eq-eqb, ne-eqb}
 use Rattle.buffers.specs.Splice.{part}
-use Rattle.buffers.proofs.Cases.{le-or-lt, true-or-false}
+use Rattle.buffers.proofs.Cases.{le-or-lt}
 use Rattle.buffers.proofs.Splice.{length-part, part-end}
 use Rattle.utf8.specs.Formed.{announced, wellFormed, boundary}
 use Rattle.utf8.specs.Scalar.{bytesOf}
 use Rattle.utf8.proofs.Boundaries.{char-at, boundary-zero, boundary-length}
-use Rattle.note.specs.Notes.{Note, lent, startAt, endAt, beforeEnd, Sound}
+use Rattle.note.specs.Notes.{Note, lent, beforeEnd, Sound}
 use Rattle.note.specs.Starting.{charStart, charEnd}
 use Rattle.note.proofs.Starting.{Ranged, ranged}
 use Rattle.note.proofs.BeforeEnd.{before-none}
 use Rattle.note.proofs.Sound.{length-starts, length-ends, normalized-formed}
 use Rattle.script.specs.declared.Command.{Command}
 use Rattle.script.specs.Scripts.{sizeOf}
-use Rattle.edit_steps.specs.Edits.{skipped, starves, moved, starved, carries, characters, carried, given, Edit, placed, begins, relaid, edited, transformed, unchanging}
-use Rattle.edit_steps.specs.Walking.{Standing}
+use Rattle.edit_steps.specs.Edits.{skipped, starves, moved, starved, carries, characters, carried, given, placed, begins, relaid, edited, transformed, unchanging}
 use Rattle.edit_steps.proofs.Positions.{skipped-none, skipped-on, moved-replacing, starves-replacing}
 use Rattle.edit_steps.proofs.Given.{unchanged}
 use Rattle.edits.specs.Characters.{codeAt, codesOf, textOf}
 use Rattle.edits.specs.Whole.{replacing, adding, allAdding, replacingFirst, appendEdit, prependEdit}
 use Rattle.edits.proofs.Characters.{code-bytes, codes-none, codes-cons, codes-text}
-use Rattle.joins.specs.Joining.{Makes, appended, AppendedClosed, frontOf, prepended, PrependedClosed}
-use Rattle.joins.proofs.Adding.{replicate-add, adding-text, adding-fed, adding-column, starts-part, ends-part, last-shares}
-
-pub none-of : (xs : List ℕ) → length xs ≡ 0 → xs ≡ []
-none-of [] e = refl
-none-of (x ∷ xs) e = absurd (omega arith)
-
-is-placed : (s : List ℕ) (a b : ℕ) → a ≤ b → boundary s a ≡ true → boundary s b ≡ true → placed s a b ≡ true
-unfolding placed
-is-placed s a b h p q = rw (le-leb a b h, p, q)
+use Rattle.joins.specs.Joining.{appended, AppendedClosed, frontOf, prepended, PrependedClosed}
+use Rattle.edits.proofs.Shares.{starts-part, ends-part, last-shares}
+use Rattle.edits.specs.Plain.{Makes}
+use Rattle.edits.proofs.Head.{none-of, is-placed}
+use Rattle.joins.proofs.Adding.{replicate-add, adding-text, adding-fed, adding-column}
 
 -- one character of a sound note replaced by itself: its bytes, its alignments, and where the position is then
 module _ (n : Note) (sound : Sound n) (p : ℕ) (e : boundary (n .normalized) p ≡ true) (h : p < length (n .normalized)) where

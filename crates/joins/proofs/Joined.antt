@@ -2,10 +2,10 @@
 use Prim.Native.Nat.{ℕ, _+_, _-_, _≤_, _<_, min}
 use mathlib.Core.Path.{_≡_, _∙_, ap, refl, sym}
 use mathlib.Core.Bool.{Bool, true, false, not}
-use mathlib.Core.List.{List, [], _++_}
+use mathlib.Core.List.{List, _++_}
 use native.Mathlib.Omega.{arith}
 use lib.Dec.{leb}
-use lib.ListN.{length, getD, take, drop, replicate, length-append, length-replicate}
+use lib.ListN.{length, getD, drop, replicate, length-append, length-replicate}
 use lib.Seq.{take-length}
 use borrow.Author.Tests.{not-true, not-false, le-leb, lt-leb, leb-true, leb-false, eq-eqb, ne-eqb}
 use Rattle.buffers.specs.Splice.{part, splice, overlay}
@@ -26,13 +26,15 @@ use Rattle.note.proofs.Faults.{accepted-sound, string-formed}
 use Rattle.transform.specs.declared.Editing.{Editing}
 use Rattle.transform.specs.declared.Editing.the-variants.{Edited, Refused as Refusing}
 use Rattle.edit_steps.specs.Edits.{characters, Edit, edited, transformed}
-use Rattle.transform.specs.Transforming.{editFaults, Rewritten}
+use Rattle.transform.specs.Transforming.{Rewritten}
 use Rattle.edit_steps.specs.Laying.{Kept}
 use Rattle.transform.proofs.Verdicts.{inputs-refused, inputs-accepted, too-large, small-enough, refused-rewritten, accepted-rewritten}
 use Rattle.edits.specs.Whole.{appendEdit, prependEdit, joinFaults}
-use Rattle.joins.specs.Joining.{Makes, appended, frontOf, prepended}
-use Rattle.joins.specs.Laying.{JoinRoom, AppendedLaid, ColumnRoom, PrependRoom, PrependedLaid}
-use Rattle.joins.proofs.Closed.{none-of, appended-closed, prepended-closed}
+use Rattle.edits.specs.Plain.{Makes}
+use Rattle.joins.specs.Joining.{appended, frontOf, prepended}
+use Rattle.joins.specs.Laying.{JoinRoom, AppendedLaid, PrependRoom, PrependedLaid}
+use Rattle.edits.proofs.Head.{none-of}
+use Rattle.joins.proofs.Closed.{appended-closed, prepended-closed}
 
 -- the test of two lengths
 pub too-little : (kept more room : ℕ) → room < kept → false ≡ leb (kept + more) room

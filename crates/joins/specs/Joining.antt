@@ -1,21 +1,14 @@
 -- RULES 8: `append` and `prepend` in plain words, beside their definitions by commands.
-use Prim.Native.Nat.{ℕ, _+_, _≤_}
+use Prim.Native.Nat.{ℕ, _+_}
 use mathlib.Core.Path.{_≡_}
-use mathlib.Core.Bool.{true, false, cond}
+use mathlib.Core.Bool.{true, cond}
 use mathlib.Core.List.{List, _++_}
 use lib.Dec.{eqb}
 use lib.ListN.{length, getD, drop, replicate}
-use Rattle.buffers.specs.Splice.{overlay}
 use Rattle.utf8.specs.Formed.{announced, wellFormed}
 use Rattle.note.specs.Notes.{Note, lent, beforeEnd, Sound}
-use Rattle.edit_steps.specs.Edits.{starved, Edit, placed, begins, transformed}
 use Rattle.edits.specs.Whole.{appendEdit, prependEdit}
-
--- an edit that neither 5 nor 7 refuses, and the note that it makes
-pub record Makes (n : Note) (e : Edit) (made : Note) : Type 0 where
-  pub lies : placed (n .normalized) (e .from) (e .to) ≡ true
-  pub feeds : starved (n .normalized) (e .to) (begins (n .normalized) e) (e .commands) ≡ false
-  pub leaves : transformed n e ≡ made
+use Rattle.edits.specs.Plain.{Makes}
 
 -- the string behind the text; each of its bytes carries the alignment of the text's last byte, (0,0) where there is
 -- none

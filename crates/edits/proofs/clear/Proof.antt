@@ -1,5 +1,5 @@
 -- The note first; then the room for its head, which is laid down.
-use Prim.Native.Nat.{_+_, _≤_}
+use Prim.Native.Nat.{_≤_}
 use mathlib.Core.Path.{_≡_, refl, sym}
 use lib.ListN.{length, take}
 use lib.Seq.{length-take-le}

@@ -9,6 +9,7 @@ use Rattle.transform.proofs.Verdicts.{inputs-refused, inputs-accepted, note-col
 use Rattle.edits.specs.Whole.{filterEdit}
 use Rattle.edits.proofs.Inputs.{note-short}
 use Rattle.filters.proofs.Counted.{flagFaults, note-first, flag-each, miscounted, well-counted, filter-found, filter-none}
+use Rattle.filters.proofs.Spanned.{range-ready}
 use Rattle.filters.proofs.filter.Statement.{statement}
 use Rattle.filters.proofs.filter.Tie as tie
 
@@ -20,12 +21,12 @@ returns c =
     inputs-refused limit note (also (noteFaults limit note) (flagFaults (given .normalized .now) (given .flags .now))) refl (filterEdit note (given .flags .now)) (given .out .now) (given .out-starts .now) (given .out-ends .now)
     (miscounted limit note (given .flags .now) (told .before .before .check-note .ensures) (told .enum-told .given .1) (c .before .count-leads .ensures) (c .if1 .taken)) refl
 
-edit-flags-requires : tie.Need-edit-flags-requires
-edit-flags-requires c κs =
+filter-range-requires : tie.Need-filter-range-requires
+filter-range-requires c κs =
     let told = c .before .before .before .before .before .before .before .before .before .before .before in
     let given = c .before .before .before .before .before .before .before .before .before .before .before .before .before .before .before .before .before .before .before .before .before .before .args in
     let note : Note = (lent (given .original .now) (given .normalized .now) (given .starts .now) (given .ends .now) (given .original-shift)) in
-    (note-editable limit note (told .before .before .check-note .ensures) (told .enum-told .given .1), flag-each limit note (given .flags .now) (told .before .before .check-note .ensures) (told .enum-told .given .1) (c .before .before .before .before .before .before .before .before .before .before .count-leads .ensures) (c .before .before .before .before .before .before .before .before .before .if1 .left))
+    range-ready limit note (given .flags .now) (told .before .before .check-note .ensures) (told .enum-told .given .1) (flag-each limit note (given .flags .now) (told .before .before .check-note .ensures) (told .enum-told .given .1) (c .before .before .before .before .before .before .before .before .before .before .count-leads .ensures) (c .before .before .before .before .before .before .before .before .before .if1 .left))
 
 returns-2 : tie.Need-returns-2
 returns-2 c =
@@ -41,7 +42,7 @@ returns-3 c =
     inputs-accepted limit note (also (noteFaults limit note) (flagFaults (given .normalized .now) (given .flags .now))) refl (filterEdit note (given .flags .now)) (given .out .now) (given .out-starts .now) (given .out-ends .now)
     (well-counted limit note (given .flags .now) (told .before .before .check-note .ensures) (told .enum-told .given .1) (c .before .before .before .before .before .before .before .before .before .before .before .before .before .before .before .before .before .count-leads .ensures) (c .before .before .before .before .before .before .before .before .before .before .before .before .before .before .before .before .if1 .left)) refl
     (filter-found note (given .flags .now) (c .before .before .before .before .before .before .before .before .before .before .before .before .before .before .before .as-normalized .ensures ∙ target-of _ _ _) (c .before .before .before .before .before .before .before .before .before .before .before .before .before .found .given .1) (c .before .before .before .before .before .before .before .before .before .before .before .start-of .ensures) (c .before .before .before .before .before .before .before .before .before .before .end-of .ensures))
-    (c .before .before .before .before .before .before .edit-flags .ensures)
+    (c .before .before .before .before .before .before .filter-range .ensures)
 
 returns-4 : tie.Need-returns-4
 returns-4 c =
@@ -69,7 +70,7 @@ filter-spec =
     (λ c. search needs)
     (λ c κs. search needs)
     (λ c. search needs)
-    edit-flags-requires
+    filter-range-requires
     (λ c. search needs)
     (λ c. search needs)
     (λ c κs. note-editable limit _ (c .before .before .before .before .before .before .before .before .before .before .before .check-note .ensures) (c .before .before .before .before .before .before .before .before .before .enum-told .given .1))

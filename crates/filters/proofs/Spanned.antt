@@ -1,0 +1,132 @@
+-- The whole text filtered byte by byte is what the commands of the flags make of it.
+use Prim.Native.Nat.{ℕ, _≤_}
+use mathlib.Core.Path.{_≡_, _∙_, ap, refl, sym}
+use mathlib.Core.Bool.{Bool, true, false, _&&_}
+use mathlib.Mathlib.Data.Bool.Basic.{and-elim-left, and-elim-right}
+use mathlib.Core.List.{List, [], append-nil}
+use native.Mathlib.Omega.{arith}
+use lib.Dec.{leb, eqb}
+use lib.ListN.{length, drop, drop-of-length-le}
+use borrow.Author.Tests.{eqb-true, leb-true}
+use Rattle.buffers.specs.Splice.{overlay}
+use Rattle.utf8.specs.Letters.{letters, leads}
+use Rattle.utf8.proofs.Letters.{letters-leads}
+use Rattle.utf8.proofs.Boundaries.{boundary-zero, boundary-length}
+use Rattle.note.specs.declared.Verdict.{Verdict}
+use Rattle.note.specs.declared.Verdict.the-variants.{Accepted}
+use Rattle.note.specs.Refusals.{least, verdict}
+use Rattle.note.specs.Notes.{Note, lent, Sound}
+use Rattle.note.specs.Faults.{noteFaults}
+use Rattle.note.proofs.Faults.{accepted-sound}
+use Rattle.edit_steps.specs.Edits.{skipped, characters, carried, starved, Edit, placed, begins, relaid, edited, transformed}
+use Rattle.edit_steps.specs.Walking.{Standing}
+use Rattle.transform.specs.declared.Editing.the-variants.{Edited}
+use Rattle.transform.specs.Transforming.{editFaults, Rewritten}
+use Rattle.transform.proofs.Verdicts.{small-enough, accepted-rewritten, note-editable}
+use Rattle.edits.specs.Characters.{codesOf, textOf}
+use Rattle.edits.specs.Whole.{droppedAhead, anyKept}
+use Rattle.edits.specs.Plain.{ofLetters, spread, sifted}
+use Rattle.edits.proofs.Head.{is-placed}
+use Rattle.edits.proofs.Shares.{starts-part, ends-part}
+use Rattle.edits.proofs.Sifted.{given-sifted, starved-sifted, column-sifted, codes-letters}
+use Rattle.filters.specs.Flags.{skips, begun, kept}
+use Rattle.filters.specs.Chosen.{chosen, FlagEach, KeptEnd, KeptRoom, KeptLaid, spans, OneValue, RangeReady}
+use Rattle.filters.proofs.Kept.{begun-starved, begun-given}
+use Rattle.filters.proofs.Chosen.{chosen-most, both-chosen}
+
+-- what an accepted note gives
+pub range-ready : (most : ℕ) (n : Note) (flags : List ℕ) {v : Verdict} → v ≡ verdict (noteFaults most n) → v ≡ Accepted → length flags ≡ letters (n .normalized) → RangeReady (n .normalized) (n .starts) (n .ends) flags
+range-ready most n flags noted ok counted =
+    let sound : Sound n = accepted-sound most n (sym noted ∙ ok) .0 in
+    record {
+      editable = note-editable most n noted ok;
+      counted = counted;
+      one-start = λ q here h. starts-part n sound q here h;
+      one-end = λ q here h. ends-part n sound q here h;
+    }
+
+module _ {s starts ends flags : List ℕ} (r : RangeReady s starts ends flags) where
+  pub flag-each : FlagEach s flags
+  flag-each = record { formed = r .editable .formed; counted = r .counted }
+
+  e : Edit
+  e = record { from = 0; to = length s; skip = skips flags; commands = kept s flags }
+
+  standing : Standing s (length s) 0
+  standing = record { formed = r .editable .formed; ends = boundary-length s; stands = boundary-zero s (r .editable .formed); most = omega arith }
+
+  coded : length (codesOf s) ≡ length flags
+  coded = codes-letters s ∙ sym (r .counted)
+
+  unkept : anyKept (drop (leads (drop 0 s)) flags) ≡ false
+  unfolding anyKept
+  unkept =
+      let past : length flags ≤ leads (drop 0 s) = omega (arith, r .counted, letters-leads s (r .editable .formed)) in
+      rw (drop-of-length-le flags past)
+
+  is-fed : starved s (length s) (begins s e) (kept s flags) ≡ false
+  unfolding e begins begun kept
+  is-fed = begun-starved s (length s) 0 flags ∙ starved-sifted s (codesOf s) flags 0 standing coded ∙ unkept
+
+  lies : placed s 0 (length s) ≡ true
+  lies = is-placed s 0 (length s) (omega arith) (boundary-zero s (r .editable .formed)) (boundary-length s)
+
+  text-made : edited characters s e s ≡ chosen flags 0 s s
+  unfolding e edited relaid begins begun kept
+  text-made =
+      let past : length s ≤ length s = omega arith in
+      rw (begun-given s (length s) 0 flags characters, given-sifted s (length s) (skipped s (length s) (droppedAhead flags) 0) (codesOf s) flags, drop-of-length-le s past, append-nil (textOf (sifted flags (codesOf s))))
+      (both-chosen flag-each starts (r .editable .one-start) (r .one-start) .0)
+
+  column-made : (xs : List ℕ) → length xs ≡ length s → OneValue s xs → edited (carried xs) s e xs ≡ chosen flags 0 s xs
+  unfolding e edited relaid begins begun kept
+  column-made xs same one =
+      let past : length xs ≤ length s = omega arith in
+      rw (begun-given s (length s) 0 flags (carried xs), column-sifted s xs same (codesOf s) flags 0 standing coded unkept, drop-of-length-le xs past, append-nil (spread (sifted flags (codesOf s)) (sifted flags (ofLetters s xs))))
+      (both-chosen flag-each xs same one .1)
+
+  module _ (most : ℕ) (from to : ℕ) (out₀ starts₀ ends₀ : List ℕ) {low : ℕ} (lowest : low ≡ least (length out₀) (length starts₀) (length ends₀)) {t : Bool} (is : t ≡ spans most from to (length s) low) (yes : t ≡ true) where
+    all : (eqb from 0 && eqb to (length s) && leb (length s) most && leb (length s) low) ≡ true
+    unfolding spans
+    all = sym is ∙ yes
+
+    three : (eqb from 0 && eqb to (length s) && leb (length s) most) ≡ true
+    three = and-elim-left (eqb from 0 && eqb to (length s) && leb (length s) most) (leb (length s) low) all
+
+    two : (eqb from 0 && eqb to (length s)) ≡ true
+    two = and-elim-left (eqb from 0 && eqb to (length s)) (leb (length s) most) three
+
+    first : from ≡ 0
+    first = eqb-true from 0 (and-elim-left (eqb from 0) (eqb to (length s)) two)
+
+    last : to ≡ length s
+    last = eqb-true to (length s) (and-elim-right (eqb from 0) (eqb to (length s)) two)
+
+    short : (length s ≤ most) × (length s ≤ low)
+    short = (
+      leb-true (length s) most (and-elim-right (eqb from 0 && eqb to (length s)) (leb (length s) most) three),
+      leb-true (length s) low (and-elim-right (eqb from 0 && eqb to (length s) && leb (length s) most) (leb (length s) low) all),
+    )
+
+    pub spanned-room : {end : ℕ} → KeptEnd s flags end → KeptRoom s starts ends flags end out₀ starts₀ ends₀
+    spanned-room k =
+        record {
+          flagged = flag-each;
+          kept = k;
+          text-ready = record { one-each = refl; room = omega (arith, short, chosen-most flags 0 s, lowest) };
+          starts-ready = record { one-each = r .editable .one-start; room = omega (arith, short, chosen-most flags 0 s, lowest) };
+          ends-ready = record { one-each = r .editable .one-end; room = omega (arith, short, chosen-most flags 0 s, lowest) };
+        }
+
+    made : {k : ℕ} {out starts₁ ends₁ : List ℕ} → KeptLaid s starts ends flags out₀ starts₀ ends₀ k out starts₁ ends₁ → Rewritten (verdict (editFaults most s e (least (length out₀) (length starts₀) (length ends₀)))) (transformed (lent [] s starts ends 0) e) out₀ starts₀ ends₀ (Edited k) out starts₁ ends₁
+    unfolding transformed e
+    made l =
+        accepted-rewritten (small-enough most s e (least (length out₀) (length starts₀) (length ends₀)) lies is-fed (omega (arith, ap length text-made, short, chosen-most flags 0 s, lowest)))
+        (l .reached ∙ ap length (sym text-made))
+        (l .text-is ∙ ap (λ (x : List ℕ). overlay x out₀) (sym text-made))
+        (l .starts-are ∙ ap (λ (x : List ℕ). overlay x starts₀) (sym (column-made starts (r .editable .one-start) (r .one-start))))
+        (l .ends-are ∙ ap (λ (x : List ℕ). overlay x ends₀) (sym (column-made ends (r .editable .one-end) (r .one-end))))
+
+    pub spanned-made : {k : ℕ} {out starts₁ ends₁ : List ℕ} → KeptLaid s starts ends flags out₀ starts₀ ends₀ k out starts₁ ends₁ → Rewritten (verdict (editFaults most s (record { from = from; to = to; skip = skips flags; commands = kept s flags }) (least (length out₀) (length starts₀) (length ends₀)))) (transformed (lent [] s starts ends 0) (record { from = from; to = to; skip = skips flags; commands = kept s flags })) out₀ starts₀ ends₀ (Edited k) out starts₁ ends₁
+    unfolding e
+    spanned-made l = rw (first, last) (made l)
