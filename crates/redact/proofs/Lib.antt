@@ -2,6 +2,5 @@
 pub mod BlankedSize
 pub mod Blanks
 pub mod Redacting
-pub mod Keeping
 pub mod Runs
 pub mod Lines

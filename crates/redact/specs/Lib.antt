@@ -1,6 +1,5 @@
 -- Blanking a literal in a fresh text, and the alignments of a text as lines.
 pub mod Redacting
-pub mod Keeping
 pub mod Publishing
 pub mod Blanks
 pub mod Lines
