@@ -1,8 +1,7 @@
 -- Laws of `Candidate` and `Absent`: positions at which a literal does not stand, told by two of its bytes, one by one and 64 at once.
-use Prim.Native.Nat.{ℕ, _+_, _-_, _≤_, _<_, min}
+use Prim.Native.Nat.{ℕ, _+_, _-_, _≤_, _<_, max}
 use mathlib.Core.Path.{_≡_, _∙_, refl, sym}
 use mathlib.Core.Bool.{Bool, true, false, cond, _&&_, _||_, not}
-use mathlib.Core.Logic.{inl, inr, ⊎-elim}
 use mathlib.Core.List.{List}
 use native.Mathlib.Omega.{arith}
 use lib.Dec.{eqb}
@@ -18,38 +17,27 @@ use Rattle.find.specs.Searching.{together, apartBelow, Candidate, Absent
 use Rattle.find.proofs.Occurs.{occurs-inside, occurs-byte}
 use Rattle.find.proofs.FirstFrom.{first-unique}
 
--- the loop over a block
-pub no-candidate : {a b : List ℕ} {x y r : ℕ} → r ≡ 255 → Candidate a b x y 0 r
-no-candidate none = record { before = λ k h l. absurd (omega arith); here = inl none }
+-- the loop over a block, by how many indices are left from the first candidate on
+pub no-candidate : {a b : List ℕ} {x y : ℕ} → Candidate a b x y 0 64
+no-candidate = record { most = omega arith; before = λ k h l. absurd (omega arith) }
 
-module _ {a b : List ℕ} {x y r j : ℕ} (c : Candidate a b x y j r) (h : j < 64) {v r₁ : ℕ} (least : r₁ ≡ min r v) where
-  candidate-hit : together a b x y j ≡ true → v ≡ j → Candidate a b x y (j + 1) r₁
-  candidate-hit t e =
-      record {
-        before = λ k l m. c .before k (omega arith) (omega arith);
-        here = inr
-            (⊎-elim
-            (λ none. let is : r₁ ≡ j = omega arith in (omega arith, rw is t))
-            (λ met. let is : r₁ ≡ r = omega (arith, met .0) in (omega (arith, met .0), rw is (met .1)))
-            (c .here));
-      }
+module _ {a b : List ℕ} {x y left j : ℕ} (c : Candidate a b x y j (64 - left)) (h : j < 64) (few : left ≤ 64) {v left₁ : ℕ} (most : left₁ ≡ max left v) where
+  candidate-hit : v ≡ 64 - j → Candidate a b x y (j + 1) (64 - left₁)
+  candidate-hit e = record { most = omega arith; before = λ k l m. c .before k (omega arith) (omega arith) }
 
-  candidate-miss : together a b x y j ≡ false → v ≡ 255 → Candidate a b x y (j + 1) r₁
+  candidate-miss : together a b x y j ≡ false → v ≡ 0 → Candidate a b x y (j + 1) (64 - left₁)
   candidate-miss f e =
       record {
+        most = omega arith;
         before = λ k l m. le-or-lt j k (λ top. let is : k ≡ j = omega arith in rw is f) (λ below. c .before k below (omega arith));
-        here = ⊎-elim
-            (λ none. inl (omega arith))
-            (λ met. let is : r₁ ≡ r = omega (arith, met .0) in inr (omega (arith, met .0), rw is (met .1)))
-            (c .here);
       }
 
-  pub next-index : v ≡ cond (eqb (getD a j 0) x && eqb (getD b j 0) y) j 255 → Candidate a b x y (j + 1) r₁
+  pub next-index : v ≡ cond (eqb (getD a j 0) x && eqb (getD b j 0) y) (64 - j) 0 → Candidate a b x y (j + 1) (64 - left₁) × (left₁ ≤ 64)
   unfolding together
   next-index e =
       true-or-false (eqb (getD a j 0) x && eqb (getD b j 0) y)
-      (λ t. candidate-hit t (rw t at e))
-      (λ f. candidate-miss f (rw f at e))
+      (λ t. let is : v ≡ 64 - j = rw t at e in (candidate-hit is, omega arith))
+      (λ f. let is : v ≡ 0 = rw f at e in (candidate-miss f is, omega arith))
 
 pub all-indices : {a b : List ℕ} {x y r j : ℕ} → Candidate a b x y j r → j ≡ 64 → Candidate a b x y 64 r
 all-indices c full = rw full at c
@@ -72,12 +60,12 @@ module _ (a b : List ℕ) (x y : ℕ) where
   pub apart-all : {j : ℕ} {hit : Bool} → hit ≡ not (apartBelow a b x y j) → j ≡ 64 → hit ≡ not (apartBelow a b x y 64)
   apart-all is full = rw full at is
 
-  pub apart-candidate : {hit : Bool} → hit ≡ not (apartBelow a b x y 64) → hit ≡ false → Candidate a b x y 64 255
+  pub apart-candidate : {hit : Bool} → hit ≡ not (apartBelow a b x y 64) → hit ≡ false → Candidate a b x y 64 64
   unfolding apartBelow
   apart-candidate is f =
       let apart : ℕ → Bool = λ k. not (together a b x y k) in
       let all = not-false (everyBelow 64 apart) (sym is ∙ f) in
-      record { before = λ k h l. not-true (together a b x y k) (every-at 64 apart all k h); here = inl refl }
+      record { most = omega arith; before = λ k h l. not-true (together a b x y k) (every-at 64 apart all k h) }
 
 pub absent-none : {text literal : List ℕ} {from : ℕ} → from ≤ length text → Absent text literal from from
 absent-none h = record { onward = omega arith; most = h; not-there = λ k a b. absurd (omega arith) }

@@ -107,7 +107,7 @@ unfolding coversFrom
 covers-end text p end = eq-eqb p (length text) end
 
 module _ (text literal : List ℕ) (t : wellFormed text ≡ true) (l : wellFormed literal ≡ true) where
-  covers-matches : (n at p : ℕ) → length text - at < n → Searched text literal at p → coversFrom text at (matchesFrom text literal at) ≡ true
+  pub covers-matches : (n at p : ℕ) → length text - at < n → Searched text literal at p → coversFrom text at (matchesFrom text literal at) ≡ true
   covers-matches zero at p h s = absurd (omega arith)
   covers-matches (suc n) at p h s =
       let f : FirstMatch text literal at p = first-there s in

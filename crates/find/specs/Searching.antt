@@ -1,8 +1,7 @@
 -- What the contracts of the inner functions of searching are said with.
 use Prim.Native.Nat.{ℕ, _≤_, _<_}
 use mathlib.Core.Path.{_≡_}
-use mathlib.Core.Bool.{Bool, true, false, cond, _&&_, not}
-use mathlib.Core.Logic.{_⊎_}
+use mathlib.Core.Bool.{Bool, false, cond, _&&_, not}
 use mathlib.Core.List.{List}
 use lib.Dec.{eqb}
 use lib.ListN.{length, getD}
@@ -17,10 +16,10 @@ together a b first last j = eqb (getD a j 0) first && eqb (getD b j 0) last
 unfoldable pub apartBelow : List ℕ → List ℕ → ℕ → ℕ → ℕ → Bool
 apartBelow a b first last n = everyBelow n (λ j. not (together a b first last j))
 
--- r is the first of n indices at which they do, or 255 where they do at none
+-- r is at most 64, and they do at none of n indices before it
 pub record Candidate (a b : List ℕ) (first last n r : ℕ) : Type 0 where
+  pub most : r ≤ 64
   pub before : (k : ℕ) → k < n → k < r → together a b first last k ≡ false
-  pub here : (r ≡ 255) ⊎ ((r < n) × (together a b first last r ≡ true))
 
 -- the literal stands at no position from `from` up to `to`, which is one of the text's
 pub record Absent (text literal : List ℕ) (from to : ℕ) : Type 0 where

@@ -5,13 +5,13 @@
 use buffers::equality::same_bytes;
 ghost use mathlib.Core.Path.{_≡_};
 ghost use mathlib.Core.Bool.{cond, not};
-ghost use Prim.Native.Nat.{_+_, _≤_, _<_, min};
+ghost use Prim.Native.Nat.{_+_, _≤_, _<_, max};
 ghost use lib.ListN.{length};
 ghost use Rattle.find.specs.Matching.{occursAt, firstFrom};
 ghost use Rattle.find.specs.Searching.{Absent, Candidate, apartBelow, firstMatch};
 
 // Whether the literal stands in the text at `p`.
-fn occurs_at(text: &[u8], literal: &[u8], p: usize) -> bool
+pub fn occurs_at(text: &[u8], literal: &[u8], p: usize) -> bool
     requires { ⌜ (0 < length (now literal)) × (p + length (now literal) ≤ length (now text)) ⌝ }
     ensures { λ r. ⌜ r ≡ occursAt (now (text .entry)) (now (literal .entry)) p ⌝ }
 {
@@ -21,37 +21,38 @@ fn occurs_at(text: &[u8], literal: &[u8], p: usize) -> bool
     same_bytes(&text[p..p + literal.len()], literal)
 }
 
-fn pick(hit: bool, j: u8) -> u8
-    ensures { λ r. ⌜ r ≡ cond hit j 255 ⌝ }
+fn when(hit: bool, v: u8) -> u8
+    ensures { λ r. ⌜ r ≡ cond hit v 0 ⌝ }
 {
     if hit {
-        return j;
+        return v;
     }
-    255
+    0
 }
 
-fn min(a: u8, b: u8) -> u8
-    ensures { λ r. ⌜ r ≡ min a b ⌝ }
+fn max(a: u8, b: u8) -> u8
+    ensures { λ r. ⌜ r ≡ max a b ⌝ }
 {
-    if b < a {
+    if a < b {
         return b;
     }
     a
 }
 
-// The first of 64 indices at which `first` stands in `a` and `last` in `b`, or 255.
-// No branch inside, so that the loop is vectorised.
-fn candidate(a: &[u8], b: &[u8], first: u8, last: u8) -> u8
+// The first of 64 indices at which `first` stands in `a` and `last` in `b`, or 64.
+// No branch inside, so that the loop is vectorised; it is told by how many indices are left, since none is then 0.
+pub fn candidate(a: &[u8], b: &[u8], first: u8, last: u8) -> usize
     requires { ⌜ (64 ≤ length (now a)) × (64 ≤ length (now b)) ⌝ }
     ensures { λ r. ⌜ Candidate (now (a .entry)) (now (b .entry)) first last 64 r ⌝ }
 {
-    let mut best: u8 = 255;
-    let mut j = 0;
+    let mut left: u8 = 0;
+    let mut j: u8 = 0;
     while j < 64 {
-        best = min(best, pick((a[j] == first) & (b[j] == last), j as u8));
+        let k = j as usize;
+        left = max(left, when((a[k] == first) & (b[k] == last), 64 - j));
         j += 1;
     }
-    best
+    64 - left as usize
 }
 
 // Whether `first` stands in `a` and `last` in `b` at one of 64 indices: less work than to name the first.
@@ -102,7 +103,7 @@ fn next_candidate(text: &[u8], literal: &[u8], from: usize) -> usize
         let j = i + width;
         let k = candidate(&text[i..i + 64], &text[j..j + 64], first, last);
         if k < 64 {
-            return i + k as usize;
+            return i + k;
         }
         i = pass_blocks(text, literal, i + 64);
     }

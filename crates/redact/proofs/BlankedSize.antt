@@ -25,7 +25,7 @@ sizes-none : (wide : ℕ) → sizes wide [] ≡ 0
 unfolding sizes
 sizes-none wide = refl
 
-sizes-unmatched : (wide a e : ℕ) → sizes wide (placeFrom a e false ∷ []) ≡ e - a
+pub sizes-unmatched : (wide a e : ℕ) → sizes wide (placeFrom a e false ∷ []) ≡ e - a
 unfolding sizes sizeOf
 sizes-unmatched wide a e = omega arith
 
@@ -41,12 +41,12 @@ sizes-between wide a e =
 
 -- from a position on, up to the next match and behind it, or up to the end
 module _ {text literal : List ℕ} (wide : ℕ) {at p : ℕ} (s : Searched text literal at p) where
-  sizes-more : p < length text → sizes wide (matchesFrom text literal at) ≡ (p - at) + (wide + sizes wide (matchesFrom text literal (p + length literal)))
+  pub sizes-more : p < length text → sizes wide (matchesFrom text literal at) ≡ (p - at) + (wide + sizes wide (matchesFrom text literal (p + length literal)))
   sizes-more h =
       ap (sizes wide) (matches-more s h) ∙ sizes-append wide (between at p) _
       ∙ omega (arith, sizes-between wide at p, sizes-matched wide p (p + length literal) (matchesFrom text literal (p + length literal)))
 
-  sizes-end : length text ≤ p → sizes wide (matchesFrom text literal at) ≡ p - at
+  pub sizes-end : length text ≤ p → sizes wide (matchesFrom text literal at) ≡ p - at
   sizes-end h = ap (sizes wide) (matches-end s h) ∙ sizes-between wide at p
 
 -- measured: the matches before `at` are counted in `total`, and p is the next one or the end

@@ -2,4 +2,3 @@
 pub mod BlankedSize
 pub mod Blanks
 pub mod Redacting
-pub mod Keeping

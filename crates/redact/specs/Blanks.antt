@@ -1,12 +1,11 @@
 -- What the functions that blank every match are told and say.
 use Prim.Native.Nat.{ℕ, _*_, min, _≤_, _<_}
 use mathlib.Core.Path.{_≡_}
-use mathlib.Core.Bool.{Bool, true}
+use mathlib.Core.Bool.{true}
 use mathlib.Core.List.{List}
 use lib.ListN.{length}
-use Rattle.buffers.specs.Splice.{part, overlay}
+use Rattle.buffers.specs.Splice.{overlay}
 use Rattle.utf8.specs.Formed.{wellFormed}
-use Rattle.validity.specs.Texts.{ascii}
 use Rattle.note.specs.Notes.{limit}
 use Rattle.note.specs.Starting.{starting}
 use Rattle.find.specs.Matching.{foundPlaces}
@@ -14,10 +13,10 @@ use Rattle.find.specs.Searching.{firstMatch}
 use Rattle.replace.specs.Replacing.{laid, carried}
 use Rattle.replace.specs.Sizes.{sizes}
 
--- where so many bytes of a text are left, more than 64 of the result are: each of a match's `literal` bytes gives at
+-- where so many bytes of a text are left, more than 144 of the result are: each of a match's `literal` bytes gives at
 -- least the smaller of two `literal`th parts, its own or that of a content of `wide` bytes
 pub record Margin (size literal wide margin : ℕ) : Type 0 where
-  pub enough : (k : ℕ) → margin ≤ k → k ≤ size → 64 * literal < min wide literal * k
+  pub enough : (k : ℕ) → margin ≤ k → k ≤ size → 144 * literal < min wide literal * k
 
 -- a text and its first match, and room for the result
 pub record Fitting (text literal content : List ℕ) (first : ℕ) (out starts ends : List ℕ) : Type 0 where
@@ -30,15 +29,18 @@ pub record Fitting (text literal content : List ℕ) (first : ℕ) (out starts e
   pub starts-room : sizes (length content) (foundPlaces text literal) ≤ length starts
   pub ends-room : sizes (length content) (foundPlaces text literal) ≤ length ends
 
--- with a content in front of a filler, a bound within the result, and whether the text is known to be ASCII
-pub record Blankable (text : List ℕ) (plain : Bool) (literal content filler : List ℕ) (first margin until : ℕ)
-    (out starts ends : List ℕ) : Type 0 where
-  pub fits : Fitting text literal content first out starts ends
-  pub filler-is : part filler 0 (length content) ≡ content
-  pub filler-long : length content ≤ length filler
-  pub margin-is : Margin (length text) (length literal) (length content) margin
-  pub below : until ≤ sizes (length content) (foundPlaces text literal)
-  pub plain-is : plain ≡ true → ascii text ≡ true
+-- a starting note as it is, and room for it
+pub record WholeRoom (text out starts ends : List ℕ) : Type 0 where
+  pub formed : wellFormed text ≡ true
+  pub short : length text ≤ limit
+  pub text-room : length text ≤ length out
+  pub starts-room : length text ≤ length starts
+  pub ends-room : length text ≤ length ends
+
+pub record WholeLaid (text out₀ starts₀ ends₀ out starts ends : List ℕ) : Type 0 where
+  pub text-is : out ≡ overlay text out₀
+  pub starts-are : starts ≡ overlay (starting text .starts) starts₀
+  pub ends-are : ends ≡ overlay (starting text .ends) ends₀
 
 -- what is found gives way in the text and in both columns of its starting note
 pub record FoundLaid (text literal content out₀ starts₀ ends₀ : List ℕ) (r : ℕ) (out starts ends : List ℕ)

@@ -1,5 +1,4 @@
 -- Blanking a literal in a fresh text.
 pub mod Redacting
-pub mod Keeping
 pub mod Publishing
 pub mod Blanks

@@ -1,8 +1,6 @@
 // Blanking a literal in a fresh text (RULES 15.5): what `replace` makes of the starting note by the literal's matches,
-// laid stretch by stretch straight from the text: neither the starting note nor a list is written. All is judged and
-// measured before the first store, and nothing twice: the starting note is accepted (`StartingAccepted`), and what is
-// found covers its text (`FoundCovers`).
-pub mod stretches;
+// laid straight from the text (`redact_blocks`). All is judged and measured before the first store, and nothing twice:
+// the starting note is accepted (`StartingAccepted`), and what is found covers its text (`FoundCovers`).
 
 use buffers::Offset;
 use buffers::copy_bytes;
@@ -12,26 +10,25 @@ use checks::least_of_two;
 use checks::least_room;
 use find::search::first_match;
 use find::search::next_match;
+use from_text::columns::write_ends;
+use from_text::columns::write_starts;
 use note::LIMIT;
 use note::Refusal;
 use note::Verdict;
 use note::answers::earlier;
+use redact_blocks::blank;
 use replace::Publication;
-use stretches::fill;
-use stretches::keep;
 use validity::is_ascii;
-ghost use mathlib.Core.Bool.{cond};
 ghost use mathlib.Core.Path.{_≡_};
-ghost use Prim.Native.Nat.{_+_, _≤_, min};
+ghost use Prim.Native.Nat.{_+_, _≤_, _<_, min};
 ghost use lib.Dec.{leb};
-ghost use lib.ListN.{length};
 ghost use Rattle.note.specs.Notes.{limit};
 ghost use Rattle.note.specs.Refusals.{verdict};
 ghost use Rattle.find.specs.Matching.{foundPlaces};
 ghost use Rattle.find.specs.Searching.{firstMatch};
 ghost use Rattle.replace.specs.Sizes.{sizes};
 ghost use Rattle.redact.specs.Redacting.{Redacted, inputFaults};
-ghost use Rattle.redact.specs.Blanks.{Blankable, Fitting, FoundLaid, Margin};
+ghost use Rattle.redact.specs.Blanks.{Fitting, FoundLaid, Margin, WholeLaid, WholeRoom};
 
 // Whether text, literal or content is refused.
 fn check_inputs(text: &[u8], literal: &[u8], content: &[u8]) -> Verdict
@@ -85,9 +82,9 @@ fn result_fits(text: &[u8], literal: &[u8], first: usize, wide: usize, room: usi
     blanked_size(text, literal, first, wide) <= room
 }
 
-// How many bytes have to be left of a text of so many, from a match on, that a block can be laid before it and end
-// within the result.
-fn margin_of(size: usize, literal: usize, wide: usize) -> usize
+// How many bytes have to be left of a text of so many that more than 144 of the result are: a block, the content behind
+// it, and the block that this is laid by.
+fn share_of(size: usize, literal: usize, wide: usize) -> usize
     requires { ⌜ size ≤ limit ⌝ }
     ensures { λ r. ⌜ Margin size literal wide r ⌝ }
 {
@@ -98,75 +95,41 @@ fn margin_of(size: usize, literal: usize, wide: usize) -> usize
     if share == 0 {
         return size + 1;
     }
-    64 * literal / share + 1
+    144 * literal / share + 1
 }
 
-// Up to where blocks may be laid before a match at `at`, from which on `left` bytes are left.
-fn bound_at(left: usize, margin: usize, at: usize, until: usize) -> usize
-    requires { ⌜ at ≤ limit ⌝ }
-    ensures { λ r. ⌜ r ≡ cond (leb margin left) (at + 64) until ⌝ }
+// The same where it is sure soon enough, and in any case as many as are searched at once.
+fn margin_of(share: usize, literal: usize) -> usize
+    requires { ⌜ literal ≤ limit ⌝ }
+    ensures { λ r. ⌜ (literal + 80 ≤ r) × (share ≤ 1024 → share ≤ r) ⌝ }
 {
-    if margin <= left {
-        return at + 64;
+    if share <= 1024 {
+        return share + literal + 80;
     }
-    until
+    literal + 80
 }
 
-// Every match gives way to the content, which is what `filler` has in front; how many bytes there are then.
-fn blank(
-    text: &[u8],
-    plain: bool,
-    literal: &[u8],
-    content: &[u8],
-    filler: &[u8],
-    first: usize,
-    margin: usize,
-    until: usize,
-    out: &mut [u8],
-    out_starts: &mut [Offset],
-    out_ends: &mut [Offset],
-) -> usize
-    requires { ⌜ Blankable (now text) plain (now literal) (now content) (now filler) first margin until
-        (now out) (now «out_starts») (now «out_ends») ⌝ }
-    ensures { λ r. ⌜ FoundLaid (now (text .entry)) (now (literal .entry)) (now (content .entry))
-        (now (out .entry)) (now («out_starts» .entry)) (now («out_ends» .entry))
-        r (now (out .exit)) (now («out_starts» .exit)) (now («out_ends» .exit)) ⌝ }
-{
-    let mut at = 0;
-    let mut i = 0;
-    let mut p = first;
-    while p < text.len() {
-        let here = at + (p - i);
-        let bound = bound_at(text.len() - p, margin, here, until);
-        keep(text, plain, i, p, bound, out, out_starts, out_ends, at);
-        i = p + literal.len();
-        fill(
-            text,
-            i,
-            filler,
-            content.len(),
-            bound,
-            out,
-            out_starts,
-            out_ends,
-            here,
-        );
-        at = here + content.len();
-        p = next_match(text, literal, i);
-    }
-    keep(text, plain, i, p, until, out, out_starts, out_ends, at);
-    at + (p - i)
-}
-
-// A size that the result has at least: its own, where it is not sure soon enough that blocks can be laid.
-fn sure_size(text: &[u8], literal: &[u8], first: usize, wide: usize, margin: usize) -> usize
+// Up to where blocks may be laid: no bound where the margin is enough, else the result's size.
+fn bound_of(text: &[u8], literal: &[u8], first: usize, wide: usize, share: usize) -> usize
     requires { ⌜ first ≡ firstMatch (now text) (now literal) ⌝ }
-    ensures { λ r. ⌜ r ≤ sizes wide (foundPlaces (now (text .entry)) (now (literal .entry))) ⌝ }
+    ensures { λ r. ⌜ (1024 < share → r ≤ sizes wide (foundPlaces (now (text .entry)) (now (literal .entry)))) ⌝ }
 {
-    if margin <= 1024 {
-        return 0;
+    if share <= 1024 {
+        return LIMIT + 144;
     }
     blanked_size(text, literal, first, wide)
+}
+
+// The starting note as it is, where the literal stands nowhere.
+fn lay_whole(text: &[u8], out: &mut [u8], out_starts: &mut [Offset], out_ends: &mut [Offset])
+    requires { ⌜ WholeRoom (now text) (now out) (now «out_starts») (now «out_ends») ⌝ }
+    ensures { λ _. ⌜ WholeLaid (now (text .entry))
+        (now (out .entry)) (now («out_starts» .entry)) (now («out_ends» .entry))
+        (now (out .exit)) (now («out_starts» .exit)) (now («out_ends» .exit)) ⌝ }
+{
+    copy_bytes(text, out, 0);
+    write_starts(text, out_starts);
+    write_ends(text, out_ends);
 }
 
 // Every match gives way to the content; a short one is padded, so that a block of it can be laid.
@@ -185,9 +148,14 @@ fn blank_found(
         (now (out .entry)) (now («out_starts» .entry)) (now («out_ends» .entry))
         r (now (out .exit)) (now («out_starts» .exit)) (now («out_ends» .exit)) ⌝ }
 {
+    if first == text.len() {
+        lay_whole(text, out, out_starts, out_ends);
+        return first;
+    }
     let plain = is_ascii(text);
-    let margin = margin_of(text.len(), literal.len(), content.len());
-    let until = sure_size(text, literal, first, content.len(), margin);
+    let share = share_of(text.len(), literal.len(), content.len());
+    let margin = margin_of(share, literal.len());
+    let until = bound_of(text, literal, first, content.len(), share);
     if 16 < content.len() {
         return blank(
             text,
@@ -195,7 +163,6 @@ fn blank_found(
             literal,
             content,
             content,
-            first,
             margin,
             until,
             out,
@@ -211,7 +178,6 @@ fn blank_found(
         literal,
         content,
         &padded,
-        first,
         margin,
         until,
         out,

@@ -1,4 +1,4 @@
--- `best` is the first of the indices so far at which the two bytes stood together.
+-- `left` counts from the first of the indices so far at which the two bytes stood together.
 use Prim.Native.Nat.{_-_, _≤_}
 use native.Mathlib.Omega.{arith}
 use Rattle.find.specs.Searching.{Candidate}
@@ -7,15 +7,16 @@ use Rattle.find.proofs.search.candidate.Statement.{statement}
 use Rattle.find.proofs.search.candidate.Tie as tie
 
 abbrev Inv-loop : tie.InvT-loop
-Inv-loop a b first last best₀ j₀ best j = Candidate a b first last j best × (j ≤ 64)
+Inv-loop a b first last left₀ j₀ left j = Candidate a b first last j (64 - left) × ((left ≤ 64) × (j ≤ 64))
 
 abbrev μ-loop : tie.MeasureT-loop
-μ-loop a b first last best₀ j₀ best j = 64 - j
+μ-loop a b first last left₀ j₀ left j = 64 - j
 
 loop-again : tie.Need-loop-again Inv-loop μ-loop
 loop-again c =
     let head = c .before .before .before .before .before in
-    (next-index (head .loop .inv .0) (omega arith) (c .min .ensures) (c .before .pick .ensures), omega arith)
+    let next = next-index (head .loop .inv .0) (omega arith) (head .loop .inv .1 .0) (c .max .ensures) (c .before .when .ensures) in
+    (next .0, (next .1, omega arith))
 
 pub candidate-spec : {M : Type 1} → statement M
 candidate-spec =
@@ -23,7 +24,8 @@ candidate-spec =
     (tie.spec
     Inv-loop
     μ-loop
-    (λ c. (no-candidate (omega arith), omega arith))
+    (λ c. (no-candidate, (omega arith, omega arith)))
+    (λ c. omega arith)
     (λ c. omega arith)
     (λ c. omega arith)
     (λ c. omega arith)
@@ -32,4 +34,6 @@ candidate-spec =
     (λ c. omega arith)
     (λ c. omega arith)
     loop-again
+    (λ c. omega arith)
+    (λ c. omega arith)
     (λ c. all-indices (c .before .loop .inv .0) (omega arith)))

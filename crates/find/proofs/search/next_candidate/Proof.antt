@@ -53,7 +53,6 @@ next-candidate-spec =
     (λ c. omega arith)
     candidate-requires
     (λ c. omega arith)
-    (λ c. omega arith)
     returns
     (λ c. omega arith)
     (λ c κs. (omega arith, omega arith))

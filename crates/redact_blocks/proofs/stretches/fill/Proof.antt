@@ -1,9 +1,9 @@
 -- The content, and beside it the range of the byte before the end.
 use native.Mathlib.Omega.{arith}
 use borrow.Author.Needs.{needs}
-use Rattle.redact.proofs.Keeping.{filler-laid, filler-first, filler-small}
-use Rattle.redact.proofs.stretches.fill.Statement.{statement}
-use Rattle.redact.proofs.stretches.fill.Tie as tie
+use Rattle.redact_blocks.proofs.Keeping.{filler-laid, filler-first, filler-small}
+use Rattle.redact_blocks.proofs.stretches.fill.Statement.{statement}
+use Rattle.redact_blocks.proofs.stretches.fill.Tie as tie
 
 pub fill-spec : {M : Type 1} → statement M
 fill-spec =

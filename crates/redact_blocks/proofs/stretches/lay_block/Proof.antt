@@ -1,9 +1,9 @@
 -- The bytes are copied, and both columns counted: up where every byte is a character, else from the bytes beside.
 use native.Mathlib.Omega.{arith}
 use borrow.Author.Needs.{needs}
-use Rattle.redact.proofs.Keeping.{block-laid, plain-laid}
-use Rattle.redact.proofs.stretches.lay_block.Statement.{statement}
-use Rattle.redact.proofs.stretches.lay_block.Tie as tie
+use Rattle.redact_blocks.proofs.Keeping.{block-laid, plain-laid}
+use Rattle.redact_blocks.proofs.stretches.lay_block.Statement.{statement}
+use Rattle.redact_blocks.proofs.stretches.lay_block.Tie as tie
 
 pub lay-block-spec : {M : Type 1} → statement M
 lay-block-spec =

@@ -1,18 +1,18 @@
--- Laws of stretches of a starting note: one byte, a block, a stretch laid piece by piece, and a content in a match's place.
+-- Laws of stretches of a starting note: one byte, a block and its front, and a content in a match's place.
 use Prim.Native.Nat.{ℕ, suc, _+_, _-_, _≤_, _<_}
 use mathlib.Core.Path.{_≡_, _∙_, ap, refl, sym}
 use mathlib.Core.Bool.{true, false}
 use mathlib.Core.List.{List, [], _∷_, _++_, append-nil}
 use native.Mathlib.Omega.{arith}
-use lib.ListN.{length, getD, set, take, drop, replicate, length-append, length-drop, length-set, List·getD-append, List·getD-eq-default}
+use lib.ListN.{length, getD, set, take, drop, replicate, length-append, length-drop, length-replicate, length-set, List·getD-append, List·getD-eq-default}
 use lib.Seq.{take-suc-set, drop-set-lt, drop-cons, getD-take, getD-drop, getD-append-add, ext-getD, length-take-le}
 use Rattle.buffers.specs.Splice.{part, splice}
 use Rattle.buffers.specs.Columns.{column, Filled}
 use Rattle.buffers.specs.Over.{Over}
 use Rattle.buffers.proofs.Cases.{le-or-lt}
-use Rattle.buffers.proofs.Splice.{length-part, part-index, part-append, part-front}
+use Rattle.buffers.proofs.Splice.{length-part, part-index, part-front}
 use Rattle.buffers.proofs.Columns.{length-column, getD-column, filled-as}
-use Rattle.buffers.proofs.Over.{over-exact, over-after, over-front}
+use Rattle.buffers.proofs.Over.{over-exact, over-front}
 use borrow.Author.Tests.{lt-leb}
 use Rattle.utf8.specs.Table.{within}
 use Rattle.utf8.specs.Formed.{wellFormed, continues}
@@ -24,7 +24,8 @@ use Rattle.note.specs.Notes.{limit}
 use Rattle.note.proofs.Starting.{Ranged, ranged, charStart-begins}
 use Rattle.note.specs.Starting.{charStart, charEnd, starting}
 use Rattle.note.proofs.BeforeEnd.{before-some}
-use Rattle.redact.specs.Keeping.{StretchRoom, Stretch, BlockFits, FillerRoom, FillerLaid}
+use Rattle.replace.proofs.Columns.{content-alone}
+use Rattle.redact_blocks.specs.Keeping.{StretchRoom, Stretch, FillerRoom, FillerLaid}
 
 -- less is told with a larger bound
 over-below : {r d₀ d : List ℕ} {at until : ℕ} (more : ℕ) → until ≤ more → Over r d₀ at until d → Over r d₀ at more d
@@ -127,96 +128,46 @@ filler-first {text} {end} r is = range-small text (end - 1) (r .formed) (omega (
 pub filler-small : {text : List ℕ} {end : ℕ} {filler : List ℕ} {wide until : ℕ} {out starts ends : List ℕ} {at a b : ℕ} → FillerRoom text end filler wide until out starts ends at → a ≡ charStart text (end - 1) → b ≡ charEnd text (end - 1) → (a ≤ limit) × (b ≤ limit)
 filler-small {text} {end} r = range-small text (end - 1) (r .formed) (omega (arith, r .some, r .inside)) (r .short)
 
--- a stretch that is being laid: up to i, which passes its end only below `until`
-pub record Keeping (text : List ℕ) (from to : ℕ) (out₀ starts₀ ends₀ : List ℕ) (at until : ℕ) (out starts ends : List ℕ) (i : ℕ) : Type 0 where
-  pub begun : from ≤ i
-  pub inside : i ≤ length text
-  pub reach : to < i → at + (i - from) ≤ until
-  pub laid : Stretch text from i out₀ starts₀ ends₀ at until out starts ends
-
+-- nothing yet, and the front of a block
 over-none : (xs d : List ℕ) (from at until : ℕ) → Over (part xs from from) d at until d
 over-none xs d from at until =
     let none : from - from ≡ 0 = omega arith in
     let z : at + 0 ≡ at = omega arith in
     rw none (record { front = rw z (sym (append-nil (take at d))); beyond = λ k past below. refl; same = refl })
 
-pub none-kept : {text : List ℕ} {from to : ℕ} {out starts ends : List ℕ} {at until : ℕ} → StretchRoom text from to out starts ends at → Keeping text from to out starts ends at until out starts ends from
-none-kept {text} {from} {to} {out} {starts} {ends} {at} {until} r =
+pub stretch-none : {text : List ℕ} {i : ℕ} {out starts ends : List ℕ} {at until : ℕ} → Stretch text i (i + 0) out starts ends at until out starts ends
+stretch-none {text} {i} {out} {starts} {ends} {at} {until} =
+    let z : i + 0 ≡ i = omega arith in
+    rw z
+    (record {
+      text-over = over-none text out i at until;
+      starts-over = over-none (starting text .starts) starts i at until;
+      ends-over = over-none (starting text .ends) ends i at until;
+    })
+
+over-part : (xs : List ℕ) (i n k : ℕ) {d₀ d : List ℕ} {at : ℕ} → k ≤ n → i + n ≤ length xs → at ≤ length d₀ → Over (part xs i (i + n)) d₀ at 0 d → Over (part xs i (i + k)) d₀ at (at + n) d
+over-part xs i n k {d₀} {d} {at} few inside room o =
+    let long : length (part xs i (i + n)) ≡ i + n - i = length-part xs i (i + n) inside in
+    let is : i + k - i ≡ k = omega arith in
+    rw (part-front xs i (i + k) (i + n) (omega arith)) at
+    (over-front (i + k - i) (over-below (at + n) (omega arith) o) (omega arith) room (omega arith))
+
+-- the columns of a starting note, beside its text
+pub starts-long : (text : List ℕ) → length (starting text .starts) ≡ length text
+unfolding starting
+starts-long text = length-column (length text) (charStart text)
+
+pub ends-long : (text : List ℕ) → length (starting text .ends) ≡ length text
+unfolding starting
+ends-long text = length-column (length text) (charEnd text)
+
+pub stretch-front : {text : List ℕ} {i : ℕ} {out₀ starts₀ ends₀ : List ℕ} {at : ℕ} {out starts ends : List ℕ} (k : ℕ) → k ≤ 64 → StretchRoom text i (i + 64) out₀ starts₀ ends₀ at → Stretch text i (i + 64) out₀ starts₀ ends₀ at 0 out starts ends → Stretch text i (i + k) out₀ starts₀ ends₀ at (at + 64) out starts ends
+stretch-front {text} {i} k few r s =
     record {
-      begun = omega arith;
-      inside = omega (arith, r .onward, r .inside);
-      reach = λ past. absurd (omega (arith, r .onward));
-      laid = record {
-        text-over = over-none text out from at until;
-        starts-over = over-none (starting text .starts) starts from at until;
-        ends-over = over-none (starting text .ends) ends from at until;
-      };
+      text-over = over-part text i 64 k few (r .inside) (omega (arith, r .text-room)) (s .text-over);
+      starts-over = over-part (starting text .starts) i 64 k few (rw (starts-long text) (r .inside)) (omega (arith, r .starts-room)) (s .starts-over);
+      ends-over = over-part (starting text .ends) i 64 k few (rw (ends-long text) (r .inside)) (omega (arith, r .ends-room)) (s .ends-over);
     }
-
-over-more : (xs : List ℕ) (from i n : ℕ) {d₀ d d₁ : List ℕ} {at until : ℕ} → from ≤ i → i + n ≤ length xs → Over (part xs from i) d₀ at until d → Over (part xs i (i + n)) d (at + (i - from)) 0 d₁ → Over (part xs from (i + n)) d₀ at until d₁
-over-more xs from i n {d₁ = d₁} {until = until} h inside o l =
-    let long : length (part xs from i) ≡ i - from = length-part xs from i (omega arith) in
-    rw (part-append xs from i (i + n) h (omega arith)) at
-    (over-after {q = part xs i (i + n)} {d₂ = d₁} o (rw long (over-below until (omega arith) l)))
-
-over-cut : (xs : List ℕ) (from to i : ℕ) {d₀ d : List ℕ} {at until : ℕ} → from ≤ to → to ≤ i → i ≤ length xs → at ≤ length d₀ → (to < i → at + (i - from) ≤ until) → Over (part xs from i) d₀ at until d → Over (part xs from to) d₀ at until d
-over-cut xs from to i {d₀} {d} {at} {until} h past inside room reach o =
-    let long : length (part xs from i) ≡ i - from = length-part xs from i inside in
-    le-or-lt i to
-    (λ same. let is : i ≡ to = omega arith in rw is at o)
-    (λ more. rw (part-front xs from to i past) at (over-front (to - from) o (omega arith) room (omega (arith, reach more))))
-
-module _ {text : List ℕ} {from to : ℕ} {out₀ starts₀ ends₀ : List ℕ} {at until : ℕ} {out starts ends : List ℕ} {i : ℕ} (r : StretchRoom text from to out₀ starts₀ ends₀ at) (k : Keeping text from to out₀ starts₀ ends₀ at until out starts ends i) where
-  starts-long : length (starting text .starts) ≡ length text
-  unfolding starting
-  starts-long = length-column (length text) (charStart text)
-
-  ends-long : length (starting text .ends) ≡ length text
-  unfolding starting
-  ends-long = length-column (length text) (charEnd text)
-
-  -- room for n more
-  pub more-room : (n : ℕ) → i + n ≤ length text → at + (i - from) + n ≤ length out₀ → at + (i - from) + n ≤ length starts₀ → at + (i - from) + n ≤ length ends₀ → StretchRoom text i (i + n) out starts ends (at + (i - from))
-  more-room n inside a b c =
-      record {
-        formed = r .formed;
-        short = r .short;
-        onward = omega arith;
-        inside = inside;
-        text-room = omega (arith, k .laid .text-over .same);
-        starts-room = omega (arith, k .laid .starts-over .same);
-        ends-room = omega (arith, k .laid .ends-over .same);
-      }
-
-  -- and for a block that fits
-  pub block-room : (until ≤ length out₀) × (until ≤ length starts₀) × (until ≤ length ends₀) → BlockFits (length text) i to (at + (i - from)) until → StretchRoom text i (i + 64) out starts ends (at + (i - from)) × ((3 ≤ i) × (i + 67 ≤ length text))
-  block-room below f =
-      let enough : (n : ℕ) → until ≤ n → at + (to - from) ≤ n → at + (i - from) + 64 ≤ n =
-      λ n u h. le-or-lt (i + 64) to (λ in-stretch. omega (arith, k .begun)) (λ past. omega (arith, f .reach past)) in (
-        more-room 64 (omega (arith, f .inside)) (enough _ (below .0) (r .text-room)) (enough _ (below .1) (r .starts-room)) (enough _ (below .2) (r .ends-room)),
-        (f .low, f .inside),
-      )
-
-  pub more-kept : (n : ℕ) {out₁ starts₁ ends₁ : List ℕ} → i + n ≤ length text → (to < i + n → at + (i - from) + n ≤ until) → Stretch text i (i + n) out starts ends (at + (i - from)) 0 out₁ starts₁ ends₁ → Keeping text from to out₀ starts₀ ends₀ at until out₁ starts₁ ends₁ (i + n)
-  more-kept n inside reach s =
-      record {
-        begun = omega (arith, k .begun);
-        inside = inside;
-        reach = λ past. omega (arith, reach past, k .begun);
-        laid = record {
-          text-over = over-more text from i n (k .begun) inside (k .laid .text-over) (s .text-over);
-          starts-over = over-more (starting text .starts) from i n (k .begun) (rw starts-long inside) (k .laid .starts-over) (s .starts-over);
-          ends-over = over-more (starting text .ends) from i n (k .begun) (rw ends-long inside) (k .laid .ends-over) (s .ends-over);
-        };
-      }
-
-  pub all-kept : to ≤ i → Stretch text from to out₀ starts₀ ends₀ at until out starts ends
-  all-kept past =
-      record {
-        text-over = over-cut text from to i (r .onward) past (k .inside) (omega (arith, r .text-room)) (k .reach) (k .laid .text-over);
-        starts-over = over-cut (starting text .starts) from to i (r .onward) past (rw starts-long (k .inside)) (omega (arith, r .starts-room)) (k .reach) (k .laid .starts-over);
-        ends-over = over-cut (starting text .ends) from to i (r .onward) past (rw ends-long (k .inside)) (omega (arith, r .ends-room)) (k .reach) (k .laid .ends-over);
-      }
 
 -- a content, each byte of which carries the range of the byte before the match's end
 pub filler-laid : {text : List ℕ} {end : ℕ} {filler : List ℕ} {wide until : ℕ} {out starts ends : List ℕ} {at : ℕ} → FillerRoom text end filler wide until out starts ends at → {x y : ℕ} {out₁ starts₁ ends₁ : List ℕ} → x ≡ charStart text (end - 1) → y ≡ charEnd text (end - 1) → Over (part filler 0 wide) out at until out₁ → Over (replicate wide x) starts at until starts₁ → Over (replicate wide y) ends at until ends₁ → FillerLaid text end filler wide out starts ends at until out₁ starts₁ ends₁
@@ -228,3 +179,10 @@ filler-laid {text} {end} r p q t s e =
       starts-over = rw (before-some (column (length text) (charStart text)) end (r .some), getD-column (length text) (charStart text) (end - 1) last) (rw p at s);
       ends-over = rw (before-some (column (length text) (charEnd text)) end (r .some), getD-column (length text) (charEnd text) (end - 1) last) (rw q at e);
     }
+
+pub filler-exact : {text : List ℕ} {end : ℕ} {content : List ℕ} {out starts ends : List ℕ} {at : ℕ} → FillerRoom text end content (length content) 0 out starts ends at → {x y : ℕ} {out₁ starts₁ ends₁ : List ℕ} → x ≡ charStart text (end - 1) → y ≡ charEnd text (end - 1) → out₁ ≡ splice out at content → starts₁ ≡ splice starts at (replicate (length content) x) → ends₁ ≡ splice ends at (replicate (length content) y) → FillerLaid text end content (length content) out starts ends at 0 out₁ starts₁ ends₁
+filler-exact {content = content} {out} {starts} {ends} {at} r {x} {y} p q t s e =
+    filler-laid r p q
+    (rw (content-alone content) (over-exact content out at 0 (r .text-room) t))
+    (over-exact (replicate (length content) x) starts at 0 (omega (arith, r .starts-room, length-replicate (length content) x)) s)
+    (over-exact (replicate (length content) y) ends at 0 (omega (arith, r .ends-room, length-replicate (length content) y)) e)

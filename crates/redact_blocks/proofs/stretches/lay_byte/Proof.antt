@@ -2,9 +2,9 @@
 use mathlib.Core.Path.{refl}
 use native.Mathlib.Omega.{arith}
 use borrow.Author.Needs.{needs}
-use Rattle.redact.proofs.Keeping.{byte-laid, byte-small}
-use Rattle.redact.proofs.stretches.lay_byte.Statement.{statement}
-use Rattle.redact.proofs.stretches.lay_byte.Tie as tie
+use Rattle.redact_blocks.proofs.Keeping.{byte-laid, byte-small}
+use Rattle.redact_blocks.proofs.stretches.lay_byte.Statement.{statement}
+use Rattle.redact_blocks.proofs.stretches.lay_byte.Tie as tie
 
 pub lay-byte-spec : {M : Type 1} → statement M
 lay-byte-spec =

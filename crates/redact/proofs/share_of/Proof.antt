@@ -4,11 +4,11 @@ use native.Mathlib.Nat.{div-le-self}
 use native.Mathlib.Omega.{arith}
 use borrow.Author.Needs.{needs}
 use Rattle.redact.proofs.Blanks.{no-margin, margin-share}
-use Rattle.redact.proofs.margin_of.Statement.{statement}
-use Rattle.redact.proofs.margin_of.Tie as tie
+use Rattle.redact.proofs.share_of.Statement.{statement}
+use Rattle.redact.proofs.share_of.Tie as tie
 
-pub margin-of-spec : {M : Type 1} → statement M
-margin-of-spec =
+pub share-of-spec : {M : Type 1} → statement M
+share-of-spec =
     tie.close
     (tie.spec
     (λ c. search needs)
@@ -18,5 +18,5 @@ margin-of-spec =
     (λ c. no-margin _ _ _)
     (λ c. search needs)
     (λ c. search needs)
-    (λ c. omega (arith, div-le-self (64 * c .before .before .before .args .literal) (c .before .least-of-two .result)))
+    (λ c. omega (arith, div-le-self (144 * c .before .before .before .args .literal) (c .before .least-of-two .result)))
     (λ c. margin-share _ _ _ (c .before .least-of-two .ensures) (omega arith)))

@@ -1,4 +1,4 @@
--- What the functions that lay stretches of a starting note are told and say.
+-- What the functions that lay stretches of a starting note, and a content between them, are told and say.
 use Prim.Native.Nat.{ℕ, _+_, _-_, _≤_, _<_}
 use mathlib.Core.Path.{_≡_}
 use mathlib.Core.Bool.{true}
@@ -27,12 +27,6 @@ pub record Stretch (text : List ℕ) (from to : ℕ) (out₀ starts₀ ends₀ :
   pub text-over : Over (part text from to) out₀ at until out
   pub starts-over : Over (part (starting text .starts) from to) starts₀ at until starts
   pub ends-over : Over (part (starting text .ends) from to) ends₀ at until ends
-
--- a block of 64 from i on, whose neighbours are there, ends within the stretch or below `until`
-pub record BlockFits (size i to at until : ℕ) : Type 0 where
-  pub low : 3 ≤ i
-  pub inside : i + 67 ≤ size
-  pub reach : to < i + 64 → at + 64 ≤ until
 
 -- a content of `wide` bytes in the place of a match that ends at `end`, and room for it
 pub record FillerRoom (text : List ℕ) (end : ℕ) (filler : List ℕ) (wide until : ℕ) (out starts ends : List ℕ) (at : ℕ)

@@ -1,25 +1,27 @@
-// The starting note of a text, laid stretch by stretch straight from the text: its bytes, and the alignments that it
-// would have, counted from the bytes beside them. Blocks of 64 are laid below `until`, which is within the result.
+// The starting note of a text, laid straight from the text: its bytes, and the alignments that it would have, counted
+// from the bytes beside them; and a content in the place of a match.
 // Each function here is an inner one: text and room were judged before.
 use buffers::Offset;
 use buffers::blocks::copy_bytes_block;
 use buffers::blocks::copy_bytes_over;
 use buffers::blocks::fill_offsets_over;
+use buffers::copy_bytes;
+use buffers::fill_offsets;
 use from_text::columns::char_end;
 use from_text::columns::char_start;
 use from_text::columns::ends_block;
 use from_text::columns::starts_block;
 ghost use mathlib.Core.Path.{_≡_};
 ghost use mathlib.Core.Bool.{true};
-ghost use Prim.Native.Nat.{_+_, _-_, _≤_, _<_};
+ghost use Prim.Native.Nat.{_+_, _-_, _≤_};
 ghost use lib.ListN.{length};
 ghost use Rattle.buffers.specs.Columns.{Filled};
 ghost use Rattle.validity.specs.Texts.{ascii};
 ghost use Rattle.note.specs.Notes.{limit};
-ghost use Rattle.redact.specs.Keeping.{BlockFits, FillerLaid, FillerRoom, Stretch, StretchRoom};
+ghost use Rattle.redact_blocks.specs.Keeping.{FillerLaid, FillerRoom, Stretch, StretchRoom};
 
 // The byte at `i` with its alignment.
-fn lay_byte(
+pub fn lay_byte(
     text: &[u8],
     i: usize,
     out: &mut [u8],
@@ -52,7 +54,7 @@ fn count_up(first: Offset, out: &mut [Offset], at: usize)
 }
 
 // The 64 bytes from `i` on with their alignments; `plain` where the text is known to be ASCII.
-fn lay_block(
+pub fn lay_block(
     text: &[u8],
     plain: bool,
     i: usize,
@@ -78,60 +80,6 @@ fn lay_block(
     ends_block(text, i, out_ends, at);
 }
 
-// Whether a block can be laid: the bytes that its alignments are counted from are there, and it ends within the
-// stretch or below `until`.
-fn block_fits(size: usize, i: usize, to: usize, at: usize, until: usize) -> bool
-    requires { ⌜ (i ≤ size) × (i < to) ⌝ }
-    ensures { λ r. ⌜ (r ≡ true → BlockFits size i to at until) ⌝ }
-{
-    if i < 3 {
-        return false;
-    }
-    if size - i < 67 {
-        return false;
-    }
-    if 64 <= to - i {
-        return true;
-    }
-    if until < at {
-        return false;
-    }
-    64 <= until - at
-}
-
-// The bytes from `from` up to `to` with their alignments, in the buffers from `at` on.
-pub fn keep(
-    text: &[u8],
-    plain: bool,
-    from: usize,
-    to: usize,
-    until: usize,
-    out: &mut [u8],
-    out_starts: &mut [Offset],
-    out_ends: &mut [Offset],
-    at: usize,
-)
-    requires { ⌜ StretchRoom (now text) from to (now out) (now «out_starts») (now «out_ends») at ⌝ }
-    requires { ⌜ (until ≤ length (now out))
-        × (until ≤ length (now «out_starts»)) × (until ≤ length (now «out_ends»)) ⌝ }
-    requires { ⌜ (plain ≡ true → ascii (now text) ≡ true) ⌝ }
-    ensures { λ _. ⌜ Stretch (now (text .entry)) from to
-        (now (out .entry)) (now («out_starts» .entry)) (now («out_ends» .entry)) at until
-        (now (out .exit)) (now («out_starts» .exit)) (now («out_ends» .exit)) ⌝ }
-{
-    let mut i = from;
-    while i < to {
-        let here = at + (i - from);
-        if block_fits(text.len(), i, to, here, until) {
-            lay_block(text, plain, i, out, out_starts, out_ends, here);
-            i += 64;
-        } else {
-            lay_byte(text, i, out, out_starts, out_ends, here);
-            i += 1;
-        }
-    }
-}
-
 // The content, which is what `filler` has in front, in the place of a match that ends at `end`.
 pub fn fill(
     text: &[u8],
@@ -154,4 +102,27 @@ pub fn fill(
     copy_bytes_over(filler, 0, wide, out, at, until);
     fill_offsets_over(first, wide, out_starts, at, until);
     fill_offsets_over(last, wide, out_ends, at, until);
+}
+
+// The same of the content alone, by no block.
+pub fn fill_exact(
+    text: &[u8],
+    end: usize,
+    content: &[u8],
+    out: &mut [u8],
+    out_starts: &mut [Offset],
+    out_ends: &mut [Offset],
+    at: usize,
+)
+    requires { ⌜ FillerRoom (now text) end (now content) (length (now content)) 0
+        (now out) (now «out_starts») (now «out_ends») at ⌝ }
+    ensures { λ _. ⌜ FillerLaid (now (text .entry)) end (now (content .entry)) (length (now (content .entry)))
+        (now (out .entry)) (now («out_starts» .entry)) (now («out_ends» .entry)) at 0
+        (now (out .exit)) (now («out_starts» .exit)) (now («out_ends» .exit)) ⌝ }
+{
+    let first = char_start(text, end - 1) as Offset;
+    let last = char_end(text, end - 1) as Offset;
+    copy_bytes(content, out, at);
+    fill_offsets(first, content.len(), out_starts, at);
+    fill_offsets(last, content.len(), out_ends, at);
 }

@@ -1,0 +1,232 @@
+// Blanking a literal in the starting note of a text, laid straight from the text: neither the note nor a list is
+// written. A block of 64 bytes is searched and laid whole, then the position goes on to the first candidate in it; what
+// was laid beyond is overwritten by the content and the next block, and ends within the result. Where a block cannot be
+// laid, what is left is laid byte by byte.
+// Each function here is an inner one: text, literal and room were judged before.
+pub mod stretches;
+
+use buffers::Offset;
+use checks::least_of_two;
+use find::search::candidate;
+use find::search::occurs_at;
+use stretches::fill;
+use stretches::fill_exact;
+use stretches::lay_block;
+use stretches::lay_byte;
+ghost use mathlib.Core.Path.{_≡_};
+ghost use Prim.Native.Nat.{_≤_, _<_};
+ghost use lib.ListN.{length};
+ghost use Rattle.find.specs.Matching.{occursAt};
+ghost use Rattle.redact_blocks.specs.Blanks.{AllLaid, Blankable, Blanked, BlockRoom, Bounded, Passed};
+
+// How far a result is laid: the text's bytes before `i` are what it has before `at`.
+pub struct Reached {
+    pub i: usize,
+    pub at: usize,
+}
+
+// Whether the literal stands in the text at `p`.
+fn stands(text: &[u8], literal: &[u8], p: usize) -> bool
+    requires { ⌜ (0 < length (now literal)) × (p ≤ length (now text)) ⌝ }
+    ensures { λ r. ⌜ r ≡ occursAt (now (text .entry)) (now (literal .entry)) p ⌝ }
+{
+    if text.len() - p < literal.len() {
+        return false;
+    }
+    occurs_at(text, literal, p)
+}
+
+// Byte by byte from `from` on, up to `stop` or the end of a match past it; the result is laid before `base`.
+pub fn blank_bytes(
+    text: &[u8],
+    literal: &[u8],
+    content: &[u8],
+    from: usize,
+    base: usize,
+    stop: usize,
+    out: &mut [u8],
+    out_starts: &mut [Offset],
+    out_ends: &mut [Offset],
+) -> Reached
+    requires { ⌜ Blankable (now text) (now literal) (now content) from base
+        (now out) (now «out_starts») (now «out_ends») × (stop ≤ length (now text)) ⌝ }
+    ensures { λ r. ⌜ Blanked (now (text .entry)) (now (literal .entry)) (now (content .entry)) from base
+        (now (out .entry)) (now («out_starts» .entry)) (now («out_ends» .entry)) (r .i) (r .at)
+        (now (out .exit)) (now («out_starts» .exit)) (now («out_ends» .exit)) × (stop ≤ r .i) ⌝ }
+{
+    let mut i = from;
+    let mut at = base;
+    while i < stop {
+        if stands(text, literal, i) {
+            i += literal.len();
+            fill_exact(text, i, content, out, out_starts, out_ends, at);
+            at += content.len();
+        } else {
+            lay_byte(text, i, out, out_starts, out_ends, at);
+            i += 1;
+            at += 1;
+        }
+    }
+    Reached { i, at }
+}
+
+// The 64 bytes from `i` on, searched and laid; how many of them stand before the first candidate. The search comes
+// first: the next block waits for it alone.
+fn lay_ahead(
+    text: &[u8],
+    plain: bool,
+    literal: &[u8],
+    first: u8,
+    last: u8,
+    i: usize,
+    out: &mut [u8],
+    out_starts: &mut [Offset],
+    out_ends: &mut [Offset],
+    at: usize,
+) -> usize
+    requires { ⌜ BlockRoom (now text) plain (now literal) first last i
+        (now out) (now «out_starts») (now «out_ends») at ⌝ }
+    ensures { λ r. ⌜ Passed (now (text .entry)) (now (literal .entry)) i
+        (now (out .entry)) (now («out_starts» .entry)) (now («out_ends» .entry)) at r
+        (now (out .exit)) (now («out_starts» .exit)) (now («out_ends» .exit)) ⌝ }
+{
+    let j = i + (literal.len() - 1);
+    let k = candidate(&text[i..i + 64], &text[j..j + 64], first, last);
+    if k == 0 {
+        return 0;
+    }
+    lay_block(text, plain, i, out, out_starts, out_ends, at);
+    k
+}
+
+// In blocks from `from` on, while `margin` bytes of the text are left and 144 elements end below `until`; the result is
+// laid before `base`. `gap` is how far `at` is ahead of `i`, and the text's length: one number goes on with each block.
+pub fn blank_blocks(
+    text: &[u8],
+    plain: bool,
+    literal: &[u8],
+    content: &[u8],
+    filler: &[u8],
+    margin: usize,
+    until: usize,
+    from: usize,
+    base: usize,
+    out: &mut [u8],
+    out_starts: &mut [Offset],
+    out_ends: &mut [Offset],
+) -> Reached
+    requires { ⌜ Blankable (now text) (now literal) (now content) from base
+        (now out) (now «out_starts») (now «out_ends»)
+        × Bounded (now text) plain (now literal) (now content) (now filler) from base margin until
+        × (3 ≤ length (now text) → 3 ≤ from) ⌝ }
+    ensures { λ r. ⌜ Blanked (now (text .entry)) (now (literal .entry)) (now (content .entry)) from base
+        (now (out .entry)) (now («out_starts» .entry)) (now («out_ends» .entry)) (r .i) (r .at)
+        (now (out .exit)) (now («out_starts» .exit)) (now («out_ends» .exit)) ⌝ }
+{
+    let first = literal[0];
+    let last = literal[literal.len() - 1];
+    let mut i = from;
+    let mut gap = base + text.len() - from;
+    while margin <= text.len() - i {
+        let at = i + gap - text.len();
+        if until < at + 144 {
+            return Reached { i, at };
+        }
+        let k = lay_ahead(
+            text,
+            plain,
+            literal,
+            first,
+            last,
+            i,
+            out,
+            out_starts,
+            out_ends,
+            at,
+        );
+        i += k;
+        if k < 64 {
+            let here = at + k;
+            if occurs_at(text, literal, i) {
+                i += literal.len();
+                fill(
+                    text,
+                    i,
+                    filler,
+                    content.len(),
+                    here + 80,
+                    out,
+                    out_starts,
+                    out_ends,
+                    here,
+                );
+                gap = gap + content.len() - literal.len();
+            } else {
+                lay_byte(text, i, out, out_starts, out_ends, here);
+                i += 1;
+            }
+        }
+    }
+    let at = i + gap - text.len();
+    Reached { i, at }
+}
+
+// All of the text: the first bytes one by one, since a block counts from the three before it, then blocks, then what is
+// left; how many bytes there are then.
+pub fn blank(
+    text: &[u8],
+    plain: bool,
+    literal: &[u8],
+    content: &[u8],
+    filler: &[u8],
+    margin: usize,
+    until: usize,
+    out: &mut [u8],
+    out_starts: &mut [Offset],
+    out_ends: &mut [Offset],
+) -> usize
+    requires { ⌜ Blankable (now text) (now literal) (now content) 0 0 (now out) (now «out_starts») (now «out_ends»)
+        × Bounded (now text) plain (now literal) (now content) (now filler) 0 0 margin until ⌝ }
+    ensures { λ r. ⌜ AllLaid (now (text .entry)) (now (literal .entry)) (now (content .entry))
+        (now (out .entry)) (now («out_starts» .entry)) (now («out_ends» .entry))
+        r (now (out .exit)) (now («out_starts» .exit)) (now («out_ends» .exit)) ⌝ }
+{
+    let stop = least_of_two(3, text.len());
+    let begun = blank_bytes(
+        text,
+        literal,
+        content,
+        0,
+        0,
+        stop,
+        out,
+        out_starts,
+        out_ends,
+    );
+    let most = blank_blocks(
+        text,
+        plain,
+        literal,
+        content,
+        filler,
+        margin,
+        until,
+        begun.i,
+        begun.at,
+        out,
+        out_starts,
+        out_ends,
+    );
+    let all = blank_bytes(
+        text,
+        literal,
+        content,
+        most.i,
+        most.at,
+        text.len(),
+        out,
+        out_starts,
+        out_ends,
+    );
+    all.at
+}
