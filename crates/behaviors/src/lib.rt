@@ -7,13 +7,10 @@ use pattern::Entry;
 use pattern::Place;
 use pattern::entry_at;
 ghost use mathlib.Core.Path.{_≡_};
-ghost use mathlib.Core.Bool.{true};
-ghost use Prim.Native.Nat.{_+_, _≤_};
-ghost use lib.ListN.{length};
 ghost use Rattle.note.specs.Notes.{limit};
 ghost use Rattle.behaviors.specs.Splits.{goes};
 ghost use Rattle.behaviors.specs.Joining.{joins, loses};
-ghost use Rattle.behaviors.specs.Runs.{bytesOf, given, joinedBy, joinTable, listPieces, onwardIf, stays};
+ghost use Rattle.behaviors.specs.Runs.{given, joinedBy, joinTable, listPieces, onwardIf, stays};
 ghost use Rattle.behaviors.specs.Runs.{Addable, Listed, RunLaid, RunRoom, SpansLaid, SpansRoom, sizesWith};
 
 // What becomes of the delimiters, the matched places.

@@ -116,8 +116,8 @@ fn lower_piece(
     write_lowered(&ends[from..to], base, out_ends, at);
 }
 
-// For each piece from..to its shift, its transcript's length, and its alignments, each less where its transcript starts.
-// The alignments of all pieces are `until`.
+// For each piece from..to its shift, its transcript's length, and its alignments, each less where its transcript
+// starts. The alignments of all pieces are `until`.
 fn write_columns(
     starts: &[Offset],
     ends: &[Offset],

@@ -6,6 +6,7 @@ use mathlib.Core.List.{List, [], _∷_}
 use lib.Dec.{leb, ltb}
 use lib.ListN.{length, getD, take}
 use Rattle.buffers.specs.Splice.{overlay}
+use Rattle.validity.specs.Texts.{ascii}
 use Rattle.char_offsets.specs.Steps.{IndexKnown}
 use Rattle.convert.specs.declared.OffsetReferential.{OffsetReferential}
 use Rattle.convert.specs.declared.OffsetReferential.the-variants.{Original, Normalized}
@@ -46,6 +47,10 @@ Known most s c = IndexKnown most s (c .at) (c .index)
 pub record BothKnown (most : ℕ) (s : List ℕ) (first last : Cursor) : Type 0 where
   pub first-known : Known most s first
   pub last-known : Known most s last
+
+-- a flag that tells a text of bytes below 80
+pub record PlainIf (s : List ℕ) (plain : Bool) : Type 0 where
+  pub below : plain ≡ true → ascii s ≡ true
 
 -- the numbers of two bytes, and the characters that are known then
 pub record Stepped (most : ℕ) (s : List ℕ) (unit : OffsetType) (a e : ℕ) (r : Offsets) : Type 0 where

@@ -14,15 +14,19 @@ use note::Verdict;
 use note::answers::refused_if;
 use pattern::covers;
 use pattern::most_places;
+use validity::is_ascii;
 ghost use mathlib.Core.Path.{_≡_};
+ghost use mathlib.Core.Bool.{true};
 ghost use Prim.Native.Nat.{_<_};
 ghost use lib.ListN.{length};
+ghost use Rattle.validity.specs.Texts.{ascii};
 ghost use Rattle.note.specs.Notes.{lent, limit};
 ghost use Rattle.note.specs.Refusals.{verdict};
 ghost use Rattle.char_offsets.specs.Positions.{indexOf};
 ghost use Rattle.splits.specs.declared.OffsetType.the-variants.{Char};
 ghost use Rattle.splits.specs.SplitOffsets.{GetSplits, splitsFaults};
-ghost use Rattle.splits.specs.Steps.{BothKnown, BytesAre, Piece, SpansConverted, SpansReady, Stepped};
+ghost use Rattle.splits.specs.Steps.{BothKnown, BytesAre, Piece, PlainIf, SpansConverted};
+ghost use Rattle.splits.specs.Steps.{SpansReady, Stepped};
 
 // What offsets count (Rust: `OffsetType`).
 pub enum OffsetType {
@@ -134,16 +138,52 @@ fn in_chars(text: &[u8], first: Cursor, last: Cursor, start: u32, end: u32) -> O
     }
 }
 
+// Whether characters are asked of a text whose characters are its bytes.
+fn is_plain(text: &[u8], unit: OffsetType) -> bool
+    ensures { λ r. ⌜ PlainIf (now (text .entry)) r ⌝ }
+{
+    match unit {
+        OffsetType::Byte => false,
+        OffsetType::Char => is_ascii(text),
+    }
+}
+
+// Two bytes as characters of such a text, where nothing is counted.
+fn in_plain(text: &[u8], first: Cursor, last: Cursor, start: u32, end: u32) -> Offsets
+    requires { ⌜ BothKnown limit (now text) first last ⌝ }
+    requires { ⌜ ascii (now text) ≡ true ⌝ }
+    ensures { λ r. ⌜ Stepped limit (now (text .entry)) Char start end r ⌝ }
+{
+    if (start as usize) < text.len() {
+        if text.len() < end as usize {
+            return Offsets {
+                start,
+                end: start + 2,
+                first,
+                last,
+            };
+        }
+    }
+    Offsets {
+        start,
+        end,
+        first,
+        last,
+    }
+}
+
 // Two bytes in what was asked.
 fn in_unit(
     text: &[u8],
     unit: OffsetType,
+    plain: bool,
     first: Cursor,
     last: Cursor,
     start: u32,
     end: u32,
 ) -> Offsets
     requires { ⌜ BothKnown limit (now text) first last ⌝ }
+    requires { ⌜ PlainIf (now text) plain ⌝ }
     ensures { λ r. ⌜ Stepped limit (now (text .entry)) unit start end r ⌝ }
 {
     match unit {
@@ -153,7 +193,12 @@ fn in_unit(
             first,
             last,
         },
-        OffsetType::Char => in_chars(text, first, last, start, end),
+        OffsetType::Char => {
+            if plain {
+                return in_plain(text, first, last, start, end);
+            }
+            in_chars(text, first, last, start, end)
+        }
     }
 }
 
@@ -175,6 +220,7 @@ fn convert_spans(
         side unit count (now («out_starts» .entry)) (now («out_ends» .entry))
         (now («out_starts» .exit)) (now («out_ends» .exit)) ⌝ }
 {
+    let plain = is_plain(original, unit);
     let mut first = Cursor { at: 0, index: 0 };
     let mut last = Cursor { at: 0, index: 0 };
     let mut sum: u32 = 0;
@@ -183,7 +229,7 @@ fn convert_spans(
         let from = out_starts[k];
         let to = out_ends[k];
         let bytes = piece_bytes(starts, ends, original_shift, side, sum, from, to);
-        let offsets = in_unit(original, unit, first, last, bytes.start, bytes.end);
+        let offsets = in_unit(original, unit, plain, first, last, bytes.start, bytes.end);
         out_starts[k] = offsets.start;
         out_ends[k] = offsets.end;
         first = offsets.first;

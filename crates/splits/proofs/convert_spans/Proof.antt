@@ -1,59 +1,60 @@
 -- Each turn turns one more piece's span into its offsets.
 use Prim.Native.Nat.{_-_}
 use native.Mathlib.Omega.{arith}
+use borrow.Author.Needs.{needs}
 use Rattle.note.specs.Notes.{limit}
 use Rattle.splits.proofs.Converting.{Converting, none-converted, piece-here, in-columns, one-converted, all-converted}
 use Rattle.splits.proofs.convert_spans.Statement.{statement}
 use Rattle.splits.proofs.convert_spans.Tie as tie
 
 abbrev Inv-loop : tie.InvT-loop
-Inv-loop original starts ends shift side unit count from₀ to₀ first₀ last₀ sum₀ k₀ from to first last sum k =
+Inv-loop original starts ends shift side unit count from₀ to₀ plain first₀ last₀ sum₀ k₀ from to first last sum k =
     Converting limit original starts ends shift side unit count from₀ to₀ first last sum k from to
 
 abbrev μ-loop : tie.MeasureT-loop
-μ-loop original starts ends shift side unit count from₀ to₀ first₀ last₀ sum₀ k₀ from to first last sum k = count - k
+μ-loop original starts ends shift side unit count from₀ to₀ plain first₀ last₀ sum₀ k₀ from to first last sum k = count - k
 
 read-from : tie.Need-slice-read-from Inv-loop μ-loop
-read-from c = let head = c .before .before in in-columns (head .before .before .before .before .before .before .pre) (head .loop .inv) (c .before .loop-test .taken) .0
+read-from c = let head = c .before .before in in-columns (head .before .before .before .before .before .before .before .pre) (head .loop .inv) (c .before .loop-test .taken) .0
 
 read-to : tie.Need-slice-read-to Inv-loop μ-loop
-read-to c = let head = c .before .before .before in in-columns (head .before .before .before .before .before .before .pre) (head .loop .inv) (c .before .before .loop-test .taken) .1
+read-to c = let head = c .before .before .before in in-columns (head .before .before .before .before .before .before .before .pre) (head .loop .inv) (c .before .before .loop-test .taken) .1
 
 piece-asked : tie.Need-piece-bytes-requires Inv-loop μ-loop
-piece-asked c κs = let head = c .before .before .before in piece-here (head .before .before .before .before .before .before .pre) (head .loop .inv) (c .before .before .loop-test .taken)
+piece-asked c κs = let head = c .before .before .before in piece-here (head .before .before .before .before .before .before .before .pre) (head .loop .inv) (c .before .before .loop-test .taken)
 
 write-from : tie.Need-slice-write-out-starts Inv-loop μ-loop
-write-from c = let head = c .before .before .before .before .before in in-columns (head .before .before .before .before .before .before .pre) (head .loop .inv) (c .before .before .before .before .loop-test .taken) .0
+write-from c = let head = c .before .before .before .before .before in in-columns (head .before .before .before .before .before .before .before .pre) (head .loop .inv) (c .before .before .before .before .loop-test .taken) .0
 
 write-to : tie.Need-slice-write-out-ends Inv-loop μ-loop
-write-to c = let head = c .before .before .before .before .before in in-columns (head .before .before .before .before .before .before .pre) (head .loop .inv) (c .before .before .before .before .loop-test .taken) .1
+write-to c = let head = c .before .before .before .before .before in in-columns (head .before .before .before .before .before .before .before .pre) (head .loop .inv) (c .before .before .before .before .loop-test .taken) .1
 
 mul-from : tie.Need-mul-out-starts Inv-loop μ-loop
 mul-from c =
     let head = c .before .before .before .before .before in
-    omega (arith, head .before .before .before .before .before .before .good .1 .1 .1 .1 .1 .1 .1 .0, head .loop .inv .starts-laid .same, in-columns (head .before .before .before .before .before .before .pre) (head .loop .inv) (c .before .before .before .before .loop-test .taken) .0)
+    omega (arith, head .before .before .before .before .before .before .before .good .1 .1 .1 .1 .1 .1 .1 .0, head .loop .inv .starts-laid .same, in-columns (head .before .before .before .before .before .before .before .pre) (head .loop .inv) (c .before .before .before .before .loop-test .taken) .0)
 
 mul-to : tie.Need-mul-out-ends Inv-loop μ-loop
 mul-to c =
     let head = c .before .before .before .before .before in
-    omega (arith, head .before .before .before .before .before .before .good .1 .1 .1 .1 .1 .1 .1 .1 .0, head .loop .inv .ends-laid .same, in-columns (head .before .before .before .before .before .before .pre) (head .loop .inv) (c .before .before .before .before .loop-test .taken) .1)
+    omega (arith, head .before .before .before .before .before .before .before .good .1 .1 .1 .1 .1 .1 .1 .1 .0, head .loop .inv .ends-laid .same, in-columns (head .before .before .before .before .before .before .before .pre) (head .loop .inv) (c .before .before .before .before .loop-test .taken) .1)
 
 sub-sum : tie.Need-sub-sum Inv-loop μ-loop
 sub-sum c =
     let head = c .before .before .before .before .before .before .before in
-    let piece = piece-here (head .before .before .before .before .before .before .pre) (head .loop .inv) (c .before .before .before .before .before .before .loop-test .taken) in
+    let piece = piece-here (head .before .before .before .before .before .before .before .pre) (head .loop .inv) (c .before .before .before .before .before .before .loop-test .taken) in
     omega (arith, piece .some, piece .behind)
 
 add-sum : tie.Need-add-sum Inv-loop μ-loop
 add-sum c =
     let head = c .before .before .before .before .before .before .before in
-    let piece = piece-here (head .before .before .before .before .before .before .pre) (head .loop .inv) (c .before .before .before .before .before .before .loop-test .taken) in
+    let piece = piece-here (head .before .before .before .before .before .before .before .pre) (head .loop .inv) (c .before .before .before .before .before .before .loop-test .taken) in
     omega (arith, piece .some, piece .behind, piece .in-starts, piece .few)
 
 loop-again : tie.Need-loop-again Inv-loop μ-loop
 loop-again c =
     let head = c .before .before .before .before .before .before .before in
-    one-converted (head .before .before .before .before .before .before .pre) (head .loop .inv) (c .before .before .before .before .before .before .loop-test .taken) (c .before .before .before .piece-bytes .ensures) (c .before .before .in-unit .ensures)
+    one-converted (head .before .before .before .before .before .before .before .pre) (head .loop .inv) (c .before .before .before .before .before .before .loop-test .taken) (c .before .before .before .piece-bytes .ensures) (c .before .before .in-unit .ensures)
 
 pub convert-spans-spec : {M : Type 1} → statement M
 convert-spans-spec =
@@ -61,22 +62,23 @@ convert-spans-spec =
     (tie.spec
     Inv-loop
     μ-loop
-    (λ c. none-converted (c .before .before .before .before .before .pre) _ _)
+    (λ c κs. search needs)
+    (λ c. none-converted (c .before .before .before .before .before .before .pre) _ _)
     (λ c. omega arith)
     read-from
     (λ c. omega arith)
     read-to
     piece-asked
-    (λ c κs. c .before .before .before .before .loop .inv .known)
+    (λ c κs. (c .before .before .before .before .loop .inv .known, c .before .before .before .before .before .is-plain .ensures))
     mul-from
     write-from
     mul-to
     write-to
     sub-sum
     add-sum
-    (λ c. omega arith)
+    (λ c. omega (arith, c .before .before .before .before .before .before .loop-test .taken, c .before .before .before .before .before .before .before .before .before .before .before .before .before .before .fits .count))
     (λ c. omega arith)
     loop-again
     (λ c. c .before .loop .inv .starts-laid .same)
     (λ c. c .before .loop .inv .ends-laid .same)
-    (λ c. all-converted (c .before .before .before .before .before .before .before .pre) (c .before .loop .inv) (c .loop-test .left)))
+    (λ c. all-converted (c .before .before .before .before .before .before .before .before .pre) (c .before .loop .inv) (c .loop-test .left)))

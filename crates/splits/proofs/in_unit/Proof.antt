@@ -10,6 +10,8 @@ in-unit-spec =
     (tie.spec
     (λ c. search needs)
     (λ c. search needs)
+    (λ c κs. (c .before .before .before .before .pre .0, c .before .before .before .before .pre .1 .below (c .if1 .taken)))
+    (λ c. in-characters (c .before .before .enum-told2 .given .1) (c .in-plain .ensures))
     (λ c κs. search needs)
-    (λ c. in-bytes _ _ _ (c .before .before .before .pre) (c .enum-told .given .1))
-    (λ c. in-characters (c .before .enum-told2 .given .1) (c .in-chars .ensures)))
+    (λ c. in-bytes _ _ _ (c .before .before .before .pre .0) (c .enum-told .given .1))
+    (λ c. in-characters (c .before .before .enum-told2 .given .1) (c .in-chars .ensures)))
