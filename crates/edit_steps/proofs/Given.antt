@@ -1,14 +1,16 @@
 -- Laws of `given` and `relaid`: what commands give is as long as their characters, and it is laid down command by command.
 use Prim.Native.Nat.{ℕ, _+_, _-_, _^_, _≤_, _<_}
 use mathlib.Core.Path.{_≡_, _∙_, ap, refl, sym}
-use mathlib.Core.Bool.{Bool, true, false, _||_}
+use mathlib.Core.Bool.{true, false}
 use mathlib.Core.List.{List, [], _∷_, _++_, append-assoc}
 use native.Mathlib.Omega.{arith}
-use lib.ListN.{length, getD, take, drop, replicate, length-append, length-take, length-drop, length-replicate}
+use lib.ListN.{length, getD, take, drop, replicate, length-append, length-drop, length-replicate}
 use lib.Seq.{length-take-le}
-use Rattle.buffers.specs.Splice.{part, splice, overlay, Laid}
-use Rattle.buffers.proofs.Cases.{true-or-false, le-or-lt, clash}
-use Rattle.buffers.proofs.Splice.{Laying, piece-laid, laying-size, all-laid, length-splice, splice-splice, splice-overlay, take-overlay, length-overlay, length-part, part-end}
+use Rattle.buffers.specs.Splice.{part, splice, overlay}
+use Rattle.buffers.specs.Over.{Over}
+use Rattle.buffers.proofs.Cases.{true-or-false, clash}
+use Rattle.buffers.proofs.Splice.{length-splice, splice-splice, splice-overlay, take-overlay, length-overlay, length-part, part-end}
+use Rattle.buffers.proofs.Over.{Reaching, run-reached, all-reached, reaching-size, over-exact, over-front}
 use Rattle.utf8.specs.Scalar.{bytesOf}
 use Rattle.utf8.specs.declared.Encoded.{Encoded}
 use Rattle.utf8.specs.Encoding.{EncodedAs}
@@ -19,8 +21,8 @@ use Rattle.script.specs.Scripts.{sizeOf}
 use Rattle.script.proofs.Scripts.{size-most}
 use Rattle.edit_steps.specs.declared.walking.Progress.{Progress}
 use Rattle.edit_steps.specs.Edits.{skipped, starves, moved, starved, carries, characters, carried, given, begins, relaid, edited, transformed, Unchanged}
-use Rattle.edit_steps.specs.Walking.{Standing, Tabled, Counting, sizes, stepped}
-use Rattle.edit_steps.specs.Laying.{KeepRoom, Kept, Reached, Room, CommandLaid, CommandsRoom, CommandsLaid, EditRoom, EditLaid}
+use Rattle.edit_steps.specs.Walking.{Standing, Counting, sizes, stepped}
+use Rattle.edit_steps.specs.Laying.{KeepRoom, Kept, Reached, Room, CommandLaid, Below, CommandOver, CommandsRoom, CommandsLaid, EditRoom, EditLaid}
 use Rattle.edit_steps.proofs.Positions.{feeds, standing-moved, stepped-fed}
 
 -- one character
@@ -39,8 +41,15 @@ module _ {c : ℕ} {r : Encoded} (e : EncodedAs c r) where
   pub encoded-inside : r .len ≤ length (r .bytes)
   encoded-inside = omega (arith, encoded-size, encoded-four, size-most c)
 
-  pub encoded-laid : {d₀ d : List ℕ} {at : ℕ} → d ≡ splice d₀ at (take (r .len) (r .bytes)) → Laid (bytesOf c) d₀ at (at + r .len) d
-  encoded-laid is = record { reach = rw (e .len-is); holds = rw encoded-front at is }
+  -- laid exactly, or all four
+  pub encoded-exact : {d₀ d : List ℕ} {at : ℕ} (until : ℕ) → at + sizeOf c ≤ length d₀ → d ≡ splice d₀ at (take (r .len) (r .bytes)) → Over (bytesOf c) d₀ at until d
+  unfolding sizeOf
+  encoded-exact {d₀} {at = at} until room is = over-exact (bytesOf c) d₀ at until room (rw encoded-front at is)
+
+  pub encoded-over : {d₀ d : List ℕ} {at until : ℕ} → at + 4 ≤ until → until ≤ length d₀ → d ≡ splice d₀ at (r .bytes) → Over (bytesOf c) d₀ at until d
+  encoded-over {d₀} {at = at} {until} below room is =
+      rw encoded-front at
+      (over-front (r .len) (over-exact (r .bytes) d₀ at until (omega (arith, encoded-four)) is) encoded-inside (omega arith) (omega (arith, encoded-four)))
 
 -- what a command carries
 pub carries-added : (xs : List ℕ) (p : ℕ) (c : Command) {v : ℕ} → c .added ≡ true → v ≡ beforeEnd xs p → v ≡ carries xs p c
@@ -59,15 +68,9 @@ pub carried-wide : (xs : List ℕ) (p : ℕ) (c : Command) → length (carried x
 carried-wide xs p c = length-replicate (sizeOf (c .character)) (carries xs p c)
 
 -- one command, laid down
-pub command-laid : (starts ends : List ℕ) (g : Progress) (c : Command) (out₀ starts₀ ends₀ : List ℕ) {end x y : ℕ} {out starts₁ ends₁ : List ℕ} → Laid (bytesOf (c .character)) out₀ (g .written) end out → x ≡ carries starts (g .position) c → y ≡ carries ends (g .position) c → starts₁ ≡ splice starts₀ (g .written) (replicate (end - g .written) x) → ends₁ ≡ splice ends₀ (g .written) (replicate (end - g .written) y) → CommandLaid starts ends g c out₀ starts₀ ends₀ out starts₁ ends₁
-unfolding sizeOf
-command-laid starts ends g c out₀ starts₀ ends₀ {end} l sx sy ps pe =
-    let size : end - g .written ≡ length (bytesOf (c .character)) = omega (arith, l .reach) in
-    record { text-is = l .holds; starts-are = rw (size, sx) at ps; ends-are = rw (size, sy) at pe }
-
-pub laid-size : (c : ℕ) {at end : ℕ} {d₀ d : List ℕ} → Laid (bytesOf c) d₀ at end d → end ≡ at + sizeOf c
-unfolding sizeOf
-laid-size c l = l .reach
+module _ (starts ends : List ℕ) (g : Progress) (c : Command) {size x y : ℕ} (wide : size ≡ sizeOf (c .character)) where
+  pub command-over : (until : ℕ) {out₀ starts₀ ends₀ out starts₁ ends₁ : List ℕ} → Over (bytesOf (c .character)) out₀ (g .written) until out → x ≡ carries starts (g .position) c → y ≡ carries ends (g .position) c → Over (replicate size x) starts₀ (g .written) until starts₁ → Over (replicate size y) ends₀ (g .written) until ends₁ → CommandOver starts ends g c out₀ starts₀ ends₀ until out starts₁ ends₁
+  command-over until l sx sy ps pe = record { text-over = l; starts-over = rw (wide, sx) at ps; ends-over = rw (wide, sy) at pe }
 
 -- all commands
 module _ (piece : ℕ → Command → List ℕ) (wide : (p : ℕ) (c : Command) → length (piece p c) ≡ sizeOf (c .character)) (s : List ℕ) (b : ℕ) where
@@ -104,10 +107,10 @@ reached {s} {xs} {b} {p} {c} same at f =
 -- what a column has given into d, up to the commands that are left
 abbrev Column : (ℕ → Command → List ℕ) → List ℕ → ℕ → ℕ → List Command → ℕ → Progress → List Command → List ℕ → List ℕ → Type 0
 Column piece s b p all at g rest d₀ d =
-    Laying (take at d₀ ++ given piece s b p all) (given piece s b (g .position) rest) d₀ (g .written) d
+    Reaching (take at d₀ ++ given piece s b p all) (given piece s b (g .position) rest) d₀ (g .written) d
 
 module _ (piece : ℕ → Command → List ℕ) (wide : (p : ℕ) (c : Command) → length (piece p c) ≡ sizeOf (c .character)) (s : List ℕ) (b p : ℕ) (all : List Command) (at : ℕ) where
-  column-none : {d₀ : List ℕ} → at + sizes all ≤ length d₀ → Column piece s b p all at (record { position = p; written = at }) all d₀ d₀
+  column-none : {d₀ : List ℕ} → at + sizes all ≤ length d₀ → Column piece s b p all at (record { position = p; written = at; starved = false }) all d₀ d₀
   column-none h = record { so-far = refl; beyond = refl; room = omega (arith, length-given piece wide s b p all); same = refl }
 
   module _ (g : Progress) (rest : List Command) {d₀ d : List ℕ} (k : Column piece s b p all at g rest d₀ d) where
@@ -118,20 +121,21 @@ module _ (piece : ℕ → Command → List ℕ) (wide : (p : ℕ) (c : Command) 
           let room : g .written + length (piece (g .position) c ++ given piece s b (moved s b (g .position) c) others) ≤ length d = rw next at (k .room) in
           omega (arith, length-append (piece (g .position) c) (given piece s b (moved s b (g .position) c) others), wide (g .position) c)
 
-      column-next : {d₁ : List ℕ} → d₁ ≡ splice d (g .written) (piece (g .position) c) → Column piece s b p all at (record { position = moved s b (g .position) c; written = g .written + sizeOf (c .character) }) others d₀ d₁
+      column-next : {d₁ : List ℕ} {until : ℕ} → at ≤ length d₀ → until ≤ at + sizes all → Over (piece (g .position) c) d (g .written) until d₁ → Column piece s b p all at (record { position = moved s b (g .position) c; written = g .written + sizeOf (c .character); starved = false }) others d₀ d₁
       unfolding given
-      column-next {d₁} is =
-          piece-laid (take at d₀ ++ given piece s b p all) (piece (g .position) c) (given piece s b (moved s b (g .position) c) others) d₀ (g .written) d (rw next at k) (g .written + sizeOf (c .character)) d₁
-          (rw (wide (g .position) c)) is
+      column-next h below o =
+          let made : List ℕ = given piece s b p all in
+          let long : length (take at d₀ ++ made) ≡ at + length made = length-append (take at d₀) made ∙ rw (length-take-le at d₀ h) in
+          run-reached (piece (g .position) c) (given piece s b (moved s b (g .position) c) others) (rw next at k) (omega (arith, length-given piece wide s b p all)) (rw (wide (g .position) c)) o
 
     column-done : rest ≡ [] → at ≤ length d₀ → (g .written ≡ at + sizes all) × (d ≡ splice d₀ at (given piece s b p all))
     unfolding given splice overlay
     column-done none h =
         let made : List ℕ = given piece s b p all in
-        let done : Laying (take at d₀ ++ made) [] d₀ (g .written) d = rw none at k in
+        let done : Reaching (take at d₀ ++ made) [] d₀ (g .written) d = rw none at k in
         let long : length (take at d₀ ++ made) ≡ at + length made = length-append (take at d₀) made ∙ rw (length-take-le at d₀ h) in (
-          omega (arith, laying-size (take at d₀ ++ made) [] d₀ (g .written) d done, long, length-given piece wide s b p all),
-          all-laid (take at d₀ ++ made) d₀ (g .written) d done ∙ rw long,
+          omega (arith, reaching-size done, long, length-given piece wide s b p all),
+          all-reached done ∙ rw long,
         )
 
 -- some commands are laid down
@@ -143,7 +147,7 @@ pub record Going (s starts ends : List ℕ) (b p : ℕ) (all : List Command) (ou
   pub ends-laid : Column (carried ends) s b p all at g rest ends₀ ends₁
 
 module _ {s starts ends : List ℕ} {b p : ℕ} {all : List Command} {table out₀ starts₀ ends₀ : List ℕ} {at : ℕ} (r : CommandsRoom s starts ends b p all table out₀ starts₀ ends₀ at) where
-  pub none-going : Going s starts ends b p all out₀ starts₀ ends₀ at (record { position = p; written = at }) all out₀ starts₀ ends₀
+  pub none-going : Going s starts ends b p all out₀ starts₀ ends₀ at (record { position = p; written = at; starved = false }) all out₀ starts₀ ends₀
   none-going =
       record {
         standing = r .tabled .standing;
@@ -175,17 +179,39 @@ module _ {s starts ends : List ℕ} {b p : ℕ} {all : List Command} {table out�
             counts = omega (arith, column-room characters characters-wide s b p all at g rest (k .text-laid) next, k .text-laid .same);
           }
 
+      module _ {h : Progress} {until : ℕ} {out₂ starts₂ ends₂ : List ℕ} (m : CommandOver starts ends g c out starts₁ ends₁ until out₂ starts₂ ends₂) (below : until ≤ at + sizes all) (on : h ≡ stepped s b g c) where
+        pub going-over : Going s starts ends b p all out₀ starts₀ ends₀ at h others out₂ starts₂ ends₂
+        going-over =
+            let now : h ≡ record { position = moved s b (g .position) c; written = g .written + sizeOf (c .character); starved = false } = on ∙ stepped-fed s b g c (sym (both-fed .0)) refl in
+            rw now
+            (record {
+              standing = standing-moved c (k .standing) .0;
+              feeding = both-fed .1;
+              text-laid = column-next characters characters-wide s b p all at g rest (k .text-laid) next (omega (arith, r .text-room)) below (m .text-over);
+              starts-laid = column-next (carried starts) (carried-wide starts) s b p all at g rest (k .starts-laid) next (omega (arith, r .starts-room)) below (m .starts-over);
+              ends-laid = column-next (carried ends) (carried-wide ends) s b p all at g rest (k .ends-laid) next (omega (arith, r .ends-room)) below (m .ends-over);
+            })
+
       pub going-on : {h : Progress} {out₂ starts₂ ends₂ : List ℕ} → CommandLaid starts ends g c out starts₁ ends₁ out₂ starts₂ ends₂ → h ≡ stepped s b g c → Going s starts ends b p all out₀ starts₀ ends₀ at h others out₂ starts₂ ends₂
-      going-on {h} m on =
-          let now : h ≡ record { position = moved s b (g .position) c; written = g .written + sizeOf (c .character) } = on ∙ stepped-fed s b g c (sym (both-fed .0)) refl in
-          rw now
+      going-on m on =
+          let room = command-room in
+          going-over
           (record {
-            standing = standing-moved c (k .standing) .0;
-            feeding = both-fed .1;
-            text-laid = column-next characters characters-wide s b p all at g rest (k .text-laid) next (m .text-is);
-            starts-laid = column-next (carried starts) (carried-wide starts) s b p all at g rest (k .starts-laid) next (m .starts-are);
-            ends-laid = column-next (carried ends) (carried-wide ends) s b p all at g rest (k .ends-laid) next (m .ends-are);
+            text-over = over-exact (characters (g .position) c) out (g .written) 0 (omega (arith, room .text-room, characters-wide (g .position) c)) (m .text-is);
+            starts-over = over-exact (carried starts (g .position) c) starts₁ (g .written) 0 (omega (arith, room .starts-room, carried-wide starts (g .position) c)) (m .starts-are);
+            ends-over = over-exact (carried ends (g .position) c) ends₁ (g .written) 0 (omega (arith, room .ends-room, carried-wide ends (g .position) c)) (m .ends-are);
           })
+          (omega arith)
+          on
+
+    -- what may be written up to where the commands reach
+    pub below-all : {until : ℕ} → until ≤ at + sizes all → Below until out starts₁ ends₁
+    below-all h =
+        record {
+          text-below = omega (arith, r .text-room, k .text-laid .same);
+          starts-below = omega (arith, r .starts-room, k .starts-laid .same);
+          ends-below = omega (arith, r .ends-room, k .ends-laid .same);
+        }
 
     pub gone : rest ≡ [] → CommandsLaid s starts ends b p all out₀ starts₀ ends₀ at (g .written) out starts₁ ends₁
     gone none =

@@ -1,7 +1,7 @@
 -- Laws of `measured`: a script is measured command by command.
 use Prim.Native.Nat.{ℕ, _+_, _^_, _≤_, _<_}
-use mathlib.Core.Path.{_≡_, _∙_, ap, refl, sym}
-use mathlib.Core.Bool.{Bool, true, false, cond, _||_}
+use mathlib.Core.Path.{_≡_, _∙_, ap, refl}
+use mathlib.Core.Bool.{Bool, true, false, _||_}
 use mathlib.Core.List.{List, [], _∷_}
 use native.Mathlib.Omega.{arith}
 use lib.ListN.{length, drop}
@@ -12,11 +12,10 @@ use Rattle.script.specs.declared.Entry.the-variants.{At, Broken}
 use Rattle.script.specs.Scripts.{sizeOf, entryAt, commandsOf}
 use Rattle.script.proofs.Scripts.{Stepped, entry-step, entry-broken, entries-end}
 use Rattle.edit_steps.specs.declared.walking.Progress.{Progress}
-use Rattle.edit_steps.specs.declared.walking.Extent.{Extent}
 use Rattle.edit_steps.specs.declared.walking.Extent.the-variants.{Size, Starved}
-use Rattle.edit_steps.specs.Edits.{skipped, starves, moved, starved}
+use Rattle.edit_steps.specs.Edits.{starves, moved, starved}
 use Rattle.edit_steps.specs.Walking.{Standing, Tabled, Counting, sizes, stepped, measured}
-use Rattle.edit_steps.proofs.Positions.{standing-moved, stepped-fed}
+use Rattle.edit_steps.proofs.Positions.{standing-moved, stepped-fed, stepped-told}
 
 -- some commands have gone by: what is left starves and counts as all did
 pub record Passed (s : List ℕ) (b from : ℕ) (all rest : List Command) (g : Progress) : Type 0 where
@@ -24,7 +23,7 @@ pub record Passed (s : List ℕ) (b from : ℕ) (all rest : List Command) (g : P
   pub counted : sizes all ≡ g .written + sizes rest
   pub standing : Standing s b (g .position)
 
-pub none-passed : {s : List ℕ} {b from : ℕ} {all : List Command} → Standing s b from → Passed s b from all all (record { position = from; written = 0 })
+pub none-passed : {s : List ℕ} {b from : ℕ} {all : List Command} → Standing s b from → Passed s b from all all (record { position = from; written = 0; starved = false })
 none-passed at = record { starving = refl; counted = omega arith; standing = at }
 
 module _ {s : List ℕ} {b from : ℕ} {all rest : List Command} {g : Progress} (m : Passed s b from all rest g) where
@@ -40,7 +39,7 @@ module _ {s : List ℕ} {b from : ℕ} {all rest : List Command} {g : Progress} 
     pub one-passed : {h : Progress} → t ≡ false → h ≡ stepped s b g c → Passed s b from all others h
     unfolding sizes
     one-passed {h} e on =
-        let now : h ≡ record { position = moved s b (g .position) c; written = g .written + sizeOf (c .character) } = on ∙ stepped-fed s b g c test e in
+        let now : h ≡ record { position = moved s b (g .position) c; written = g .written + sizeOf (c .character); starved = false } = on ∙ stepped-fed s b g c test e in
         let left : sizes rest ≡ sizeOf (c .character) + sizes others = rw next in
         rw now
         (record {
@@ -63,16 +62,13 @@ pub record Measuring (s : List ℕ) (b from : ℕ) (l : List ℕ) (g : Progress)
   pub small : g .written ≤ i
   pub most : i ≤ length l
 
-pub none-measured : {s l : List ℕ} {b from : ℕ} → Standing s b from → Measuring s b from l (record { position = from; written = 0 }) 0
+pub none-measured : {s l : List ℕ} {b from : ℕ} → Standing s b from → Measuring s b from l (record { position = from; written = 0; starved = false }) 0
 none-measured at = record { passed = none-passed at; small = omega arith; most = omega arith }
 
 module _ {s l : List ℕ} {b from : ℕ} {g : Progress} {i : ℕ} (m : Measuring s b from l g i) where
-  module _ {entry : Entry} {c : Command} {next : ℕ} {t : Bool} (is : entry ≡ entryAt l i) (there : entry ≡ At c next) (test : t ≡ starves b (g .position) c) where
+  module _ {entry : Entry} {c : Command} {next : ℕ} (is : entry ≡ entryAt l i) (there : entry ≡ At c next) where
     step : Stepped l i c next
     step = entry-step l is there
-
-    pub starves-there : t ≡ true → Starved ≡ measured s b from (commandsOf l)
-    starves-there e = starves-here (m .passed) (step .commands) test e
 
     pub counting : {table : List ℕ} → Tabled s b from table → length l < 2 ^ 64 → Counting s b g c table
     counting t long =
@@ -81,15 +77,22 @@ module _ {s l : List ℕ} {b from : ℕ} {g : Progress} {i : ℕ} (m : Measuring
           counts = omega (arith, m .small, step .onward, step .most);
         }
 
-    pub one-measured : {h : Progress} → t ≡ false → h ≡ stepped s b g c → Measuring s b from l h next
-    one-measured {h} e on =
-        let now : h ≡ record { position = moved s b (g .position) c; written = g .written + sizeOf (c .character) } = on ∙ stepped-fed s b g c test e in
-        let count : h .written ≡ g .written + sizeOf (c .character) = ap (λ (x : Progress). x .written) now in
-        record {
-          passed = one-passed (m .passed) (step .commands) test e on;
-          small = omega (arith, m .small, step .onward, count);
-          most = step .most;
-        }
+    module _ {h : Progress} (on : h ≡ stepped s b g c) where
+      told : h .starved ≡ starves b (g .position) c
+      told = ap (λ (x : Progress). x .starved) on ∙ stepped-told s b g c refl
+
+      pub starves-there : h .starved ≡ true → Starved ≡ measured s b from (commandsOf l)
+      starves-there e = starves-here (m .passed) (step .commands) told e
+
+      pub one-measured : h .starved ≡ false → Measuring s b from l h next
+      one-measured e =
+          let now : h ≡ record { position = moved s b (g .position) c; written = g .written + sizeOf (c .character); starved = false } = on ∙ stepped-fed s b g c told e in
+          let count : h .written ≡ g .written + sizeOf (c .character) = ap (λ (x : Progress). x .written) now in
+          record {
+            passed = one-passed (m .passed) (step .commands) told e on;
+            small = omega (arith, m .small, step .onward, count);
+            most = step .most;
+          }
 
   pub broken-measured : {entry : Entry} → i < length l → entry ≡ entryAt l i → entry ≡ Broken → Size (g .written) ≡ measured s b from (commandsOf l)
   broken-measured h is e = all-passed (m .passed) (entry-broken l h is e .0)

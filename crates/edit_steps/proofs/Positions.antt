@@ -1,15 +1,14 @@
 -- Laws of `skipped` and `moved`: the position goes from boundary to boundary, never back, and never past the range.
 use Prim.Native.Nat.{ℕ, zero, suc, _+_, _-_, _≤_, _<_}
-use mathlib.Core.Path.{_≡_, _∙_, ap, refl, sym}
-use mathlib.Core.Bool.{Bool, true, false, cond, not}
+use mathlib.Core.Path.{_≡_, _∙_, refl, sym}
+use mathlib.Core.Bool.{Bool, true, false}
 use mathlib.Core.List.{List}
 use native.Mathlib.Omega.{arith}
-use lib.Dec.{leb, ltb}
-use lib.ListN.{length, getD}
-use borrow.Author.Tests.{lt-ltb, le-ltb, le-leb, lt-leb, leb-false}
+use lib.Dec.{leb}
+use lib.ListN.{getD}
+use borrow.Author.Tests.{lt-ltb, le-ltb, leb-false}
 use Rattle.buffers.proofs.Cases.{le-or-lt, true-or-false, clash}
-use Rattle.buffers.proofs.Booleans.{and-false-l, and-false-r}
-use Rattle.utf8.specs.Formed.{announced, continues, boundary}
+use Rattle.utf8.specs.Formed.{announced, continues}
 use Rattle.utf8.specs.Lengths.{CharBegins, CharLen}
 use Rattle.utf8.proofs.Boundaries.{CharAt, char-at, boundary-begins, boundary-most}
 use Rattle.script.specs.declared.Command.{Command}
@@ -112,23 +111,28 @@ module _ {s : List ℕ} {b count from k p : ℕ} (g : Skipping s b count from k 
 
 -- how far an edit is
 module _ (s : List ℕ) (b : ℕ) (g : Progress) (c : Command) {t : Bool} (is : t ≡ starves b (g .position) c) where
-  pub stepped-starves : t ≡ true → g ≡ stepped s b g c
+  pub stepped-starves : t ≡ true → record { position = g .position; written = g .written; starved = true } ≡ stepped s b g c
   unfolding stepped
   stepped-starves e = rw (sym is ∙ e)
 
   module _ (e : t ≡ false) {size : ℕ} (wide : size ≡ sizeOf (c .character)) where
-    step-on : {p : ℕ} → p ≡ moved s b (g .position) c → record { position = p; written = g .written + size } ≡ stepped s b g c
+    step-on : {p : ℕ} → p ≡ moved s b (g .position) c → record { position = p; written = g .written + size; starved = false } ≡ stepped s b g c
     unfolding stepped
     step-on at = rw (sym is ∙ e, at, wide)
 
-    pub stepped-added : c .added ≡ true → record { position = g .position; written = g .written + size } ≡ stepped s b g c
+    pub stepped-added : c .added ≡ true → record { position = g .position; written = g .written + size; starved = false } ≡ stepped s b g c
     stepped-added a = step-on (sym (moved-added s b (g .position) c a))
 
-    pub stepped-replacing : {p : ℕ} → c .added ≡ false → p ≡ skipped s b (c .removed + 1) (g .position) → record { position = p; written = g .written + size } ≡ stepped s b g c
+    pub stepped-replacing : {p : ℕ} → c .added ≡ false → p ≡ skipped s b (c .removed + 1) (g .position) → record { position = p; written = g .written + size; starved = false } ≡ stepped s b g c
     stepped-replacing a at =
         let one : c .removed + 1 ≡ suc (c .removed) = omega arith in
         step-on ((rw one at at) ∙ sym (moved-replacing s b (g .position) c a))
 
-  pub stepped-fed : t ≡ false → stepped s b g c ≡ record { position = moved s b (g .position) c; written = g .written + sizeOf (c .character) }
+  pub stepped-fed : t ≡ false → stepped s b g c ≡ record { position = moved s b (g .position) c; written = g .written + sizeOf (c .character); starved = false }
   unfolding stepped
   stepped-fed e = rw (sym is ∙ e)
+
+  -- the record says whether the command starved
+  pub stepped-told : (stepped s b g c) .starved ≡ t
+  unfolding stepped
+  stepped-told = true-or-false t (λ e. rw (sym is ∙ e, e)) (λ e. rw (sym is ∙ e, e))

@@ -1,11 +1,11 @@
 -- RULES 7: what commands make of a range of the cleaned text (Rust: the closure of `transform_range`). One number goes
 -- through the range, from character to character: the running position.
-use Prim.Native.Nat.{ℕ, zero, suc, _+_, _≤_}
+use Prim.Native.Nat.{ℕ, zero, suc, _+_}
 use mathlib.Core.Path.{_≡_}
 use mathlib.Core.Bool.{Bool, false, cond, _&&_, _||_, not}
 use mathlib.Core.List.{List, [], _∷_, _++_}
 use lib.Dec.{leb, ltb}
-use lib.ListN.{length, getD, take, drop, replicate}
+use lib.ListN.{getD, take, drop, replicate}
 use Rattle.utf8.specs.Formed.{announced, boundary}
 use Rattle.utf8.specs.Scalar.{bytesOf}
 use Rattle.note.specs.Notes.{Note, lent, beforeEnd}

@@ -5,12 +5,13 @@ use mathlib.Core.Bool.{true, false}
 use mathlib.Core.List.{List}
 use lib.ListN.{length}
 use Rattle.buffers.specs.Splice.{part, splice, overlay}
+use Rattle.buffers.specs.Over.{Over}
 use Rattle.utf8.specs.Formed.{wellFormed}
 use Rattle.script.specs.declared.Command.{Command}
 use Rattle.script.specs.Scripts.{sizeOf}
 use Rattle.edit_steps.specs.declared.walking.Progress.{Progress}
-use Rattle.edit_steps.specs.Edits.{starves, starved, characters, carried, given, relaid}
-use Rattle.edit_steps.specs.Walking.{Standing, Tabled, sizes}
+use Rattle.edit_steps.specs.Edits.{starved, characters, carried, given, relaid}
+use Rattle.edit_steps.specs.Walking.{Tabled, sizes}
 
 -- what an edit is told of the note
 pub record Editable (s starts ends : List ℕ) : Type 0 where
@@ -52,6 +53,19 @@ pub record CommandLaid (starts ends : List ℕ) (g : Progress) (c : Command) (ou
   pub text-is : out ≡ splice out₀ (g .written) (characters (g .position) c)
   pub starts-are : starts₁ ≡ splice starts₀ (g .written) (carried starts (g .position) c)
   pub ends-are : ends₁ ≡ splice ends₀ (g .written) (carried ends (g .position) c)
+
+-- a bound up to which the buffers may be written
+pub record Below (until : ℕ) (out starts₀ ends₀ : List ℕ) : Type 0 where
+  pub text-below : until ≤ length out
+  pub starts-below : until ≤ length starts₀
+  pub ends-below : until ≤ length ends₀
+
+-- the same command laid, but that behind it the buffers are told from a bound on only
+pub record CommandOver (starts ends : List ℕ) (g : Progress) (c : Command) (out₀ starts₀ ends₀ : List ℕ) (until : ℕ)
+    (out starts₁ ends₁ : List ℕ) : Type 0 where
+  pub text-over : Over (characters (g .position) c) out₀ (g .written) until out
+  pub starts-over : Over (carried starts (g .position) c) starts₀ (g .written) until starts₁
+  pub ends-over : Over (carried ends (g .position) c) ends₀ (g .written) until ends₁
 
 -- commands of which none starves, and room for what they give from `at` on
 pub record CommandsRoom (s starts ends : List ℕ) (b p : ℕ) (cs : List Command) (table out starts₀ ends₀ : List ℕ)

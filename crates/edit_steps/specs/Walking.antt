@@ -1,20 +1,17 @@
 -- What the inner functions are told and say: a position in the range, the record that goes through a script, the script
 -- measured, and what has been laid into the lent buffers.
-use Prim.Native.Nat.{ℕ, _+_, _-_, _^_, _≤_, _<_}
+use Prim.Native.Nat.{ℕ, _+_, _^_, _≤_, _<_}
 use mathlib.Core.Path.{_≡_}
 use mathlib.Core.Bool.{true, false, cond}
-use mathlib.Core.List.{List, [], _∷_, _++_}
-use lib.ListN.{length, drop}
-use Rattle.buffers.specs.Splice.{splice, overlay}
+use mathlib.Core.List.{List, [], _∷_}
 use Rattle.utf8.specs.Formed.{wellFormed, boundary}
-use Rattle.utf8.specs.Scalar.{bytesOf}
 use Rattle.utf8.specs.Lengths.{lengthTable}
 use Rattle.script.specs.declared.Command.{Command}
-use Rattle.script.specs.Scripts.{sizeOf, commandsOf}
+use Rattle.script.specs.Scripts.{sizeOf}
 use Rattle.edit_steps.specs.declared.walking.Progress.{Progress}
 use Rattle.edit_steps.specs.declared.walking.Extent.{Extent}
 use Rattle.edit_steps.specs.declared.walking.Extent.the-variants.{Size, Starved}
-use Rattle.edit_steps.specs.Edits.{starves, moved, starved, characters, carried, given, Edit, begins, edited}
+use Rattle.edit_steps.specs.Edits.{starves, moved, starved}
 
 -- a position of a well-formed text, at a boundary before another one or there
 pub record Standing (s : List ℕ) (b p : ℕ) : Type 0 where
@@ -33,11 +30,11 @@ unfoldable pub sizes : List Command → ℕ
 sizes [] = 0
 sizes (c ∷ cs) = sizeOf (c .character) + sizes cs
 
--- a command goes by: the position moves, the bytes are counted; a command that starves leaves both
+-- a command goes by: the position moves, the bytes are counted; a command that starves says so, and leaves both
 unfoldable pub stepped : List ℕ → ℕ → Progress → Command → Progress
 stepped s b g c =
-    cond (starves b (g .position) c) g
-    (record { position = moved s b (g .position) c; written = g .written + sizeOf (c .character) })
+    cond (starves b (g .position) c) (record { position = g .position; written = g .written; starved = true })
+    (record { position = moved s b (g .position) c; written = g .written + sizeOf (c .character); starved = false })
 
 -- what a step is told: the text, the range's end, how far the edit is, and that the count does not run over
 pub record Counting (s : List ℕ) (b : ℕ) (g : Progress) (c : Command) (table : List ℕ) : Type 0 where

@@ -1,11 +1,11 @@
 // The result of an edit, laid into the lent buffers.
 // Each function here is an inner one: no command of the script starves, and there is room for the result.
 use crate::walking::Progress;
-use crate::walking::step;
+use crate::walking::advanced;
 use buffers::Offset;
+use buffers::blocks::fill_offsets_over;
 use buffers::copy_bytes;
 use buffers::copy_offsets;
-use buffers::fill_offsets;
 use note::before_end;
 use script::Command;
 use script::Entry;
@@ -14,12 +14,13 @@ use utf8::encode_utf8;
 ghost use mathlib.Core.Path.{_≡_};
 ghost use Prim.Native.Nat.{_+_, _≤_};
 ghost use lib.ListN.{length};
-ghost use Rattle.buffers.specs.Splice.{Laid};
+ghost use Rattle.buffers.specs.Over.{Over};
 ghost use Rattle.utf8.specs.Scalar.{bytesOf};
 ghost use Rattle.script.specs.Scripts.{commandsOf, sizeOf};
 ghost use Rattle.edit_steps.specs.Edits.{carries};
-ghost use Rattle.edit_steps.specs.Laying.{CommandLaid, EditLaid, EditRoom, Kept, KeepRoom, Reached, Room};
+ghost use Rattle.edit_steps.specs.Laying.{Below, CommandOver, EditLaid, EditRoom, Kept, KeepRoom, Reached, Room};
 ghost use Rattle.edit_steps.specs.Laying.{CommandsLaid, CommandsRoom};
+ghost use Rattle.edit_steps.specs.Walking.{sizes};
 
 // Bytes that stay, with their alignments, laid into the buffers from `at` on.
 pub fn keep(
@@ -44,16 +45,22 @@ pub fn keep(
     copy_offsets(&ends[from..to], out_ends, at);
 }
 
-// A character's bytes, laid from `at` on; how far they reach.
-fn put_character(character: u32, out: &mut [u8], at: usize) -> usize
-    requires { ⌜ at + sizeOf character ≤ length (now out) ⌝ }
-    ensures { λ r. ⌜ Laid (bytesOf character) (now (out .entry)) at r (now (out .exit)) ⌝ }
+// A character's bytes, laid from `at` on, and what stands behind them in four where that stays below `until`; how many
+// they are.
+fn put_character(character: u32, out: &mut [u8], at: usize, until: usize) -> usize
+    requires { ⌜ (at + sizeOf character ≤ length (now out)) × (until ≤ length (now out)) ⌝ }
+    ensures { λ r. ⌜ (r ≡ sizeOf character)
+        × Over (bytesOf character) (now (out .entry)) at until (now (out .exit)) ⌝ }
 {
     let encoded = encode_utf8(character);
     let bytes = encoded.bytes;
     let len = encoded.len;
+    if at + 4 <= until {
+        copy_bytes(&bytes, out, at);
+        return len;
+    }
     copy_bytes(&bytes[..len], out, at);
-    at + len
+    len
 }
 
 // What a command's character carries of a column.
@@ -67,7 +74,7 @@ fn carries(column: &[Offset], position: usize, command: Command) -> Offset
     column[position]
 }
 
-// One command's character, with what it carries.
+// One command's character, with what it carries; what is written behind it stays below `until`.
 pub fn lay_command(
     starts: &[Offset],
     ends: &[Offset],
@@ -76,20 +83,28 @@ pub fn lay_command(
     out: &mut [u8],
     out_starts: &mut [Offset],
     out_ends: &mut [Offset],
+    until: usize,
 )
-    requires { ⌜ Room (now starts) (now ends) progress command (now out) (now «out_starts») (now «out_ends») ⌝ }
-    ensures { λ _. ⌜ CommandLaid (now (starts .entry)) (now (ends .entry)) progress command
-        (now (out .entry)) (now («out_starts» .entry)) (now («out_ends» .entry))
+    requires { ⌜ Room (now starts) (now ends) progress command (now out) (now «out_starts») (now «out_ends»)
+        × Below until (now out) (now «out_starts») (now «out_ends») ⌝ }
+    ensures { λ _. ⌜ CommandOver (now (starts .entry)) (now (ends .entry)) progress command
+        (now (out .entry)) (now («out_starts» .entry)) (now («out_ends» .entry)) until
         (now (out .exit)) (now («out_starts» .exit)) (now («out_ends» .exit)) ⌝ }
 {
     let at = progress.written;
     let position = progress.position;
-    let size = put_character(command.character, out, at) - at;
-    fill_offsets(carries(starts, position, command), size, out_starts, at);
-    fill_offsets(carries(ends, position, command), size, out_ends, at);
+    let size = put_character(command.character, out, at, until);
+    fill_offsets_over(
+        carries(starts, position, command),
+        size,
+        out_starts,
+        at,
+        until,
+    );
+    fill_offsets_over(carries(ends, position, command), size, out_ends, at, until);
 }
 
-// Every command of a script from a position on, laid from `at` on; how far they reach.
+// Every command of a script from a position on, laid from `at` on; how far they reach. `until` is no further.
 fn lay_script(
     text: &[u8],
     starts: &[Offset],
@@ -102,9 +117,11 @@ fn lay_script(
     out_starts: &mut [Offset],
     out_ends: &mut [Offset],
     at: usize,
+    until: usize,
 ) -> usize
     requires { ⌜ CommandsRoom (now text) (now starts) (now ends) to position (commandsOf (now script)) (now table)
-        (now out) (now «out_starts») (now «out_ends») at ⌝ }
+        (now out) (now «out_starts») (now «out_ends») at
+        × (until ≤ at + sizes (commandsOf (now script))) ⌝ }
     ensures { λ r. ⌜ CommandsLaid (now (text .entry)) (now (starts .entry)) (now (ends .entry)) to position
         (commandsOf (now (script .entry))) (now (out .entry)) (now («out_starts» .entry)) (now («out_ends» .entry)) at
         r (now (out .exit)) (now («out_starts» .exit)) (now («out_ends» .exit)) ⌝ }
@@ -112,13 +129,23 @@ fn lay_script(
     let mut progress = Progress {
         position,
         written: at,
+        starved: false,
     };
     let mut i = 0;
     while i < script.len() {
         match entry_at(script, i) {
             Entry::At(command, next) => {
-                lay_command(starts, ends, progress, command, out, out_starts, out_ends);
-                progress = step(text, to, progress, command, table);
+                lay_command(
+                    starts,
+                    ends,
+                    progress,
+                    command,
+                    out,
+                    out_starts,
+                    out_ends,
+                    until,
+                );
+                progress = advanced(text, to, progress, command, table);
                 i = next;
             }
             Entry::Broken => return progress.written,
@@ -127,7 +154,8 @@ fn lay_script(
     progress.written
 }
 
-// What stands before the range, what the script gives, and what stands behind the range; how many bytes that is.
+// What stands before the range, what the script gives, `size` bytes, and what stands behind the range; how many bytes
+// that is.
 pub fn lay_edit(
     text: &[u8],
     starts: &[Offset],
@@ -140,9 +168,11 @@ pub fn lay_edit(
     out: &mut [u8],
     out_starts: &mut [Offset],
     out_ends: &mut [Offset],
+    size: usize,
 ) -> usize
     requires { ⌜ EditRoom (now text) (now starts) (now ends) from to position (commandsOf (now script)) (now table)
-        (now out) (now «out_starts») (now «out_ends») ⌝ }
+        (now out) (now «out_starts») (now «out_ends»)
+        × (size ≡ sizes (commandsOf (now script))) ⌝ }
     ensures { λ r. ⌜ EditLaid (now (text .entry)) (now (starts .entry)) (now (ends .entry)) from to position
         (commandsOf (now (script .entry))) (now (out .entry)) (now («out_starts» .entry)) (now («out_ends» .entry))
         r (now (out .exit)) (now («out_starts» .exit)) (now («out_ends» .exit)) ⌝ }
@@ -160,6 +190,7 @@ pub fn lay_edit(
         out_starts,
         out_ends,
         from,
+        from + size,
     );
     keep(
         text,

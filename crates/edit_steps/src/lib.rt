@@ -1,3 +1,3 @@
-// The steps of an edit (RULES 7; Rust: the closure of `transform_range`): the running position, and what a command lays.
+// An edit, command by command (RULES 7; Rust: the closure of `transform_range`): the running position, what is laid.
 pub mod laying;
 pub mod walking;

@@ -10,10 +10,12 @@ ghost use Rattle.script.specs.Scripts.{commandsOf};
 ghost use Rattle.edit_steps.specs.Edits.{skipped, starves};
 ghost use Rattle.edit_steps.specs.Walking.{Counting, Tabled, measured, stepped};
 
-// The running position in the cleaned text, and how many bytes have been written so far.
+// How far an edit is: the running position in the cleaned text, how many bytes have been written so far, and whether
+// the last command found no character left. It is lent to each command and advanced there.
 pub struct Progress {
     pub position: usize,
     pub written: usize,
+    pub starved: bool,
 }
 
 // How many bytes a script gives; or a replacing command of it finds no character left.
@@ -49,8 +51,44 @@ pub fn starves(to: usize, position: usize, command: Command) -> bool
     to <= position
 }
 
-// A command goes by; one that finds no character left leaves all as it was.
-pub fn step(
+// A command goes by; one that finds no character left leaves position and count as they were.
+fn step(text: &[u8], to: usize, progress: Progress, command: Command, table: &[u8; 256]) -> Progress
+    requires { ⌜ Counting (now text) to progress command (now table) ⌝ }
+    ensures { λ r. ⌜ r ≡ stepped (now (text .entry)) to progress command ⌝ }
+{
+    let position = progress.position;
+    if starves(to, position, command) {
+        return Progress {
+            position,
+            written: progress.written,
+            starved: true,
+        };
+    }
+    let written = progress.written + size_of(command.character);
+    if command.added {
+        return Progress {
+            position,
+            written,
+            starved: false,
+        };
+    }
+    Progress {
+        position: skip(text, to, command.removed as usize + 1, position, table),
+        written,
+        starved: false,
+    }
+}
+
+// The record is lent to a command, which advances it.
+fn advance(progress: &mut Progress, text: &[u8], to: usize, command: Command, table: &[u8; 256])
+    requires { ⌜ Counting (now text) to (now progress) command (now table) ⌝ }
+    ensures { λ _. ⌜ now (progress .exit) ≡ stepped (now (text .entry)) to (now (progress .entry)) command ⌝ }
+{
+    *progress = step(text, to, *progress, command, table);
+}
+
+// The record made, lent and handed back: what everybody else calls.
+pub fn advanced(
     text: &[u8],
     to: usize,
     progress: Progress,
@@ -60,16 +98,9 @@ pub fn step(
     requires { ⌜ Counting (now text) to progress command (now table) ⌝ }
     ensures { λ r. ⌜ r ≡ stepped (now (text .entry)) to progress command ⌝ }
 {
-    let position = progress.position;
-    if starves(to, position, command) {
-        return progress;
-    }
-    let written = progress.written + size_of(command.character);
-    if command.added {
-        return Progress { position, written };
-    }
-    let position = skip(text, to, command.removed as usize + 1, position, table);
-    Progress { position, written }
+    let mut running = progress;
+    advance(&mut running, text, to, command, table);
+    running
 }
 
 // Every command of a script goes by, from a position on.
@@ -80,15 +111,16 @@ pub fn measure(text: &[u8], to: usize, position: usize, script: &[u8], table: &[
     let mut progress = Progress {
         position,
         written: 0,
+        starved: false,
     };
     let mut i = 0;
     while i < script.len() {
         match entry_at(script, i) {
             Entry::At(command, next) => {
-                if starves(to, progress.position, command) {
+                progress = advanced(text, to, progress, command, table);
+                if progress.starved {
                     return Extent::Starved;
                 }
-                progress = step(text, to, progress, command, table);
                 i = next;
             }
             Entry::Broken => return Extent::Size(progress.written),

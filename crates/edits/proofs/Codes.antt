@@ -60,7 +60,7 @@ pub record MeasuringCodes (s : List ℕ) (b from : ℕ) (cs : List ℕ) (g : Pro
   pub small : g .written ≤ i * 4
   pub most : i ≤ length cs
 
-pub none-coded : {s cs : List ℕ} {b from : ℕ} → Standing s b from → MeasuringCodes s b from cs (record { position = from; written = 0 }) 0
+pub none-coded : {s cs : List ℕ} {b from : ℕ} → Standing s b from → MeasuringCodes s b from cs (record { position = from; written = 0; starved = false }) 0
 none-coded at = record { passed = none-passed at; small = omega arith; most = omega arith }
 
 module _ {s cs : List ℕ} {b from : ℕ} {g : Progress} {i : ℕ} (m : MeasuringCodes s b from cs g i) where

@@ -11,8 +11,8 @@ use edit_steps::laying::keep;
 use edit_steps::laying::lay_command;
 use edit_steps::walking::Extent;
 use edit_steps::walking::Progress;
+use edit_steps::walking::advanced;
 use edit_steps::walking::starves;
-use edit_steps::walking::step;
 use get_range::as_normalized;
 use note::LIMIT;
 use note::OriginalByte;
@@ -64,6 +64,7 @@ fn measure_codes(
     let mut progress = Progress {
         position,
         written: 0,
+        starved: false,
     };
     let mut i = 0;
     while i < codes.len() {
@@ -75,7 +76,7 @@ fn measure_codes(
         if starves(to, progress.position, command) {
             return Extent::Starved;
         }
-        progress = step(text, to, progress, command, table);
+        progress = advanced(text, to, progress, command, table);
         i += 1;
     }
     Extent::Size(progress.written)
@@ -104,6 +105,7 @@ fn lay_codes(
     let mut progress = Progress {
         position,
         written: at,
+        starved: false,
     };
     let mut i = 0;
     while i < codes.len() {
@@ -112,8 +114,17 @@ fn lay_codes(
             added: false,
             removed: 0,
         };
-        lay_command(starts, ends, progress, command, out, out_starts, out_ends);
-        progress = step(text, to, progress, command, table);
+        lay_command(
+            starts,
+            ends,
+            progress,
+            command,
+            out,
+            out_starts,
+            out_ends,
+            0,
+        );
+        progress = advanced(text, to, progress, command, table);
         i += 1;
     }
     progress.written

@@ -9,7 +9,8 @@ use lib.ListN.{length, getD, take, drop, replicate}
 use borrow.Author.Tests.{eq-eqb, ne-eqb}
 use Rattle.buffers.specs.Splice.{part, splice}
 use Rattle.buffers.proofs.Cases.{true-or-false, clash}
-use Rattle.buffers.proofs.Splice.{Laying, splice-nil}
+use Rattle.buffers.proofs.Splice.{splice-nil}
+use Rattle.buffers.proofs.Over.{Reaching}
 use Rattle.utf8.specs.Formed.{announced, wellFormed, boundary}
 use Rattle.utf8.specs.Scalar.{bytesOf}
 use Rattle.utf8.specs.Lengths.{CharLen}
@@ -53,7 +54,7 @@ module _ {flag : ℕ} {s starts ends : List ℕ} {q wide p : ℕ} {out₀ starts
       (omega (arith, r .text-room, e), (omega (arith, r .starts-room, e), omega (arith, r .ends-room, e)))
 
 -- the same rest in other words
-laying-as : {whole rest others d₀ d : List ℕ} {at : ℕ} → rest ≡ others → Laying whole rest d₀ at d → Laying whole others d₀ at d
+laying-as : {whole rest others d₀ d : List ℕ} {at : ℕ} → rest ≡ others → Reaching whole rest d₀ at d → Reaching whole others d₀ at d
 laying-as e l = rw e at l
 
 -- the flags before i are laid down

@@ -78,7 +78,7 @@ pub record Beside (s : List ℕ) (b : ℕ) (flags : List ℕ) (q p i : ℕ) : Ty
   pub standing : Standing s b p
 
 abbrev pub ahead : List ℕ → ℕ → List ℕ → ℕ → ℕ → ℕ → Progress
-ahead s b flags p i written = record { position = skipped s b (droppedAhead (drop i flags)) p; written = written }
+ahead s b flags p i written = record { position = skipped s b (droppedAhead (drop i flags)) p; written = written; starved = false }
 
 abbrev pub restAt : List ℕ → List ℕ → ℕ → ℕ → List Command
 restAt s flags q i = keptCommands (codesOf (drop q s)) (drop i flags)
@@ -194,7 +194,7 @@ module _ {s : List ℕ} {b from : ℕ} {flags : List ℕ} {q p written i : ℕ} 
       kept-passed {m} e at =
           let g : Progress = ahead s b flags p i written in
           let fed = stepped-fed s b g c test e in
-          let now : record { position = skipped s b (droppedAhead (drop (i + 1) flags)) m; written = written + announced (getD s q 0) } ≡ stepped s b g c =
+          let now : record { position = skipped s b (droppedAhead (drop (i + 1) flags)) m; written = written + announced (getD s q 0); starved = false } ≡ stepped s b g c =
           sym (fed ∙ rw (kept-here k h keeps, kept-moves k h keeps, code-wide k h, at)) in
           one-passed (f .passed) (kept-rest k h keeps) test e now
 

@@ -6,17 +6,18 @@ use mathlib.Core.Bool.{Bool, true, false, cond, _&&_, _||_, or-true}
 use mathlib.Mathlib.Data.Bool.Basic.{and-elim-left, and-elim-right}
 use mathlib.Core.List.{List, [], _∷_}
 use native.Mathlib.Omega.{arith}
+use mir.Val.{boolByte}
 use lib.Dec.{leb, ltb, eqb}
 use lib.ListN.{length, getD, drop, length-drop, drop-of-length-le, List·getD-eq-default}
 use lib.Seq.{drop-cons, drop-drop, getD-drop}
 use borrow.Author.Tests.{le-leb, lt-leb, leb-true, lt-ltb, le-ltb, ltb-true, eq-eqb, ne-eqb, eqb-true}
 use Rattle.buffers.specs.Splice.{part}
-use Rattle.buffers.proofs.Cases.{le-or-lt, true-or-false, clash}
+use Rattle.buffers.proofs.Cases.{le-or-lt, true-or-false}
 use Rattle.buffers.proofs.Booleans.{and-false-l, and-false-r}
 use Rattle.numbers.specs.LittleEndian.{valueOf}
 use Rattle.utf8.specs.Formed.{wellFormed, formed}
 use Rattle.utf8.specs.Scalar.{scalar, bytesOf}
-use Rattle.utf8.proofs.Scalar.{bytesOf-scalar, bytesOf-other, encoded-formed, length-encoded}
+use Rattle.utf8.proofs.Scalar.{bytesOf-scalar, bytesOf-other, encoded-one, encoded-two, encoded-three, encoded-four, encoded-formed, length-encoded}
 use Rattle.script.specs.declared.Command.{Command}
 use Rattle.script.specs.declared.Entry.{Entry}
 use Rattle.script.specs.declared.Entry.the-variants.{At, Broken}
@@ -41,6 +42,36 @@ size-some c h = true-or-false (scalar c) (λ s. s) (λ o. absurd (h (rw (bytesOf
 pub bytes-formed : (c : ℕ) → wellFormed (bytesOf c) ≡ true
 unfolding formed
 bytes-formed c = true-or-false (scalar c) (λ s. rw (bytesOf-scalar c s) (encoded-formed c s)) (λ o. rw (bytesOf-other c o))
+
+-- how many they are, by ranges
+pub bool-most : (b : Bool) → boolByte b ≤ 1
+bool-most true = omega arith
+bool-most false = omega arith
+
+module _ (c : ℕ) where
+  pub size-beyond : 0x10FFFF < c → 0 ≡ sizeOf c
+  unfolding sizeOf bytesOf scalar
+  size-beyond h = rw (lt-leb c 0x10FFFF h)
+
+  pub size-surrogate : (leb 0xD800 c && leb c 0xDFFF) ≡ true → 0 ≡ sizeOf c
+  unfolding sizeOf bytesOf scalar
+  size-surrogate e = rw (e, and-false-r (leb c 0x10FFFF) false refl)
+
+  pub size-ranges : c ≤ 0x10FFFF → (leb 0xD800 c && leb c 0xDFFF) ≡ false → 1 + boolByte (leb 0x80 c) + boolByte (leb 0x800 c) + boolByte (leb 0x10000 c) ≡ sizeOf c
+  unfolding sizeOf bytesOf scalar
+  size-ranges h e =
+      le-or-lt 0x80 c
+      (λ one.
+      le-or-lt 0x800 c
+      (λ two.
+      le-or-lt 0x10000 c
+      (λ three. rw (le-leb _ _ h, e, le-leb _ _ one, le-leb _ _ two, le-leb _ _ three, encoded-four c three))
+      (λ less. rw (le-leb _ _ h, e, le-leb _ _ one, le-leb _ _ two, lt-leb _ _ less, encoded-three c two less)))
+      (λ less. let far : leb 0x10000 c ≡ false = lt-leb 0x10000 c (omega arith) in rw (le-leb _ _ h, e, le-leb _ _ one, lt-leb _ _ less, far, encoded-two c one less)))
+      (λ less.
+      let near : leb 0x800 c ≡ false = lt-leb 0x800 c (omega arith) in
+      let far : leb 0x10000 c ≡ false = lt-leb 0x10000 c (omega arith) in
+      rw (le-leb _ _ h, e, lt-leb _ _ less, near, far, encoded-one c less))
 
 -- a command's bytes, by its number
 module _ (b : ℕ) where

@@ -1,8 +1,7 @@
 -- RULES 7: what stands at a byte of an edit script. A command is its number (1 replace, 2 add, 3 replace and remove)
 -- and a code point in four little-endian bytes; 3 has in two more how many characters it removes behind the one it
 -- replaces.
-use Prim.Native.Nat.{ℕ, zero, suc, _+_, _-_, _≤_}
-use mathlib.Core.Path.{_≡_}
+use Prim.Native.Nat.{ℕ, zero, suc, _+_, _-_}
 use mathlib.Core.Bool.{Bool, true, false, cond, _&&_, _||_, not}
 use mathlib.Core.List.{List, [], _∷_}
 use lib.Dec.{leb, ltb, eqb}

@@ -2,7 +2,6 @@
 // No other crate knows how many bytes a command has.
 use numbers::little_endian::get_u16_le;
 use numbers::little_endian::get_u32_le;
-use utf8::encode_utf8;
 ghost use mathlib.Core.Path.{_≡_};
 ghost use Prim.Native.Nat.{_+_, _≤_};
 ghost use lib.ListN.{length};
@@ -26,8 +25,16 @@ pub enum Entry {
 pub fn size_of(character: u32) -> usize
     ensures { λ r. ⌜ r ≡ sizeOf character ⌝ }
 {
-    let encoded = encode_utf8(character);
-    encoded.len
+    if 0x10FFFF < character {
+        return 0;
+    }
+    if (0xD800 <= character) & (character <= 0xDFFF) {
+        return 0;
+    }
+    1
+        + (0x80 <= character) as usize
+        + (0x800 <= character) as usize
+        + (0x10000 <= character) as usize
 }
 
 // How many bytes a command has, by its first; 0 for an unknown one.

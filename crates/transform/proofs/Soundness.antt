@@ -1,28 +1,27 @@
 -- An accepted edit leaves a sound note: it is built of stretches of the note.
-use Prim.Native.Nat.{ℕ, suc, _+_, _-_, _≤_}
-use mathlib.Core.Path.{_≡_, _∙_, refl, sym}
-use mathlib.Core.Bool.{Bool, true, false, _&&_}
+use Prim.Native.Nat.{ℕ, suc, _-_, _≤_}
+use mathlib.Core.Path.{_≡_, refl, sym}
+use mathlib.Core.Bool.{true, false, _&&_}
 use mathlib.Mathlib.Data.Bool.Basic.{and-intro, and-elim-left, and-elim-right}
-use mathlib.Core.List.{List, [], _∷_, _++_}
+use mathlib.Core.List.{List, [], _∷_}
 use native.Mathlib.Omega.{arith}
 use lib.Dec.{leb}
-use lib.ListN.{length, getD, take, drop, replicate}
+use lib.ListN.{length, getD, drop, replicate}
 use borrow.Author.Tests.{eq-eqb, le-leb}
 use Rattle.buffers.specs.Splice.{part}
 use Rattle.buffers.proofs.Cases.{true-or-false}
 use Rattle.buffers.proofs.Splice.{part-end}
-use Rattle.utf8.specs.Formed.{announced, wellFormed, boundary}
 use Rattle.utf8.specs.Scalar.{bytesOf}
 use Rattle.utf8.proofs.Boundaries.{char-at, boundary-zero, boundary-most, boundary-length}
 use Rattle.note.specs.Notes.{Note, fits, paired, textsFormed, beforeEnd, Sound}
 use Rattle.note.proofs.BeforeEnd.{before-some}
 use Rattle.note.proofs.Sound.{length-starts, length-ends, original-formed, normalized-formed}
 use Rattle.note.proofs.Faults.{accepted-sound}
-use Rattle.note.proofs.Stretch.{Fit, Stretch, joined, before-le, carried-stretch, kept-stretch, empty-stretch, stretch-aligned}
+use Rattle.note.proofs.Stretch.{Stretch, joined, before-le, carried-stretch, kept-stretch, empty-stretch, stretch-aligned}
 use Rattle.script.specs.declared.Command.{Command}
 use Rattle.script.specs.Scripts.{sizeOf}
 use Rattle.script.proofs.Scripts.{bytes-formed}
-use Rattle.edit_steps.specs.Edits.{skipped, starves, moved, starved, carries, characters, carried, given, Edit, placed, begins, relaid, edited, transformed}
+use Rattle.edit_steps.specs.Edits.{starves, moved, starved, carries, characters, carried, given, Edit, placed, begins, relaid, edited, transformed}
 use Rattle.transform.specs.Transforming.{TransformedSound}
 use Rattle.edit_steps.specs.Walking.{Standing}
 use Rattle.edit_steps.proofs.Positions.{feeds, standing-next, standing-skipped, standing-moved, skipped-on, moved-added, moved-replacing}

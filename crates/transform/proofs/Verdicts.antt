@@ -3,7 +3,7 @@
 use Prim.Native.Nat.{ℕ, _+_, _-_, _≤_, _<_, min}
 use mathlib.Core.Path.{_≡_, _∙_, ap, refl, sym}
 use mathlib.Core.Bool.{Bool, true, false, cond, _&&_, not}
-use mathlib.Mathlib.Data.Bool.Basic.{and-intro, and-elim-left, and-elim-right}
+use mathlib.Mathlib.Data.Bool.Basic.{and-elim-left, and-elim-right}
 use mathlib.Core.List.{List, []}
 use native.Mathlib.Omega.{arith}
 use lib.Dec.{leb}
@@ -29,7 +29,7 @@ use Rattle.convert.specs.declared.Range.{Range}
 use Rattle.convert.specs.declared.Range.the-variants.{Original, Normalized}
 use Rattle.convert.specs.declared.Converted.{Converted}
 use Rattle.convert.specs.declared.Converted.the-variants.{Found, Refused}
-use Rattle.convert.specs.Converting.{startOf, endOf, converted}
+use Rattle.convert.specs.Converting.{startOf, endOf}
 use Rattle.convert.specs.Blocks.{Columns}
 use Rattle.convert.proofs.Answered.{accepted-columns}
 use Rattle.get_range.specs.Reading.{asNormalized}
@@ -39,10 +39,10 @@ use Rattle.transform.specs.declared.Editing.{Editing}
 use Rattle.transform.specs.declared.Editing.the-variants.{Edited, Refused as Refusing}
 use Rattle.edit_steps.specs.declared.walking.Extent.{Extent}
 use Rattle.edit_steps.specs.declared.walking.Extent.the-variants.{Size, Starved}
-use Rattle.edit_steps.specs.Edits.{skipped, characters, carried, starved, Edit, placed, begins, relaid, edited, transformed, unchanging}
+use Rattle.edit_steps.specs.Edits.{skipped, characters, starved, Edit, placed, begins, edited, transformed}
 use Rattle.edit_steps.specs.Walking.{Standing, Tabled, sizes, measured}
 use Rattle.edit_steps.specs.Laying.{Editable, EditRoom, EditLaid}
-use Rattle.transform.specs.Transforming.{target, editOf, editFaults, editing, Rewritten, scriptEdit, transformFaults}
+use Rattle.transform.specs.Transforming.{target, editOf, editFaults, Rewritten}
 use Rattle.edit_steps.proofs.Positions.{standing-skipped}
 use Rattle.edit_steps.proofs.Measured.{measured-starved, measured-size}
 use Rattle.edit_steps.proofs.Given.{characters-wide, length-relaid}

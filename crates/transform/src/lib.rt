@@ -103,6 +103,7 @@ pub fn edit(
                 out,
                 out_starts,
                 out_ends,
+                size,
             ))
         }
     }

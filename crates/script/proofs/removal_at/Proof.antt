@@ -1,5 +1,4 @@
 -- A removal of 0 is none.
-use native.Mathlib.Omega.{arith}
 use borrow.Author.Needs.{needs}
 use Rattle.script.proofs.Scripts.{removal-none, removal-some}
 use Rattle.script.proofs.removal_at.Statement.{statement}

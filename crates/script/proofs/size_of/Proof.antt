@@ -1,12 +1,21 @@
--- As many as the encoding has.
+-- By ranges: no scalar value; or one byte, and one more from each bound on.
+use native.Mathlib.Omega.{arith}
+use lib.Dec.{leb}
 use borrow.Author.Needs.{needs}
-use Rattle.script.specs.Scripts.{sizeOf}
+use Rattle.script.proofs.Scripts.{bool-most, size-beyond, size-surrogate, size-ranges}
 use Rattle.script.proofs.size_of.Statement.{statement}
 use Rattle.script.proofs.size_of.Tie as tie
 
-returns : tie.Need-returns
-unfolding sizeOf
-returns c = c .encode-utf8 .ensures .len-is
-
 pub size-of-spec : {M : Type 1} → statement M
-size-of-spec = tie.close (tie.spec (λ c κs. search needs) returns)
+size-of-spec =
+    tie.close
+    (tie.spec
+    (λ c. size-beyond _ (c .if1 .taken))
+    (λ c. size-surrogate _ (c .if2 .taken))
+    (λ c. search needs)
+    (λ c. let n = c .before .before .args .character in omega (arith, bool-most (leb 0x80 n)))
+    (λ c. search needs)
+    (λ c. let n = c .before .before .args .character in omega (arith, bool-most (leb 0x80 n), bool-most (leb 0x800 n)))
+    (λ c. search needs)
+    (λ c. let n = c .before .before .args .character in omega (arith, bool-most (leb 0x80 n), bool-most (leb 0x800 n), bool-most (leb 0x10000 n)))
+    (λ c. size-ranges _ (c .before .if1 .left) (c .if2 .left)))

@@ -1,10 +1,12 @@
 -- The range first, then the script's commands, then the room; past these the result is laid down.
-use Prim.Native.Nat.{_+_, _-_, _^_, _≤_, _<_}
+use Prim.Native.Nat.{_-_, _^_, _<_}
+use mathlib.Core.Path.{_∙_, sym}
 use lib.ListN.{length}
 use native.Mathlib.Omega.{arith}
 use borrow.Author.Needs.{needs}
 use Rattle.note.specs.Notes.{limit}
 use Rattle.script.specs.Scripts.{commandsOf}
+use Rattle.edit_steps.proofs.Measured.{measured-size}
 use Rattle.transform.proofs.Verdicts.{not-placed, range-inside, skip-ready, measure-ready, starved-refused, refused-kept, refused-size, edit-room, edit-made}
 use Rattle.transform.proofs.edit.Statement.{statement}
 use Rattle.transform.proofs.edit.Tie as tie
@@ -54,7 +56,7 @@ lay-edit-requires : tie.Need-lay-edit-requires
 lay-edit-requires c κs =
     let m = c .before .before .before .before .before .before .before .before .before .before .before in
     let entry = m .before .before .before .before .before .before .before .before .before .before .before .before .before .before in
-    edit-room limit (entry .pre) (entry .args .from) (entry .args .to) (entry .args .initial-offset) (commandsOf (entry .args .script .now)) (entry .args .out .now) (entry .args .out-starts .now) (entry .args .out-ends .now) (m .before .before .before .before .before .before .placed .ensures) (m .before .before .before .before .before .if1 .left) (m .before .before .before .before .lengths .ensures) (m .before .before .skip .ensures) (m .measure .ensures) (c .before .before .before .before .before .before .before .before .before .size .given .1) (c .before .before .before .before .before .before .before .least-room .ensures) (c .before .before .before .before .before .before .least-of-two .ensures) (c .before .before .before .before .before .if2 .left) (c .before .before .before .before .if3 .left)
+    (edit-room limit (entry .pre) (entry .args .from) (entry .args .to) (entry .args .initial-offset) (commandsOf (entry .args .script .now)) (entry .args .out .now) (entry .args .out-starts .now) (entry .args .out-ends .now) (m .before .before .before .before .before .before .placed .ensures) (m .before .before .before .before .before .if1 .left) (m .before .before .before .before .lengths .ensures) (m .before .before .skip .ensures) (m .measure .ensures) (c .before .before .before .before .before .before .before .before .before .size .given .1) (c .before .before .before .before .before .before .before .least-room .ensures) (c .before .before .before .before .before .before .least-of-two .ensures) (c .before .before .before .before .before .if2 .left) (c .before .before .before .before .if3 .left), measured-size _ _ _ _ (sym (m .measure .ensures) ∙ c .before .before .before .before .before .before .before .before .before .size .given .1) .1)
 
 returns-4 : tie.Need-returns-4
 returns-4 c =

@@ -1,22 +1,21 @@
 -- Each turn lays down one more command.
 use Prim.Native.Nat.{_-_, _^_, _≤_, _<_}
-use mathlib.Core.Path.{_≡_}
 use lib.ListN.{length, drop}
 use native.Mathlib.Omega.{arith}
 use borrow.Author.Needs.{needs}
 use Rattle.script.proofs.Scripts.{entry-step, entry-broken, entries-end}
 use Rattle.script.specs.Scripts.{commandsOf}
-use Rattle.edit_steps.proofs.Given.{Going, none-going, command-room, counting, going-on, gone}
+use Rattle.edit_steps.proofs.Given.{Going, none-going, command-room, counting, going-over, below-all, gone}
 use Rattle.edit_steps.proofs.laying.lay_script.Statement.{statement}
 use Rattle.edit_steps.proofs.laying.lay_script.Tie as tie
 
 abbrev Inv-loop : tie.InvT-loop
-Inv-loop text starts ends to position script table out₀ out-starts₀ out-ends₀ at progress₀ i₀ out out-starts out-ends progress i =
+Inv-loop text starts ends to position script table out₀ out-starts₀ out-ends₀ at until progress₀ i₀ out out-starts out-ends progress i =
     (i ≤ length script)
     × Going text starts ends to position (commandsOf script) out₀ out-starts₀ out-ends₀ at progress (commandsOf (drop i script)) out out-starts out-ends
 
 abbrev μ-loop : tie.MeasureT-loop
-μ-loop text starts ends to position script table out₀ out-starts₀ out-ends₀ at progress₀ i₀ out out-starts out-ends progress i =
+μ-loop text starts ends to position script table out₀ out-starts₀ out-ends₀ at until progress₀ i₀ out out-starts out-ends progress i =
     length script - i
 
 lay-command-requires : tie.Need-lay-command-requires Inv-loop μ-loop
@@ -24,16 +23,17 @@ lay-command-requires c κs =
     let there = c .before .before .before .before in
     let read = there .before .before in
     let step = entry-step _ (read .entry-at .ensures) (there .command .given .1) in
-    command-room (read .before .before .before .before .before .before .before .before .before .before .pre) (read .before .before .loop .inv .1) (step .commands)
+    let entry = read .before .before .before .before .before .before .before .before .before .before in
+    (command-room (entry .pre .0) (read .before .before .loop .inv .1) (step .commands), below-all (entry .pre .0) (read .before .before .loop .inv .1) (entry .pre .1))
 
-step-requires : tie.Need-step-requires Inv-loop μ-loop
-step-requires c κs =
+advanced-requires : tie.Need-advanced-requires Inv-loop μ-loop
+advanced-requires c κs =
     let there = c .before .before .before .before .before .before .before .before .before .before .before in
     let read = there .before .before in
     let entry = read .before .before .before .before .before .before .before .before .before .before in
     let long : length (entry .args .out .now) < 2 ^ 64 = entry .good .1 .1 .1 .1 .1 .1 .1 .0 .0 in
     let step = entry-step _ (read .entry-at .ensures) (there .command .given .1) in
-    counting (entry .pre) (read .before .before .loop .inv .1) (step .commands) long
+    counting (entry .pre .0) (read .before .before .loop .inv .1) (step .commands) long
 
 loop-less : tie.Need-loop-less Inv-loop μ-loop
 loop-less c =
@@ -46,12 +46,13 @@ loop-again c =
     let there = c .before .before .before .before .before .before .before .before .before .before .before .before in
     let read = there .before .before in
     let step = entry-step _ (read .entry-at .ensures) (there .command .given .1) in
-    (step .most, going-on (read .before .before .before .before .before .before .before .before .before .before .pre) (read .before .before .loop .inv .1) (step .commands) (c .before .before .before .before .before .before .before .lay-command .ensures) (c .step .ensures))
+    let entry = read .before .before .before .before .before .before .before .before .before .before in
+    (step .most, going-over (entry .pre .0) (read .before .before .loop .inv .1) (step .commands) (c .before .before .before .before .before .before .before .lay-command .ensures) (entry .pre .1) (c .advanced .ensures))
 
 returns : tie.Need-returns Inv-loop μ-loop
 returns c =
     let head = c .before .before .before .before in
-    gone (head .before .before .before .before .before .before .before .before .pre) (head .loop .inv .1) (entry-broken _ (c .before .before .before .loop-test .taken) (c .before .before .entry-at .ensures) (c .enum-told .given .1) .0)
+    gone (head .before .before .before .before .before .before .before .before .pre .0) (head .loop .inv .1) (entry-broken _ (c .before .before .before .loop-test .taken) (c .before .before .entry-at .ensures) (c .enum-told .given .1) .0)
 
 pub lay-script-spec : {M : Type 1} → statement M
 lay-script-spec =
@@ -59,11 +60,11 @@ lay-script-spec =
     (tie.spec
     Inv-loop
     μ-loop
-    (λ c. (omega arith, none-going (c .before .before .before .before .before .before .before .pre)))
+    (λ c. (omega arith, none-going (c .before .before .before .before .before .before .before .pre .0)))
     (λ c κs. search needs)
     (λ c. search needs)
     lay-command-requires
-    step-requires
+    advanced-requires
     loop-less
     loop-again
     (λ c. search needs)
@@ -74,4 +75,4 @@ lay-script-spec =
     (λ c. c .before .loop .inv .1 .text-laid .same)
     (λ c. c .before .loop .inv .1 .starts-laid .same)
     (λ c. c .before .loop .inv .1 .ends-laid .same)
-    (λ c. gone (c .before .before .before .before .before .before .before .before .before .pre) (c .before .loop .inv .1) (entries-end _ (c .loop-test .left) .0)))
+    (λ c. gone (c .before .before .before .before .before .before .before .before .before .pre .0) (c .before .loop .inv .1) (entries-end _ (c .loop-test .left) .0)))

@@ -18,27 +18,27 @@ returns : tie.Need-returns Inv-loop μ-loop
 returns c =
     let there = c .before .before .before in
     let read = there .before .before in
-    starves-there (read .before .before .loop .inv) (read .entry-at .ensures) (there .command .given .1) (c .before .starves .ensures) (c .if1 .taken)
+    starves-there (read .before .before .loop .inv) (read .entry-at .ensures) (there .command .given .1) (c .before .advanced .ensures) (c .if1 .taken)
 
-step-requires : tie.Need-step-requires Inv-loop μ-loop
-step-requires c κs =
-    let there = c .before .before .before in
+advanced-requires : tie.Need-advanced-requires Inv-loop μ-loop
+advanced-requires c κs =
+    let there = c .before in
     let read = there .before .before in
     let entry = read .before .before .before .before .before in
     let long : length (entry .args .script .now) < 2 ^ 64 = entry .good .1 .1 .1 .0 .0 in
-    counting (read .before .before .loop .inv) (read .entry-at .ensures) (there .command .given .1) (c .before .starves .ensures) (entry .pre) long
+    counting (read .before .before .loop .inv) (read .entry-at .ensures) (there .command .given .1) (entry .pre) long
 
 loop-less : tie.Need-loop-less Inv-loop μ-loop
 loop-less c =
-    let there = c .before .before .before .before in
+    let there = c .before .before .before in
     let step = entry-step _ (there .before .before .entry-at .ensures) (there .command .given .1) in
     omega (arith, step .onward, step .most)
 
 loop-again : tie.Need-loop-again Inv-loop μ-loop
 loop-again c =
-    let there = c .before .before .before .before in
+    let there = c .before .before .before in
     let read = there .before .before in
-    one-measured (read .before .before .loop .inv) (read .entry-at .ensures) (there .command .given .1) (c .before .before .starves .ensures) (c .before .if1 .left) (c .step .ensures)
+    one-measured (read .before .before .loop .inv) (read .entry-at .ensures) (there .command .given .1) (c .before .advanced .ensures) (c .if1 .left)
 
 pub measure-spec : {M : Type 1} → statement M
 measure-spec =
@@ -49,9 +49,8 @@ measure-spec =
     (λ c. none-measured (c .before .before .pre .standing))
     (λ c κs. search needs)
     (λ c. search needs)
-    (λ c κs. search needs)
+    advanced-requires
     returns
-    step-requires
     loop-less
     loop-again
     (λ c. search needs)

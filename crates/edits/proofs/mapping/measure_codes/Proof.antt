@@ -13,8 +13,8 @@ Inv-loop text to position codes table progress₀ i₀ progress i = MeasuringCod
 abbrev μ-loop : tie.MeasureT-loop
 μ-loop text to position codes table progress₀ i₀ progress i = length codes - i
 
-step-requires : tie.Need-step-requires Inv-loop μ-loop
-step-requires c κs =
+advanced-requires : tie.Need-advanced-requires Inv-loop μ-loop
+advanced-requires c κs =
     let entry = c .before .before .before .before .before .before .before in
     let long : length (entry .args .codes .now) * 4 < 2 ^ 63 = entry .good .1 .1 .1 .0 .1 in
     code-counting (c .before .before .before .before .loop .inv) (c .before .before .before .loop-test .taken) (c .before .starves .ensures) (entry .pre) long
@@ -30,8 +30,8 @@ measure-codes-spec =
     (λ c. search needs)
     (λ c κs. search needs)
     (λ c. code-starves (c .before .before .before .before .loop .inv) (c .before .before .before .loop-test .taken) (c .before .starves .ensures) (c .if1 .taken))
-    step-requires
+    advanced-requires
     (λ c. search needs)
     (λ c. omega arith)
-    (λ c. one-coded (c .before .before .before .before .before .loop .inv) (c .before .before .before .before .loop-test .taken) (c .before .before .starves .ensures) (c .before .if1 .left) (c .step .ensures))
+    (λ c. one-coded (c .before .before .before .before .before .loop .inv) (c .before .before .before .before .loop-test .taken) (c .before .before .starves .ensures) (c .before .if1 .left) (c .advanced .ensures))
     (λ c. all-coded (c .before .loop .inv) (c .loop-test .left)))
