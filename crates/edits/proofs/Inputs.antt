@@ -1,11 +1,10 @@
 -- Laws of the refusals before an edit: the note's, then those of what is lent beside it.
 use Prim.Native.Nat.{ℕ, _≤_}
-use mathlib.Core.Path.{_≡_, _∙_, ap, refl, sym}
-use mathlib.Core.Bool.{Bool, true, false, cond, _&&_, not}
+use mathlib.Core.Path.{_≡_, _∙_, refl, sym}
+use mathlib.Core.Bool.{Bool, true, false, not}
 use mathlib.Mathlib.Data.Bool.Basic.{and-elim-left, and-elim-right}
 use mathlib.Core.List.{List, []}
-use native.Mathlib.Omega.{arith}
-use lib.Dec.{leb, eqb}
+use lib.Dec.{leb}
 use lib.ListN.{length}
 use borrow.Author.Tests.{not-true, not-false, leb-true, eq-eqb, ne-eqb}
 use Rattle.utf8.specs.Letters.{letters, leads}
@@ -24,7 +23,6 @@ use Rattle.convert.specs.declared.Range.{Range}
 use Rattle.convert.specs.declared.Converted.{Converted}
 use Rattle.convert.specs.declared.Converted.the-variants.{Found, Refused}
 use Rattle.convert.specs.Converting.{startOf, endOf}
-use Rattle.edit_steps.specs.Edits.{Edit}
 use Rattle.transform.specs.Transforming.{target}
 use Rattle.transform.proofs.Verdicts.{edit-found}
 use Rattle.edits.specs.Characters.{allScalar}

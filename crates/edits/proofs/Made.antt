@@ -1,14 +1,14 @@
 -- An edit behind inputs that are accepted: what it is refused for, by the note that it makes.
 use Prim.Native.Nat.{ℕ, _≤_, _<_, min}
 use mathlib.Core.Path.{_≡_, _∙_, ap, refl}
-use mathlib.Core.Bool.{Bool, true, false}
+use mathlib.Core.Bool.{Bool, true}
 use mathlib.Core.List.{List}
 use native.Mathlib.Omega.{arith}
 use lib.ListN.{length, drop}
 use Rattle.buffers.specs.Splice.{splice}
 use Rattle.buffers.proofs.Splice.{splice-overlay}
 use Rattle.note.specs.declared.Refusal.{Refusal}
-use Rattle.note.specs.declared.Refusal.the-variants.{Exhausted, NoRoom}
+use Rattle.note.specs.declared.Refusal.the-variants.{NoRoom}
 use Rattle.note.specs.declared.Verdict.{Verdict}
 use Rattle.note.specs.declared.Verdict.the-variants.{Accepted, Refused as Rejected}
 use Rattle.note.specs.Refusals.{order, also, verdict}
@@ -16,13 +16,10 @@ use Rattle.note.specs.Notes.{Note}
 use Rattle.note.proofs.Verdicts.{unmet, accepted-then}
 use Rattle.edit_steps.specs.Edits.{characters, Edit, edited, transformed}
 use Rattle.transform.specs.Transforming.{editFaults}
-use Rattle.transform.proofs.Verdicts.{starving, too-large, small-enough}
+use Rattle.transform.proofs.Verdicts.{too-large, small-enough}
 use Rattle.edits.specs.declared.Clearing.the-variants.{Cleared, Refused}
 use Rattle.edits.specs.Whole.{Emptied}
-use Rattle.edits.specs.Plain.{Makes, MakesUnless}
-
-pub makes : {n : Note} {e : Edit} {short : Bool} {made : Note} → MakesUnless n e short made → short ≡ false → Makes n e made
-makes m fed = record { lies = m .lies; feeds = m .exhausts ∙ fed; leaves = m .leaves fed }
+use Rattle.edits.specs.Plain.{Makes}
 
 module _ (most : ℕ) (n : Note) (inputs : Refusal → Bool) (low : unmet (drop 7 order) inputs ≡ true) {v : Verdict} (judged : v ≡ verdict inputs) (ok : v ≡ Accepted) (e : Edit) (room : ℕ) where
   abbrev rest : Refusal → Bool
@@ -30,9 +27,6 @@ module _ (most : ℕ) (n : Note) (inputs : Refusal → Bool) (low : unmet (drop 
 
   last : {w : Verdict} → w ≡ verdict rest → w ≡ verdict (also inputs rest)
   last is = accepted-then 7 inputs rest low refl judged ok is
-
-  pub exhausted : {short : Bool} {made : Note} → MakesUnless n e short made → short ≡ true → Rejected Exhausted ≡ verdict (also inputs rest)
-  exhausted m starves = last (starving most (n .normalized) e room (m .lies) (m .exhausts ∙ starves))
 
   module _ {made : Note} (m : Makes n e made) where
     size : length (edited characters (n .normalized) e (n .normalized)) ≡ length (made .normalized)

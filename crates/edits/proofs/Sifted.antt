@@ -36,16 +36,6 @@ skipped-suc s b d p =
     (λ past. skipped-past s b (suc d) p past ∙ sym (rw (skipped-past s b 1 p past) (skipped-past s b d p past)))
     (λ more. skipped-on s b d p more ∙ sym (rw (skipped-on s b 0 p more, skipped-none s b (p + announced (getD s p 0)))))
 
-pub sifted-none : (ks : List ℕ) → sifted ks [] ≡ []
-unfolding sifted
-sifted-none [] = refl
-sifted-none (k ∷ ks) = refl
-
-spread-none : (cs : List ℕ) → spread cs [] ≡ []
-unfolding spread
-spread-none [] = refl
-spread-none (c ∷ cs) = refl
-
 -- the letters of a column, from a place on
 pub letters-drop : (k : ℕ) (s xs : List ℕ) → length xs ≡ length s → ofLetters (drop k s) (drop k xs) ≡ drop (leads (take k s)) (ofLetters s xs)
 unfolding ofLetters leads leadAt
@@ -66,11 +56,6 @@ length-letters (b ∷ s) (x ∷ xs) same =
     true-or-false (continues b)
     (λ goes. rw goes (length-letters s xs (omega arith) ∙ omega arith))
     (λ new. rw new (ap suc (length-letters s xs (omega arith)) ∙ omega arith))
-
--- one character less
-letters-none : ofLetters [] [] ≡ []
-unfolding ofLetters
-letters-none = refl
 
 new-letter : (b x : ℕ) (s xs : List ℕ) → continues b ≡ false → ofLetters (b ∷ s) (x ∷ xs) ≡ x ∷ ofLetters s xs
 unfolding ofLetters
@@ -114,11 +99,6 @@ keeps-command : (c k : ℕ) (cs ks : List ℕ) → eqb k 0 ≡ false → keptCom
 unfolding keptCommands
 keeps-command c k cs ks e = rw e
 
-no-flags : (cs : List ℕ) → keptCommands cs [] ≡ []
-unfolding keptCommands
-no-flags [] = refl
-no-flags (c ∷ cs) = refl
-
 -- what they give to the text, wherever they stand
 pub given-sifted : (s : List ℕ) (b p : ℕ) (cs ks : List ℕ) → given characters s b p (keptCommands cs ks) ≡ textOf (sifted ks cs)
 unfolding keptCommands given sifted textOf
@@ -159,7 +139,7 @@ none-sifted (k ∷ ks) (x ∷ xs) e =
     (λ drops. rw drops (none-sifted ks xs (rw drops at e)))
     (λ keeps. clash true refl (rw keeps at e))
 
-none-commands : (cs ks : List ℕ) → anyKept ks ≡ false → keptCommands cs ks ≡ []
+pub none-commands : (cs ks : List ℕ) → anyKept ks ≡ false → keptCommands cs ks ≡ []
 unfolding anyKept keptCommands
 none-commands [] ks e = refl
 none-commands (c ∷ cs) [] e = refl
@@ -171,14 +151,6 @@ none-commands (c ∷ cs) (k ∷ ks) e =
 pub spread-on : (c x : ℕ) (cs xs : List ℕ) {r : List ℕ} → r ≡ spread cs xs → replicate (sizeOf c) x ++ r ≡ spread (c ∷ cs) (x ∷ xs)
 unfolding spread
 spread-on c x cs xs e = ap (_++_ (replicate (sizeOf c) x)) e
-
-pub kept-cons : (k : ℕ) (ks : List ℕ) → eqb k 0 ≡ true → anyKept (k ∷ ks) ≡ anyKept ks
-unfolding anyKept
-kept-cons k ks e = rw e
-
-pub kept-now : (k : ℕ) (ks : List ℕ) → eqb k 0 ≡ false → anyKept (k ∷ ks) ≡ true
-unfolding anyKept
-kept-now k ks e = rw e
 
 module _ (s : List ℕ) where
   abbrev end : ℕ

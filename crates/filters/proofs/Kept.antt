@@ -1,72 +1,36 @@
 -- Laws of `kept` and `begun`: flag by flag, a character of the text and one of the range go by.
-use Prim.Native.Nat.{ℕ, zero, suc, _+_, _-_, _^_, _≤_, _<_}
-use mathlib.Core.Path.{_≡_, _∙_, ap, refl, sym}
-use mathlib.Core.Bool.{Bool, true, false, cond, _&&_, _||_, not}
+use Prim.Native.Nat.{ℕ, zero, suc, _+_, _≤_, _<_}
+use mathlib.Core.Path.{_≡_, _∙_, refl, sym}
+use mathlib.Core.Bool.{Bool, true, false, cond}
 use mathlib.Core.List.{List, [], _∷_}
 use native.Mathlib.Numerals.{add-one}
 use native.Mathlib.Omega.{arith}
 use lib.Dec.{leb, eqb}
-use lib.ListN.{length, getD, drop, length-drop, drop-of-length-le}
+use lib.ListN.{length, getD, drop, drop-of-length-le}
 use lib.Seq.{drop-cons}
-use borrow.Author.Tests.{le-leb, lt-leb, eq-eqb, ne-eqb}
+use borrow.Author.Tests.{eq-eqb, ne-eqb}
 use Rattle.buffers.proofs.Cases.{le-or-lt, true-or-false, clash}
-use Rattle.buffers.proofs.Splice.{length-part}
 use Rattle.utf8.specs.Formed.{announced, wellFormed, boundary}
-use Rattle.utf8.specs.Letters.{lettersFrom, letters}
 use Rattle.utf8.specs.Lengths.{CharBegins, CharLen}
-use Rattle.utf8.proofs.Boundaries.{char-at, boundary-zero, boundary-most}
+use Rattle.utf8.proofs.Boundaries.{boundary-zero}
 use Rattle.script.specs.declared.Command.{Command}
 use Rattle.script.specs.Scripts.{sizeOf}
 use Rattle.edit_steps.specs.declared.walking.Progress.{Progress}
 use Rattle.edit_steps.specs.declared.walking.Extent.the-variants.{Size, Starved}
 use Rattle.edit_steps.specs.Edits.{skipped, starves, moved, starved, given}
-use Rattle.edit_steps.specs.Walking.{Standing, Tabled, sizes, stepped, measured}
-use Rattle.edit_steps.proofs.Positions.{skipped-none, skipped-past, skipped-on, standing-skipped, starves-replacing, moved-replacing, stepped-fed}
+use Rattle.edit_steps.specs.Walking.{Standing, Tabled, stepped, measured}
+use Rattle.edit_steps.proofs.Positions.{skipped-none, standing-skipped, starves-replacing, moved-replacing, stepped-fed}
 use Rattle.edit_steps.proofs.Measured.{Passed, starves-here, one-passed, all-passed}
-use Rattle.edits.specs.Characters.{codeAt, codesFrom, codesOf}
+use Rattle.edits.specs.Characters.{codeAt, codesOf}
 use Rattle.edits.specs.Whole.{replacing, droppedAhead, anyKept, keptCommands}
-use Rattle.edits.proofs.Characters.{code-bytes, codes-none, codes-cons}
+use Rattle.edits.proofs.Characters.{codes-none, codes-cons}
+use Rattle.edits.proofs.Sifted.{skipped-suc, none-commands, code-size, codes-letters}
 use Rattle.filters.specs.Flags.{skips, begun, kept, wants, counts, FlagsReady}
-
--- a text has as many code points as letters
-length-codes : (k : ℕ) (s : List ℕ) → length (codesFrom k s) ≡ lettersFrom k s
-unfolding codesFrom lettersFrom
-length-codes k [] = refl
-length-codes zero (b ∷ s) = ap suc (length-codes (announced b - 1) s)
-length-codes (suc k) (b ∷ s) = length-codes k s
-
-pub codes-letters : (s : List ℕ) → length (codesOf s) ≡ letters s
-unfolding codesOf letters
-codes-letters s = length-codes 0 s
-
--- a code point's width
-pub code-size : (s : List ℕ) (q : ℕ) → wellFormed s ≡ true → boundary s q ≡ true → q < length s → sizeOf (codeAt s q) ≡ announced (getD s q 0)
-unfolding sizeOf
-code-size s q w e h =
-    let here = char-at s q w e h in
-    ap length (code-bytes s q w e h) ∙ (length-part s q (q + announced (getD s q 0)) (here .inside) ∙ omega arith)
-
--- characters skipped one by one
-pub skipped-suc : (s : List ℕ) (b d p : ℕ) → skipped s b (suc d) p ≡ skipped s b d (skipped s b 1 p)
-skipped-suc s b d p =
-    le-or-lt b p
-    (λ past. skipped-past s b (suc d) p past ∙ sym (rw (skipped-past s b 1 p past) (skipped-past s b d p past)))
-    (λ more. skipped-on s b d p more ∙ sym (rw (skipped-on s b 0 p more, skipped-none s b (p + announced (getD s p 0)))))
 
 no-flags : (cs : List ℕ) → keptCommands cs [] ≡ []
 unfolding keptCommands
 no-flags [] = refl
 no-flags (c ∷ cs) = refl
-
--- where nothing is kept there is no command
-none-kept : (cs ks : List ℕ) → anyKept ks ≡ false → keptCommands cs ks ≡ []
-unfolding anyKept keptCommands
-none-kept [] ks e = refl
-none-kept (c ∷ cs) [] e = refl
-none-kept (c ∷ cs) (k ∷ ks) e =
-    true-or-false (eqb k 0)
-    (λ drops. rw drops (none-kept cs ks (rw drops at e)))
-    (λ keeps. clash true refl (rw keeps at e))
 
 -- so the first command may stand behind all that is dropped before it
 module _ (s : List ℕ) (b from : ℕ) (flags : List ℕ) where
@@ -79,14 +43,14 @@ module _ (s : List ℕ) (b from : ℕ) (flags : List ℕ) where
   begun-starved =
       true-or-false (anyKept flags)
       (λ t. rw (begun-kept t))
-      (λ u. rw (none-kept (codesOf s) flags u))
+      (λ u. rw (none-commands (codesOf s) flags u))
 
   pub begun-given : (piece : ℕ → Command → List ℕ) → given piece s b (begun s b from flags) (kept s flags) ≡ given piece s b (skipped s b (droppedAhead flags) from) (kept s flags)
   unfolding kept given
   begun-given piece =
       true-or-false (anyKept flags)
       (λ t. rw (begun-kept t))
-      (λ u. rw (none-kept (codesOf s) flags u))
+      (λ u. rw (none-commands (codesOf s) flags u))
 
 -- the tests of the code
 module _ (flag b p : ℕ) where
