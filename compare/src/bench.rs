@@ -1,8 +1,10 @@
 //! Times of our calls beside others that a user could pick: same process, same texts, buffers prepared before. What is
 //! printed is the table of docs/BENCHMARKS.md. A cell with an aim counts as a test, and fails where the aim is missed.
 
+mod buffers;
 mod characters;
 mod convert;
+mod edits;
 mod find;
 mod layouts;
 mod notes;
@@ -35,6 +37,7 @@ pub fn measure(word: String) -> ExitCode {
     find::bench(&mut bench);
     heap::keep_what_is_freed();
     replace::bench(&mut bench);
+    edits::bench(&mut bench);
     slice::bench(&mut bench);
     split::bench(&mut bench);
     println!(

@@ -1,11 +1,11 @@
 //! Replacing, the three calls one after the other, and blanking in one call.
 
+use super::buffers::Buffers;
 use super::layouts::{self, any_list, Marked, FILLER, LITERAL};
 use super::{at_most, everywhere, side, timed, Bench, Other, Side, Table, COPYING, NO_AIM, RUST};
-use crate::library::{self, Count, Publishing};
+use crate::library::{self, Count};
 use crate::note::Note;
 use crate::places::Handed;
-use crate::texts::LIMIT;
 use std::hint::black_box;
 use std::time::Duration;
 use tokenizers::pattern::Pattern;
@@ -53,37 +53,8 @@ pub fn bench(bench: &mut Bench) {
     }
 }
 
-/// Lent buffers for a published note.
-struct Buffers {
-    out: Vec<u8>,
-    out_starts: Vec<u16>,
-    out_ends: Vec<u16>,
-}
-
-impl Buffers {
-    fn new() -> Self {
-        let [out_starts, out_ends] = [(); 2].map(|()| vec![0; LIMIT]);
-        Buffers { out: vec![0; LIMIT], out_starts, out_ends }
-    }
-
-    fn replace(&mut self, note: &Note, list: &[u8]) -> Count {
-        let lent = Publishing { text: &mut self.out, starts: &mut self.out_starts, ends: &mut self.out_ends };
-        library::replace(black_box(note), black_box(list), black_box(FILLER.as_bytes()), lent)
-    }
-
-    fn redact(&mut self, strings: [&[u8]; 3]) -> Count {
-        let [text, literal, filler] = strings.map(black_box);
-        let out = Publishing { text: &mut self.out, starts: &mut self.out_starts, ends: &mut self.out_ends };
-        library::redact(text, literal, filler, out)
-    }
-
-    /// As many bytes and numbers as a result has.
-    fn copy(&mut self, result: &Note) {
-        let len = result.normalized.len();
-        self.out[..len].copy_from_slice(&result.normalized);
-        self.out_starts[..len].copy_from_slice(&result.starts);
-        self.out_ends[..len].copy_from_slice(&result.ends);
-    }
+fn replace_of(note: &Note, list: &[u8], buffers: &mut Buffers) -> Count {
+    library::replace(black_box(note), black_box(list), black_box(FILLER.as_bytes()), buffers.lent())
 }
 
 /// Copying each text's published note.
@@ -109,9 +80,9 @@ fn replace(texts: &[Marked]) -> Vec<Side<'_>> {
     let notes = layouts::lent(&ready);
     let lists: Vec<Vec<u8>> = texts.iter().map(Marked::list).collect();
     let mut buffers = Buffers::new();
-    assert!((0..texts.len()).all(|i| buffers.replace(&notes[i], &lists[i]).refusal == 0));
+    assert!((0..texts.len()).all(|i| replace_of(&notes[i], &lists[i], &mut buffers).refusal == 0));
     vec![
-        side(move |i| timed(|| buffers.replace(&notes[i], &lists[i]))),
+        side(move |i| timed(|| replace_of(&notes[i], &lists[i], &mut buffers))),
         side(move |i| {
             let (mut theirs, places) = (ready[i].clone(), Handed::new(&texts[i].places));
             timed(|| {
@@ -132,7 +103,7 @@ fn from_text_and_replace(texts: &[Marked]) -> Vec<Side<'_>> {
             let note = &mut notes[i];
             timed(|| {
                 let fresh = library::from_text(black_box(texts[i].bytes()), &mut note.starts, &mut note.ends);
-                (fresh, buffers.replace(note, &lists[i]))
+                (fresh, replace_of(note, &lists[i], &mut buffers))
             })
         }),
         side(|i| from_and_replace(&texts[i].text, Handed::new(&texts[i].places), FILLER)),
@@ -149,7 +120,7 @@ fn three_calls(texts: &[Marked]) -> Vec<Side<'_>> {
             timed(|| {
                 let fresh = library::from_text(text, &mut note.starts, &mut note.ends);
                 let found = library::find_matches(text, black_box(LITERAL.as_bytes()), &mut list);
-                (fresh, found, buffers.replace(note, &list[..found.count as usize]))
+                (fresh, found, replace_of(note, &list[..found.count as usize], &mut buffers))
             })
         }),
         side(|i| from_and_replace(&texts[i].text, LITERAL, FILLER)),
@@ -159,10 +130,13 @@ fn three_calls(texts: &[Marked]) -> Vec<Side<'_>> {
 
 fn redact<'a>(texts: &'a [Marked], literal: &'static str, filler: &'static str) -> Vec<Side<'a>> {
     let mut buffers = Buffers::new();
-    let strings = move |i: usize| [texts[i].bytes(), literal.as_bytes(), filler.as_bytes()];
-    assert!((0..texts.len()).all(|i| buffers.redact(strings(i)).refusal == 0));
+    let mut ours = move |i: usize| {
+        let [text, literal, filler] = [texts[i].bytes(), literal.as_bytes(), filler.as_bytes()].map(black_box);
+        library::redact(text, literal, filler, buffers.lent())
+    };
+    assert!((0..texts.len()).all(|i| ours(i).refusal == 0));
     vec![
-        side(move |i| timed(|| buffers.redact(strings(i)))),
+        side(move |i| timed(|| ours(i))),
         side(move |i| from_and_replace(&texts[i].text, literal, filler)),
         copying(texts, literal, filler),
     ]
