@@ -31,9 +31,9 @@ pub fn kept_end(text: &[u8], flags: &[u8]) -> usize
     q
 }
 
-// The kept characters with their alignments; how many bytes they are. Every byte is laid, and the next one over it where
-// it is not kept: no branch asks for a flag. Up to `end` a kept byte is still to come, so that none is laid past the
-// result.
+// The kept characters with their alignments; how many bytes they are. Every byte is laid, and the next one over it
+// where it is not kept: no branch asks for a flag. Up to `end` a kept byte is still to come, so that none is laid past
+// the result.
 pub fn lay_kept(
     text: &[u8],
     starts: &[Offset],

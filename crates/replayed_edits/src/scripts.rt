@@ -24,7 +24,8 @@ pub fn transform_range(
 ) -> bool
     ensures { λ r. ⌜ Replayed
         (TransformTold (noteAt (now (case .entry)) (now (starts .entry)) (now (ends .entry)))
-        (rangeOf (sideOf (flagAt (now (case .entry)) 5)) (numberAt (now (case .entry)) 6) (numberAt (now (case .entry)) 7))
+        (rangeOf (sideOf (flagAt (now (case .entry)) 5))
+        (numberAt (now (case .entry)) 6) (numberAt (now (case .entry)) 7))
         (fieldOf 8 (now (case .entry))) (numberAt (now (case .entry)) 9)
         (now (out .entry)) (now («out_starts» .entry)) (now («out_ends» .entry)))
         (editStored (now (case .entry)) 13) r ⌝ }
@@ -58,7 +59,8 @@ pub fn transform(
 ) -> bool
     ensures { λ r. ⌜ Replayed
         (TransformTold (noteAt (now (case .entry)) (now (starts .entry)) (now (ends .entry)))
-        (wholeTranscript (fieldOf 0 (now (case .entry)))) (fieldOf 5 (now (case .entry))) (numberAt (now (case .entry)) 6)
+        (wholeTranscript (fieldOf 0 (now (case .entry))))
+        (fieldOf 5 (now (case .entry))) (numberAt (now (case .entry)) 6)
         (now (out .entry)) (now («out_starts» .entry)) (now («out_ends» .entry)))
         (editStored (now (case .entry)) 10) r ⌝ }
 {
