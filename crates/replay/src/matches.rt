@@ -25,7 +25,8 @@ pub fn find_matches(case: &[u8]) -> bool {
     found(case, &mut out[..o])
 }
 
-fn replaced(
+// A note, a list, a content, the lent text, starts and ends; the refusal, the size, the text, starts and ends.
+pub fn replace(
     case: &[u8],
     starts: &[Offset],
     ends: &[Offset],
@@ -46,28 +47,6 @@ fn replaced(
         out_ends,
     );
     is_published(case, 10, answer, out, out_starts, out_ends)
-}
-
-// The lent starts and ends are filled already.
-fn replaced_beside(
-    case: &[u8],
-    starts: &[Offset],
-    ends: &[Offset],
-    out_starts: &mut [Offset],
-    out_ends: &mut [Offset],
-) -> bool {
-    let mut out = io::large_buffer();
-    let o = bytes(case, 7, &mut out);
-    replaced(case, starts, ends, &mut out[..o], out_starts, out_ends)
-}
-
-// A note, a list, a content, the lent text, starts and ends; the refusal, the size, the text, starts and ends.
-pub fn replace(case: &[u8], starts: &[Offset], ends: &[Offset]) -> bool {
-    let mut out_starts = zeros();
-    let mut out_ends = zeros();
-    let s = offsets(case, 8, &mut out_starts);
-    let e = offsets(case, 9, &mut out_ends);
-    replaced_beside(case, starts, ends, &mut out_starts[..s], &mut out_ends[..e])
 }
 
 fn compared(
@@ -103,7 +82,8 @@ pub fn published_alike(case: &[u8], starts: &[Offset], ends: &[Offset]) -> bool 
     compared(case, starts, ends, &other_starts[..s], &other_ends[..e])
 }
 
-fn blanked(
+// A text, a literal, a content, the lent text, starts and ends; the refusal, the size, the three buffers.
+pub fn redact(
     case: &[u8],
     out: &mut [u8],
     out_starts: &mut [Offset],
@@ -118,20 +98,4 @@ fn blanked(
         out_ends,
     );
     is_published(case, 6, answer, out, out_starts, out_ends)
-}
-
-// The lent text, beside both columns.
-fn blanked_text(case: &[u8], out_starts: &mut [Offset], out_ends: &mut [Offset]) -> bool {
-    let mut out = io::large_buffer();
-    let o = bytes(case, 3, &mut out);
-    blanked(case, &mut out[..o], out_starts, out_ends)
-}
-
-// A text, a literal, a content, the lent text, starts and ends; the refusal, the size, the three buffers.
-pub fn redact(case: &[u8]) -> bool {
-    let mut out_starts = zeros();
-    let mut out_ends = zeros();
-    let s = offsets(case, 4, &mut out_starts);
-    let e = offsets(case, 5, &mut out_ends);
-    blanked_text(case, &mut out_starts[..s], &mut out_ends[..e])
 }

@@ -1,8 +1,7 @@
 // The starting note, and the calls on a note, whose first fields are transcript, cleaned text, starts, ends, shift.
-use crate::edits::on_edit;
 use crate::matches::published_alike;
-use crate::matches::replace;
 use crate::pairs::on_pairs;
+use crate::publishing::on_publishing;
 use crate::ranges::convert_offsets;
 use crate::ranges::get_range;
 use crate::ranges::get_range_original;
@@ -48,15 +47,16 @@ fn called(call: u8, case: &[u8], starts: &[Offset], ends: &[Offset]) -> bool {
         7 => get_range(case, starts, ends),
         8 => get_range_original(case, starts, ends),
         9 => on_pairs(call, case, 6, starts, ends),
-        10 => replace(case, starts, ends),
+        10 => on_publishing(call, case, 7, starts, ends),
         11 => published_alike(case, starts, ends),
+        14 => on_publishing(call, case, 3, starts, ends),
         15 => slice(case, starts, ends),
         16 => split(case, starts, ends),
         17 => get_splits(case, starts, ends),
-        19 => on_edit(call, case, 10, starts, ends),
-        20 => on_edit(call, case, 7, starts, ends),
-        21 | 22 | 23 | 24 => on_edit(call, case, 6, starts, ends),
-        25 => on_edit(call, case, 5, starts, ends),
+        19 => on_publishing(call, case, 10, starts, ends),
+        20 => on_publishing(call, case, 7, starts, ends),
+        21 | 22 | 23 | 24 => on_publishing(call, case, 6, starts, ends),
+        25 => on_publishing(call, case, 5, starts, ends),
         _ => false,
     }
 }

@@ -1,4 +1,6 @@
-// The seven edits: the lent text, starts and ends stand in the fields from `at` on.
+// The calls that publish a note: the lent text, starts and ends stand in the fields from `at` on.
+use crate::matches::redact;
+use crate::matches::replace;
 use buffers::Offset;
 use replayed_edits::scripts::transform;
 use replayed_edits::scripts::transform_range;
@@ -12,7 +14,7 @@ use stored_answers::columns::offsets;
 use stored_answers::columns::zeros;
 ghost use Prim.Native.Nat.{_<_};
 
-fn edited(
+fn published(
     call: u8,
     case: &[u8],
     starts: &[Offset],
@@ -22,6 +24,8 @@ fn edited(
     out_ends: &mut [Offset],
 ) -> bool {
     match call {
+        10 => replace(case, starts, ends, out, out_starts, out_ends),
+        14 => redact(case, out, out_starts, out_ends),
         19 => transform_range(case, starts, ends, out, out_starts, out_ends),
         20 => transform(case, starts, ends, out, out_starts, out_ends),
         21 => map(case, starts, ends, out, out_starts, out_ends),
@@ -33,7 +37,7 @@ fn edited(
 }
 
 // The lent text, beside both columns.
-fn edited_beside(
+fn published_beside(
     call: u8,
     case: &[u8],
     at: usize,
@@ -44,7 +48,7 @@ fn edited_beside(
 ) -> bool {
     let mut out = io::large_buffer();
     let o = bytes(case, at, &mut out);
-    edited(
+    published(
         call,
         case,
         starts,
@@ -55,14 +59,14 @@ fn edited_beside(
     )
 }
 
-pub fn on_edit(call: u8, case: &[u8], at: usize, starts: &[Offset], ends: &[Offset]) -> bool
+pub fn on_publishing(call: u8, case: &[u8], at: usize, starts: &[Offset], ends: &[Offset]) -> bool
     requires { ⌜ at < 100 ⌝ }
 {
     let mut out_starts = zeros();
     let mut out_ends = zeros();
     let s = offsets(case, at + 1, &mut out_starts);
     let e = offsets(case, at + 2, &mut out_ends);
-    edited_beside(
+    published_beside(
         call,
         case,
         at,
