@@ -1,6 +1,6 @@
 //! The answers that crates/replay replays (`compare/run list`): what the Rust original and `core::str` answer, and,
-//! where they refuse nothing, the second check. The same in every run. `list.rs` has the layout; a new call is one
-//! function here or below `answers`, and one in crates/replay, which reads the fields in the order in which
+//! where they refuse nothing, the second check. The same in every run. `list.rs` has the layout; a new call is a name
+//! and a function here or below `answers`, and one in crates/replay, which reads the fields in the order in which
 //! they are written here.
 
 mod calls;
@@ -11,7 +11,7 @@ mod slicing;
 
 use crate::characters::{self, sequences};
 use crate::every;
-use crate::list::Answers;
+use crate::list::{field, Answers};
 use crate::note::Note;
 use crate::notes::{self, rooms, FAULTS};
 use crate::random::Random;
@@ -25,15 +25,51 @@ use tokenizers::NormalizedString;
 /// From the repository's root.
 const FOLDER: &str = "crates/replay/data";
 
+/// The names of the calls: crates/replay numbers them by their places here.
+const CALLS: [&str; 26] = [
+    "well_formed",
+    "letter_count",
+    "char_offsets",
+    "char_offsets_all",
+    "from_text",
+    "check_note",
+    "convert_offsets",
+    "get_range",
+    "get_range_original",
+    "convert_all",
+    "replace",
+    "published_alike",
+    "part",
+    "find_matches",
+    "redact",
+    "slice",
+    "split",
+    "get_splits",
+    "pieces",
+    "transform_range",
+    "transform",
+    "map",
+    "filter",
+    "append",
+    "prepend",
+    "clear",
+];
+
 pub fn write() -> ExitCode {
     let lists = [well_formed(), letter_counts(), starting_notes(), checked_notes()];
     let cut = [slicing::slices()].into_iter().chain(cutting::answers()).chain([printing::printed()]);
+    write_file("calls", &CALLS.iter().flat_map(|name| field(name.as_bytes())).collect::<Vec<u8>>());
     for answers in lists.into_iter().chain(calls::answers()).chain(cut).chain(editing::answers()) {
-        let path = format!("{FOLDER}/{}", answers.name);
-        std::fs::write(&path, answers.file()).unwrap_or_else(|error| panic!("{path}: {error}"));
+        assert!(CALLS.contains(&answers.name), "{} has no number", answers.name);
+        write_file(answers.name, &answers.file());
         println!("{answers}");
     }
     ExitCode::SUCCESS
+}
+
+fn write_file(name: &str, bytes: &[u8]) {
+    let path = format!("{FOLDER}/{name}");
+    std::fs::write(&path, bytes).unwrap_or_else(|error| panic!("{path}: {error}"));
 }
 
 /// The worked notes on texts: the limit, and the last character before the surrogates and the first of them.

@@ -1,6 +1,7 @@
 //! The lists of answers that crates/replay replays on the exported calls, a file for each call: how they are laid out.
 //!
 //! - field: its length (4 bytes, little-endian), its bytes
+//! - the file `calls`: fields, the names of the calls in the order of their numbers
 //! - file: fields, each a case, packed
 //! - packed case: fields, each a part: times (4 bytes), a unit, which stands there that many times
 //! - case: fields; what the call is lent, in the order of its arguments, a buffer to be written with what it holds at
@@ -106,7 +107,7 @@ impl fmt::Display for Answers {
     }
 }
 
-fn field(bytes: &[u8]) -> Vec<u8> {
+pub fn field(bytes: &[u8]) -> Vec<u8> {
     let length = u32::try_from(bytes.len()).expect("a length of four bytes");
     [&length.to_le_bytes(), bytes].concat()
 }
