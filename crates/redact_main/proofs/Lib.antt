@@ -1,3 +1,3 @@
--- Laws of what is shown and held.
+-- Laws of what is shown and left.
 pub mod Seen
-pub mod Holding
+pub mod Outcomes

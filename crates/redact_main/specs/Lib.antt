@@ -1,3 +1,3 @@
--- What the program shows, and a literal blanked in place.
+-- What the program shows, and what it has left to publish.
 pub mod Shown
-pub mod InPlace
+pub mod Outcomes

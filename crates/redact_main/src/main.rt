@@ -1,7 +1,6 @@
 // redact LITERAL FILLER [LITERAL FILLER]... [alignments] < note (RULES 14.1 and 14.2): blanks every match of each
 // literal in a note, one literal after the other, and publishes the text, or the alignments, to standard output. A
 // refusal publishes nothing and says on standard error what to do.
-mod in_place;
 mod lines;
 mod messages;
 mod shown;
@@ -10,9 +9,6 @@ use buffers::Offset;
 use buffers::copy_bytes;
 use buffers::equality::same_bytes;
 use from_text::from_text;
-use in_place::column_buffer;
-use in_place::redact_in_place;
-use in_place::text_buffer;
 use lines::write_alignments;
 use messages::refuse_literal;
 use messages::refuse_long_filler;
@@ -21,11 +17,15 @@ use messages::refuse_note;
 use messages::tell;
 use messages::usage;
 use note::Verdict;
+use redact_in_place::column_buffer;
+use redact_in_place::redact_in_place;
+use redact_in_place::text_buffer;
 use redact_note::Redaction;
 use standard_input::Input;
 use standard_input::fill;
 ghost use Prim.Native.Nat.{_≤_};
-ghost use Rattle.redact_main.specs.InPlace.{Held, Left};
+ghost use Rattle.redact_in_place.specs.InPlace.{Held};
+ghost use Rattle.redact_main.specs.Outcomes.{Left};
 
 // What became of the note: so many bytes are left to publish, or it was refused, and that was said.
 enum Outcome {

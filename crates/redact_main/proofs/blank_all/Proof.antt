@@ -2,8 +2,8 @@
 use Prim.Native.Nat.{_-_, _≤_}
 use native.Mathlib.Omega.{arith}
 use borrow.Author.Needs.{needs}
-use Rattle.redact_main.specs.InPlace.{Held}
-use Rattle.redact_main.proofs.Holding.{held-left}
+use Rattle.redact_in_place.specs.InPlace.{Held}
+use Rattle.redact_main.proofs.Outcomes.{held-left}
 use Rattle.redact_main.proofs.blank_all.Statement.{statement}
 use Rattle.redact_main.proofs.blank_all.Tie as tie
 

@@ -1,7 +1,7 @@
 -- What is left is held by the buffers that held the note.
 use native.Mathlib.Omega.{arith}
 use borrow.Author.Needs.{needs}
-use Rattle.redact_main.proofs.Holding.{left-held}
+use Rattle.redact_in_place.proofs.Holding.{left-held}
 use Rattle.redact_main.proofs.blank_literal.Statement.{statement}
 use Rattle.redact_main.proofs.blank_literal.Tie as tie
 

@@ -3,7 +3,8 @@ use mathlib.Core.Path.{sym}
 use native.Mathlib.Omega.{arith}
 use lib.Seq.{length-take-le}
 use borrow.Author.Needs.{needs}
-use Rattle.redact_main.proofs.Holding.{held-left, text-within, starts-within, ends-within, columns-fit, started-short, started-held}
+use Rattle.redact_in_place.proofs.Holding.{text-within, starts-within, ends-within, columns-fit}
+use Rattle.redact_main.proofs.Outcomes.{held-left, started-short, started-held}
 use Rattle.redact_main.proofs.publish.Statement.{statement}
 use Rattle.redact_main.proofs.publish.Tie as tie
 

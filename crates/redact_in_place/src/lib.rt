@@ -9,7 +9,7 @@ use redact_note::redact_note;
 ghost use mathlib.Core.Path.{_≡_};
 ghost use lib.ListN.{length};
 ghost use Rattle.note.specs.Notes.{limit};
-ghost use Rattle.redact_main.specs.InPlace.{Held, InPlace};
+ghost use Rattle.redact_in_place.specs.InPlace.{Held, InPlace};
 
 // Room for the list of any literal's matches: one place for each, one before each, and one behind the last (RULES 9.6).
 const LIST: usize = MOST * (2 * LIMIT + 1);

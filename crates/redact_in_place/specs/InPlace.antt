@@ -6,8 +6,6 @@ use lib.ListN.{length, take}
 use Rattle.note.specs.Notes.{Note, lent, limit}
 use Rattle.redact_note.specs.declared.Redaction.{Redaction}
 use Rattle.redact_note.specs.Redacting.{NoteRedacted}
-use Rattle.redact_main.specs.declared.Outcome.{Outcome}
-use Rattle.redact_main.specs.declared.Outcome.the-variants.{Left as Kept, Refused}
 
 -- three buffers of the limit's length, and a note of `size` bytes in front of them
 pub record Held (size : ℕ) (text starts ends : List ℕ) : Type 0 where
@@ -28,8 +26,3 @@ pub record InPlace (original : List ℕ) (size : ℕ) (literal content text₀ s
   pub call :
       NoteRedacted limit (held original size text₀ starts₀ ends₀) literal content list₀ text₀ starts₀ ends₀ r
       list text starts ends
-
--- what is left to publish is held
-abbrev pub Left : Outcome → List ℕ → List ℕ → List ℕ → Type 0
-Left (Kept size) text starts ends = Held size text starts ends
-Left Refused text starts ends = Unit {0}

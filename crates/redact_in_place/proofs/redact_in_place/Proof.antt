@@ -4,9 +4,9 @@ use native.Mathlib.Omega.{arith}
 use lib.Seq.{length-take-le}
 use borrow.Author.Needs.{needs}
 use Rattle.redact_note.proofs.Moved.{call-fits, moved-refused, moved-published}
-use Rattle.redact_main.proofs.Holding.{text-copied, starts-copied, ends-copied}
-use Rattle.redact_main.proofs.in_place.redact_in_place.Statement.{statement}
-use Rattle.redact_main.proofs.in_place.redact_in_place.Tie as tie
+use Rattle.redact_in_place.proofs.Holding.{text-copied, starts-copied, ends-copied}
+use Rattle.redact_in_place.proofs.redact_in_place.Statement.{statement}
+use Rattle.redact_in_place.proofs.redact_in_place.Tie as tie
 
 returns : tie.Need-returns
 returns c =

@@ -1,0 +1,2 @@
+-- Laws of what is held in place.
+pub mod Holding

@@ -1,0 +1,2 @@
+-- A literal blanked in place.
+pub mod InPlace
