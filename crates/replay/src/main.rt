@@ -18,9 +18,7 @@ ghost use Rattle.io.specs.Counts.{Counts};
 // How many calls there are.
 const CALLS: u8 = 26;
 
-// The most bytes of a file; of a case, unpacked.
-const FILE: usize = 65536;
-
+// The most bytes of a case, unpacked.
 const CASE: usize = 3145728;
 
 // How many answers were replayed, and how many of them differ.
@@ -75,7 +73,7 @@ fn print(name: &[u8], t: Tally) {
 }
 
 // What the file of this name holds, in front of `space`; how many bytes.
-fn read_file(name: &[u8], space: &mut [u8; FILE]) -> usize
+fn read_file(name: &[u8], space: &mut [u8]) -> usize
     ensures { λ r. ⌜ Counts r (now (space .exit)) ⌝ }
 {
     let fd = os::open_read(name);
