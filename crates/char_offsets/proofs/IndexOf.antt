@@ -17,6 +17,8 @@ use Rattle.utf8.proofs.Letters.{lead-one, lead-zero, leads-take, leads-append, 
 use Rattle.note.specs.declared.Refusal.the-variants.{Missing}
 use Rattle.note.specs.Starting.{charStart}
 use Rattle.note.proofs.Starting.{ranged}
+use Rattle.char_counts.specs.Counts.{begun, countAt, CountsLent}
+use Rattle.char_counts.proofs.Counts.{count-begun}
 use Rattle.char_offsets.specs.declared.CharOffsets.the-variants.{Refused}
 use Rattle.char_offsets.specs.Positions.{indexOf, chars, endIndex, pairOf, pairStart, pairEnd, IndexIsLetters, PositionsBounded}
 
@@ -43,6 +45,12 @@ index-add s a (suc k) h =
     let here : a + 1 + k ≡ suc (a + k) = omega arith in
     let one : suc k ≡ k + 1 = omega arith in
     rw (add-suc a k, index-suc s (a + k), index-add s a k (omega arith), one, leads-take (drop (a + 1) s) k less, getD-drop (a + 1) s k 0, here) (omega arith)
+
+-- by the counts of a text that are kept
+pub count-index : {most : ℕ} {s marks lows : List ℕ} {b r : ℕ} → CountsLent most s marks lows → b < length s → r ≡ countAt marks lows b → r ≡ indexOf s b
+unfolding indexOf begun
+count-index {s = s} {b = b} lent below e =
+    e ∙ count-begun b lent below ∙ sym (rw (zero-add b, zero-add 1) at (index-add s 0 b (omega arith)) ∙ zero-add (leads (take b (drop 1 s))))
 
 leads-split : (n : ℕ) (t : List ℕ) → leads t ≡ leads (take n t) + leads (drop n t)
 leads-split n t = ap leads (sym (take-append-drop n t)) ∙ leads-append (take n t) (drop n t)

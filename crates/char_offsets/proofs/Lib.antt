@@ -1,6 +1,5 @@
 -- Laws of character positions and letter counts.
 pub mod IndexOf
 pub mod PairTold
-pub mod Marked
 pub mod CharOffsetsList
 pub mod LetterCounts

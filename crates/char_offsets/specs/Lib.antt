@@ -1,5 +1,4 @@
 -- Character positions (RULES 12, 15.4) and letter counts (RULES 3.7).
 pub mod Positions
 pub mod Steps
-pub mod Marks
 pub mod Counting

@@ -1,15 +1,16 @@
 // Character positions (RULES 12; Rust: `BytesToCharOffsetConverter::convert`): the character that a byte belongs to.
 // A walk over the text: from a byte whose character is known, the bytes between that begin a character are counted.
-// For a list the walk is made once, and every 16th byte's character kept.
+// For a list the walk is made once, and the count at each byte kept.
 pub mod letters;
-pub mod marks;
 
 use buffers::Offset;
+use char_counts::blank_lows;
+use char_counts::blank_marks;
+use char_counts::count_at;
+use char_counts::low_bytes::write_lows;
+use char_counts::write_marks;
 use checks::check_text;
 use checks::least_room;
-use marks::blank_marks;
-use marks::index_at;
-use marks::write_marks;
 use note::CharIndex;
 use note::OriginalByte;
 use note::Refusal;
@@ -25,7 +26,7 @@ ghost use Rattle.buffers.specs.Splice.{part};
 ghost use Rattle.utf8.specs.Letters.{leads};
 ghost use Rattle.note.specs.Notes.{limit};
 ghost use Rattle.char_offsets.specs.Positions.{charOffsets, CharOffsetsList, indexOf};
-ghost use Rattle.char_offsets.specs.Marks.{MarksLent};
+ghost use Rattle.char_counts.specs.Counts.{CountsLent};
 ghost use Rattle.char_offsets.specs.Steps.{EndTold, IndexKnown, Near, PairRoom, PairsWritten, PairTold};
 
 // What converting a pair answers.
@@ -50,7 +51,7 @@ pub fn index_from(text: &[u8], at: usize, index: u32, to: usize) -> u32
 // How many of the bytes from..to begin a character, of which there are at most 16: a block of 16 is looked at, so that
 // no loop's number of turns is how many there are. Whether the byte j is one of the first n is a quotient, 1 or 0:
 // compared instead, eight bytes would be spent on each.
-pub fn near_leads(text: &[u8], from: usize, to: usize) -> u8
+fn near_leads(text: &[u8], from: usize, to: usize) -> u8
     requires { ⌜ Near (now text) from to ⌝ }
     ensures { λ r. ⌜ r ≡ leads (part (now (text .entry)) from to) ⌝ }
 {
@@ -114,9 +115,9 @@ pub struct Pair {
     pub end: u32,
 }
 
-// One pair of a text whose marks are lent.
-fn convert_pair(text: &[u8], marks: &[Offset], start: u32, end: u32) -> Pair
-    requires { ⌜ MarksLent limit (now text) (now marks) ⌝ }
+// One pair of a text whose counts are lent.
+fn convert_pair(text: &[u8], marks: &[Offset], lows: &[u8], start: u32, end: u32) -> Pair
+    requires { ⌜ CountsLent limit (now text) (now marks) (now lows) ⌝ }
     ensures { λ r. ⌜ PairTold (now (text .entry)) start end r ⌝ }
 {
     let from = start as usize;
@@ -129,8 +130,8 @@ fn convert_pair(text: &[u8], marks: &[Offset], start: u32, end: u32) -> Pair
     }
     let last = end_byte(text.len(), from, end as usize);
     let to = last.byte;
-    let first = index_at(text, marks, from);
-    let past = index_at(text, marks, to);
+    let first = count_at(marks, lows, from);
+    let past = count_at(marks, lows, to);
     Pair {
         number: 0,
         start: first,
@@ -142,13 +143,14 @@ fn convert_pair(text: &[u8], marks: &[Offset], start: u32, end: u32) -> Pair
 fn write_pairs(
     text: &[u8],
     marks: &[Offset],
+    lows: &[u8],
     starts: &[u32],
     ends: &[u32],
     numbers: &mut [u8],
     char_starts: &mut [u32],
     char_ends: &mut [u32],
 )
-    requires { ⌜ MarksLent limit (now text) (now marks) ⌝ }
+    requires { ⌜ CountsLent limit (now text) (now marks) (now lows) ⌝ }
     requires { ⌜ PairRoom (now starts) (now ends) (now numbers) (now «char_starts») (now «char_ends») ⌝ }
     ensures { λ _. ⌜ PairsWritten (now (text .entry)) (now (starts .entry)) (now (ends .entry))
         (now (numbers .entry)) (now («char_starts» .entry)) (now («char_ends» .entry))
@@ -156,7 +158,7 @@ fn write_pairs(
 {
     let mut i = 0;
     while i < starts.len() {
-        let pair = convert_pair(text, marks, starts[i], ends[i]);
+        let pair = convert_pair(text, marks, lows, starts[i], ends[i]);
         numbers[i] = pair.number;
         char_starts[i] = pair.start;
         char_ends[i] = pair.end;
@@ -164,8 +166,8 @@ fn write_pairs(
     }
 }
 
-// The same, by marks of its own. An inner call: text, pairs and room were judged before.
-fn mark_and_write(
+// The same, by counts of its own. An inner call: text, pairs and room were judged before.
+fn count_and_write(
     text: &[u8],
     starts: &[u32],
     ends: &[u32],
@@ -181,7 +183,18 @@ fn mark_and_write(
 {
     let mut marks = blank_marks();
     write_marks(text, &mut marks);
-    write_pairs(text, &marks, starts, ends, numbers, char_starts, char_ends);
+    let mut lows = blank_lows();
+    write_lows(text, &mut lows);
+    write_pairs(
+        text,
+        &marks,
+        &lows,
+        starts,
+        ends,
+        numbers,
+        char_starts,
+        char_ends,
+    );
 }
 
 // A pair of bytes of the text as a pair of its characters. Refusals: those of a text, then `Missing`.
@@ -225,6 +238,6 @@ pub fn char_offsets_list(
     if least_room(numbers.len(), char_starts.len(), char_ends.len()) < starts.len() {
         return Verdict::Refused(Refusal::NoRoom);
     }
-    mark_and_write(text, starts, ends, numbers, char_starts, char_ends);
+    count_and_write(text, starts, ends, numbers, char_starts, char_ends);
     Verdict::Accepted
 }

@@ -18,8 +18,8 @@ returns-2 c =
     let inputs = told .before .before in
     too-little-room _ _ _ _ _ _ _ (inputs .before .before .check-text .ensures) (inputs .before .refused-if .ensures) (inputs .earlier .ensures) (told .enum-told .given .1) (omega arith)
 
-mark-and-write-requires : tie.Need-mark-and-write-requires
-mark-and-write-requires c κs =
+count-and-write-requires : tie.Need-count-and-write-requires
+count-and-write-requires c κs =
     let told = c .before .before .before .before .before in
     let inputs = told .before .before in
     let entry = inputs .before .before .before .before .before .before .before .before .before in (
@@ -37,7 +37,7 @@ returns-3 c =
     let written = c .before .before .before .before .before .before in
     let told = written .before .before .before .before .before .before in
     let inputs = told .before .before in
-    list-written _ _ _ _ _ _ _ (inputs .before .before .check-text .ensures) (inputs .before .refused-if .ensures) (inputs .earlier .ensures) (told .enum-told .given .1) (omega arith) (written .mark-and-write .ensures)
+    list-written _ _ _ _ _ _ _ (inputs .before .before .check-text .ensures) (inputs .before .refused-if .ensures) (inputs .earlier .ensures) (told .enum-told .given .1) (omega arith) (written .count-and-write .ensures)
 
 pub char-offsets-list-spec : {M : Type 1} → statement M
 char-offsets-list-spec =
@@ -51,7 +51,7 @@ char-offsets-list-spec =
     (λ c. search needs)
     (λ c κs. search needs)
     returns-2
-    mark-and-write-requires
+    count-and-write-requires
     (λ c. search needs)
     (λ c. search needs)
     (λ c. search needs)

@@ -1,0 +1,3 @@
+-- Laws of the counts.
+pub mod Counts
+pub mod Lows
