@@ -2,6 +2,7 @@
 use buffers::Offset;
 use buffers::fill_bytes;
 use checks::check_note;
+use checks::least_of_two;
 use checks::least_room;
 use convert::Converted;
 use convert::OffsetReferential;
@@ -15,13 +16,15 @@ use note::answers::earlier;
 use note::answers::number;
 use note::answers::refused_if;
 ghost use mathlib.Core.Path.{_≡_};
+ghost use mathlib.Core.Bool.{true};
 ghost use Prim.Native.Nat.{_-_, _≤_, _<_};
 ghost use lib.ListN.{length, getD};
 ghost use Rattle.note.specs.Notes.{lent, limit};
 ghost use Rattle.convert.specs.Converting.{converted, endIn, numberIn, startIn};
 ghost use Rattle.convert.specs.Blocks.{Columns};
 ghost use Rattle.convert_list.specs.ConvertList.{answerAt, ConvertedList};
-ghost use Rattle.convert_list.specs.TwoReads.{AnswerRoom, AnswersWritten, expands};
+ghost use Rattle.convert_list.specs.TwoReads.{AnswerRoom, AnsweredBetween, AnswersWritten, Between};
+ghost use Rattle.convert_list.specs.TwoReads.{BlockRead, expandable, Expanding, expands, Readable};
 
 // An answer's three numbers.
 fn start_in(answer: Converted) -> u32
@@ -51,15 +54,35 @@ fn number_in(answer: Converted) -> u8
     }
 }
 
-// Whether a range is one of the cleaned text that has a byte and ends in it, as nearly all of a list do: its answer is
-// two reads.
-fn expands(side: OffsetReferential, from: u32, to: u32, len: usize) -> bool
-    ensures { λ r. ⌜ r ≡ expands side from to len ⌝ }
+// Of so many bytes of the cleaned text, those whose ranges are read; none where ranges are of the transcript.
+fn expandable(side: OffsetReferential, len: usize) -> usize
+    ensures { λ r. ⌜ r ≡ expandable side len ⌝ }
 {
     match side {
-        OffsetReferential::Original => false,
-        OffsetReferential::Normalized => (from < to) & (to as usize <= len),
+        OffsetReferential::Original => 0,
+        OffsetReferential::Normalized => len,
     }
+}
+
+// Whether a range of the cleaned text has a byte and ends in it, as nearly all of a list do: its answer is two reads.
+fn expands(from: u32, to: u32, len: u32) -> bool
+    ensures { λ r. ⌜ r ≡ expands from to len ⌝ }
+{
+    (from < to) & (to <= len)
+}
+
+// Whether each range of a block does.
+fn all_expand(from: &[u32], to: &[u32], len: u32) -> bool
+    requires { ⌜ length (now from) ≤ length (now to) ⌝ }
+    ensures { λ r. ⌜ (r ≡ true → Expanding (now (from .entry)) (now (to .entry)) len) ⌝ }
+{
+    let mut ok = true;
+    let mut i = 0;
+    while i < from.len() {
+        ok = ok & expands(from[i], to[i], len);
+        i += 1;
+    }
+    ok
 }
 
 // Where the first byte of such a range starts, and where its last one ends.
@@ -77,8 +100,69 @@ fn last_end(ends: &[Offset], to: u32) -> u32
     ends[to as usize - 1] as u32
 }
 
-// Every range of the list, on a checked note and with room for the answers. The numbers are 0 from the beginning, so
-// that two stores are left of most answers.
+// Each range of such a block by its two reads; the block's answers stand from `at` on.
+fn expand_block(
+    starts: &[Offset],
+    ends: &[Offset],
+    from: &[u32],
+    to: &[u32],
+    at: usize,
+    out_starts: &mut [u32],
+    out_ends: &mut [u32],
+)
+    requires { ⌜ Readable (now starts) (now ends) (now from) (now to) at (now «out_starts») (now «out_ends») ⌝ }
+    ensures { λ _. ⌜ BlockRead (now (starts .entry)) (now (ends .entry)) (now (from .entry)) (now (to .entry)) at
+        (now («out_starts» .entry)) (now («out_ends» .entry))
+        (now («out_starts» .exit)) (now («out_ends» .exit)) ⌝ }
+{
+    let mut i = 0;
+    while i < from.len() {
+        out_starts[at + i] = first_start(starts, from[i]);
+        out_ends[at + i] = last_end(ends, to[i]);
+        i += 1;
+    }
+}
+
+// Any ranges, one after the other. The numbers are 0 from the beginning, so that two stores are left of most answers.
+fn convert_between(
+    starts: &[Offset],
+    ends: &[Offset],
+    side: OffsetReferential,
+    from: &[u32],
+    to: &[u32],
+    at: usize,
+    past: usize,
+    numbers: &mut [u8],
+    out_starts: &mut [u32],
+    out_ends: &mut [u32],
+)
+    requires { ⌜ Columns limit (now starts) (now ends) ⌝ }
+    requires { ⌜ Between (now from) (now to) at past (now numbers) (now «out_starts») (now «out_ends») ⌝ }
+    ensures { λ _. ⌜ AnsweredBetween
+        (answerAt (converted (now (starts .entry)) (now (ends .entry))) side (now (from .entry)) (now (to .entry)))
+        at past (now (numbers .entry)) (now («out_starts» .entry)) (now («out_ends» .entry))
+        (now (numbers .exit)) (now («out_starts» .exit)) (now («out_ends» .exit)) ⌝ }
+{
+    let len = expandable(side, ends.len()) as u32;
+    let mut i = at;
+    while i < past {
+        let a = from[i];
+        let b = to[i];
+        if expands(a, b, len) {
+            out_starts[i] = first_start(starts, a);
+            out_ends[i] = last_end(ends, b);
+        } else {
+            let answer = convert_checked(starts, ends, range_of(side, a, b));
+            numbers[i] = number_in(answer);
+            out_starts[i] = start_in(answer);
+            out_ends[i] = end_in(answer);
+        }
+        i += 1;
+    }
+}
+
+// Every range of the list, on a checked note and with room for the answers: 64 are tested first, without a branch
+// inside, and then read without a test.
 fn convert_each(
     starts: &[Offset],
     ends: &[Offset],
@@ -97,20 +181,35 @@ fn convert_each(
         (now (numbers .exit)) (now («out_starts» .exit)) (now («out_ends» .exit)) ⌝ }
 {
     fill_bytes(0, from.len(), numbers, 0);
+    let len = expandable(side, ends.len()) as u32;
     let mut i = 0;
     while i < from.len() {
-        let a = from[i];
-        let b = to[i];
-        if expands(side, a, b, ends.len()) {
-            out_starts[i] = first_start(starts, a);
-            out_ends[i] = last_end(ends, b);
+        let past = least_of_two(from.len(), i + 64);
+        if all_expand(&from[i..past], &to[i..past], len) {
+            expand_block(
+                starts,
+                ends,
+                &from[i..past],
+                &to[i..past],
+                i,
+                out_starts,
+                out_ends,
+            );
         } else {
-            let answer = convert_checked(starts, ends, range_of(side, a, b));
-            numbers[i] = number_in(answer);
-            out_starts[i] = start_in(answer);
-            out_ends[i] = end_in(answer);
+            convert_between(
+                starts,
+                ends,
+                side,
+                from,
+                to,
+                i,
+                past,
+                numbers,
+                out_starts,
+                out_ends,
+            );
         }
-        i += 1;
+        i = past;
     }
 }
 
