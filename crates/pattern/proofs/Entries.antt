@@ -37,12 +37,16 @@ module _ (l : List ℕ) (i : ℕ) where
       (λ k. rw (eq-eqb (getD l i 0) 11 (omega arith)))
       (λ k. rw (eq-eqb (getD l i 0) 12 (omega arith)) (or-true (eqb (getD l i 0) 11)))
 
+  pub entry-known : i + 5 ≤ length l → (eqb (getD l i 0) 11 || eqb (getD l i 0) 12) ≡ true → entryAt l i ≡ At (placeAt l i) (i + 5)
+  unfolding entryAt
+  entry-known h t = rw (t, le-leb (i + 5) (length l) h)
+
   pub entry-place : {start end : NormalizedByte} → i + 5 ≤ length l → 11 ≤ getD l i 0 → getD l i 0 ≤ 12 → start ≡ positionAt l (i + 1) → end ≡ positionAt l (i + 3) → At (record { start = start; end = end; matched = eqb (getD l i 0) 12 }) (i + 5) ≡ entryAt l i
-  unfolding entryAt placeAt
-  entry-place h low high s e = rw (known low high, le-leb (i + 5) (length l) h, s, e)
+  unfolding placeAt
+  entry-place h low high s e = rw (entry-known h (known low high), s, e)
 
   -- and what an entry tells
-  told : {p : Place} {next : ℕ} → entryAt l i ≡ At p next → (test l i ≡ true) × ((placeAt l i ≡ p) × (i + 5 ≡ next))
+  pub told : {p : Place} {next : ℕ} → entryAt l i ≡ At p next → (test l i ≡ true) × ((placeAt l i ≡ p) × (i + 5 ≡ next))
   unfolding entryAt
   told {p} {next} e =
       true-or-false (test l i)

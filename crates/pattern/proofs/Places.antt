@@ -16,6 +16,7 @@ use Rattle.pattern.specs.declared.Entry.{Entry}
 use Rattle.pattern.specs.declared.Entry.the-variants.{At, Broken}
 use Rattle.pattern.specs.Entries.{entryAt, placesOf, whole}
 use Rattle.pattern.specs.Places.{fitsAt, coversFrom, covers}
+use Rattle.pattern.specs.Placed.{Covering}
 use Rattle.pattern.proofs.Entries.{Stepped, entry-step, entry-broken, entries-end}
 
 -- a place that fits behind one that ended at `at`
@@ -83,11 +84,6 @@ module _ (text : List ℕ) (at : ℕ) (p : Place) where
   pub fits-on : {r : Bool} → p .start .0 ≡ at → p .start .0 ≤ p .end .0 → r ≡ boundary text (p .end .0) → r ≡ fitsAt text at p
   unfolding fitsAt
   fits-on is h e = rw (eq-eqb (p .start .0) at is, le-leb _ _ h) e
-
--- the list covers the text where what stands from i on covers it from `at` on
-pub record Covering (text l : List ℕ) (at i : ℕ) : Type 0 where
-  pub same : covers text l ≡ (whole (drop i l) && coversFrom text at (placesOf (drop i l)))
-  pub most : i ≤ length l
 
 pub none-covered : (text l : List ℕ) → Covering text l 0 0
 unfolding covers

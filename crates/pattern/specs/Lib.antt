@@ -2,3 +2,4 @@
 pub mod Entries
 pub mod Places
 pub mod Encoding
+pub mod Placed

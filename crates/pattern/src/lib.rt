@@ -1,7 +1,9 @@
 // Match lists (RULES 9): the one reader of a place, the one writer, and the judge of a list against a text.
 // No other crate knows how many bytes a place has.
+pub mod blocks;
 pub mod writing;
 
+use blocks::judge_blocks;
 use note::NormalizedByte;
 use numbers::little_endian::get_u16_le;
 use utf8::is_char_boundary;
@@ -91,8 +93,9 @@ fn fits_at(text: &[u8], at: usize, place: Place) -> bool
 pub fn covers(text: &[u8], list: &[u8]) -> bool
     ensures { λ r. ⌜ r ≡ covers (now (text .entry)) (now (list .entry)) ⌝ }
 {
-    let mut at = 0;
-    let mut i = 0;
+    let judged = judge_blocks(text, list);
+    let mut at = judged.at;
+    let mut i = judged.next;
     while i < list.len() {
         match entry_at(list, i) {
             Entry::At(place, next) => {

@@ -3,8 +3,9 @@ use Prim.Native.Nat.{_-_}
 use lib.ListN.{length}
 use native.Mathlib.Omega.{arith}
 use borrow.Author.Needs.{needs}
+use Rattle.pattern.specs.Placed.{Covering}
 use Rattle.pattern.proofs.Entries.{entry-step}
-use Rattle.pattern.proofs.Places.{Covering, none-covered, next-covered, not-covered, broken-covered, all-covered}
+use Rattle.pattern.proofs.Places.{next-covered, not-covered, broken-covered, all-covered}
 use Rattle.pattern.proofs.covers.Statement.{statement}
 use Rattle.pattern.proofs.covers.Tie as tie
 
@@ -42,7 +43,8 @@ covers-spec =
     (tie.spec
     Inv-loop
     μ-loop
-    (λ c. none-covered _ _)
+    (λ c κs. search needs)
+    (λ c. c .judge-blocks .ensures)
     (λ c κs. search needs)
     (λ c. search needs)
     (λ c κs. search needs)
