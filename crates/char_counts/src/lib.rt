@@ -4,6 +4,7 @@
 pub mod low_bytes;
 
 use buffers::Offset;
+use note::LIMIT;
 use utf8::count::count_leads;
 ghost use mathlib.Core.Path.{_≡_};
 ghost use Prim.Native.Nat.{_≤_, _<_};
@@ -11,10 +12,8 @@ ghost use lib.ListN.{length};
 ghost use Rattle.note.specs.Notes.{limit};
 ghost use Rattle.char_counts.specs.Counts.{countAt, LookedUp, Markable, Marked};
 
-// As many marks as a text within the limit has, and as many bytes.
-pub const MARKS: usize = 512;
-
-pub const LOWS: usize = 65536;
+// As many marks as a text within the limit has.
+pub const MARKS: usize = LIMIT / 128 + 1;
 
 // Room for the counts of a text within the limit.
 pub fn blank_marks() -> [Offset; MARKS]
@@ -23,10 +22,10 @@ pub fn blank_marks() -> [Offset; MARKS]
     [0; MARKS]
 }
 
-pub fn blank_lows() -> [u8; LOWS]
-    ensures { λ r. ⌜ 65536 ≡ length r ⌝ }
+pub fn blank_lows() -> [u8; LIMIT]
+    ensures { λ r. ⌜ limit ≡ length r ⌝ }
 {
-    [0; LOWS]
+    [0; LIMIT]
 }
 
 // The count at every 128th byte, in front of `marks`.
