@@ -9,47 +9,18 @@ use lib.Seq.{length-take-le}
 use Rattle.buffers.specs.Splice.{part, splice, overlay}
 use Rattle.buffers.specs.Over.{Over}
 use Rattle.buffers.proofs.Cases.{true-or-false, clash}
-use Rattle.buffers.proofs.Splice.{length-splice, splice-splice, splice-overlay, take-overlay, length-overlay, length-part, part-end}
-use Rattle.buffers.proofs.Over.{Reaching, run-reached, all-reached, reaching-size, over-exact, over-front}
+use Rattle.buffers.proofs.Splice.{length-splice, splice-splice, splice-overlay, length-part, part-end}
+use Rattle.buffers.proofs.Over.{Reaching, run-reached, all-reached, reaching-size, over-exact}
 use Rattle.utf8.specs.Scalar.{bytesOf}
-use Rattle.utf8.specs.declared.Encoded.{Encoded}
-use Rattle.utf8.specs.Encoding.{EncodedAs}
 use Rattle.utf8.proofs.Boundaries.{boundary-most}
 use Rattle.note.specs.Notes.{beforeEnd}
 use Rattle.script.specs.declared.Command.{Command}
 use Rattle.script.specs.Scripts.{sizeOf}
-use Rattle.script.proofs.Scripts.{size-most}
 use Rattle.edit_steps.specs.declared.walking.Progress.{Progress}
 use Rattle.edit_steps.specs.Edits.{skipped, starves, moved, starved, carries, characters, carried, given, begins, relaid, edited, transformed, Unchanged}
 use Rattle.edit_steps.specs.Walking.{Standing, Counting, sizes, stepped}
 use Rattle.edit_steps.specs.Laying.{KeepRoom, Kept, Reached, Room, CommandLaid, Below, CommandOver, CommandsRoom, CommandsLaid, EditRoom, EditLaid}
 use Rattle.edit_steps.proofs.Positions.{feeds, standing-moved, stepped-fed}
-
--- one character
-module _ {c : ℕ} {r : Encoded} (e : EncodedAs c r) where
-  pub encoded-size : r .len ≡ sizeOf c
-  unfolding sizeOf
-  encoded-size = e .len-is
-
-  pub encoded-front : take (r .len) (r .bytes) ≡ bytesOf c
-  encoded-front = rw (e .len-is, e .bytes-are) (take-overlay (bytesOf c) (replicate 4 0))
-
-  pub encoded-four : length (r .bytes) ≡ 4
-  unfolding sizeOf
-  encoded-four = rw (e .bytes-are) (length-overlay (bytesOf c) (replicate 4 0) (size-most c))
-
-  pub encoded-inside : r .len ≤ length (r .bytes)
-  encoded-inside = omega (arith, encoded-size, encoded-four, size-most c)
-
-  -- laid exactly, or all four
-  pub encoded-exact : {d₀ d : List ℕ} {at : ℕ} (until : ℕ) → at + sizeOf c ≤ length d₀ → d ≡ splice d₀ at (take (r .len) (r .bytes)) → Over (bytesOf c) d₀ at until d
-  unfolding sizeOf
-  encoded-exact {d₀} {at = at} until room is = over-exact (bytesOf c) d₀ at until room (rw encoded-front at is)
-
-  pub encoded-over : {d₀ d : List ℕ} {at until : ℕ} → at + 4 ≤ until → until ≤ length d₀ → d ≡ splice d₀ at (r .bytes) → Over (bytesOf c) d₀ at until d
-  encoded-over {d₀} {at = at} {until} below room is =
-      rw encoded-front at
-      (over-front (r .len) (over-exact (r .bytes) d₀ at until (omega (arith, encoded-four)) is) encoded-inside (omega arith) (omega (arith, encoded-four)))
 
 -- what a command carries
 pub carries-added : (xs : List ℕ) (p : ℕ) (c : Command) {v : ℕ} → c .added ≡ true → v ≡ beforeEnd xs p → v ≡ carries xs p c

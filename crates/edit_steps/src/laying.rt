@@ -6,17 +6,14 @@ use buffers::Offset;
 use buffers::blocks::fill_offsets_over;
 use buffers::copy_bytes;
 use buffers::copy_offsets;
+use code_points::put_character;
 use note::before_end;
 use script::Command;
 use script::Entry;
 use script::entry_at;
-use utf8::encode_utf8;
 ghost use mathlib.Core.Path.{_≡_};
 ghost use Prim.Native.Nat.{_+_, _≤_};
-ghost use lib.ListN.{length};
-ghost use Rattle.buffers.specs.Over.{Over};
-ghost use Rattle.utf8.specs.Scalar.{bytesOf};
-ghost use Rattle.script.specs.Scripts.{commandsOf, sizeOf};
+ghost use Rattle.script.specs.Scripts.{commandsOf};
 ghost use Rattle.edit_steps.specs.Edits.{carries};
 ghost use Rattle.edit_steps.specs.Laying.{Below, CommandOver, EditLaid, EditRoom, Kept, KeepRoom, Reached, Room};
 ghost use Rattle.edit_steps.specs.Laying.{CommandsLaid, CommandsRoom};
@@ -43,24 +40,6 @@ pub fn keep(
     copy_bytes(&text[from..to], out, at);
     copy_offsets(&starts[from..to], out_starts, at);
     copy_offsets(&ends[from..to], out_ends, at);
-}
-
-// A character's bytes, laid from `at` on, and what stands behind them in four where that stays below `until`; how many
-// they are.
-fn put_character(character: u32, out: &mut [u8], at: usize, until: usize) -> usize
-    requires { ⌜ (at + sizeOf character ≤ length (now out)) × (until ≤ length (now out)) ⌝ }
-    ensures { λ r. ⌜ (r ≡ sizeOf character)
-        × Over (bytesOf character) (now (out .entry)) at until (now (out .exit)) ⌝ }
-{
-    let encoded = encode_utf8(character);
-    let bytes = encoded.bytes;
-    let len = encoded.len;
-    if at + 4 <= until {
-        copy_bytes(&bytes, out, at);
-        return len;
-    }
-    copy_bytes(&bytes[..len], out, at);
-    len
 }
 
 // What a command's character carries of a column.

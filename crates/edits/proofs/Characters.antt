@@ -1,25 +1,24 @@
 -- Laws of `codeAt` and `codesOf`: a code point's bytes are the character that it was read of.
 use Prim.Native.Nat.{ℕ, zero, suc, _+_, _-_, _*_, _/_, _%_, _≤_, _<_}
 use mathlib.Core.Path.{_≡_, _∙_, ap, refl, sym}
-use mathlib.Core.Bool.{Bool, true, false, cond, _&&_, not}
-use mathlib.Core.List.{List, [], _∷_, _++_}
-use mathlib.Mathlib.Data.Bool.Basic.{and-intro, and-elim-left, and-elim-right}
-use native.Mathlib.Numerals.{add-one}
+use mathlib.Core.Bool.{true, false}
+use mathlib.Core.List.{List, [], _∷_}
+use mathlib.Mathlib.Data.Bool.Basic.{and-elim-left, and-elim-right}
 use native.Mathlib.Omega.{arith}
-use lib.Dec.{leb, ltb, eqb}
+use lib.Dec.{leb, eqb}
 use lib.ListN.{length, getD, take, drop, length-drop, drop-of-length-le, take-append-drop}
 use lib.Seq.{drop-cons, drop-drop, getD-drop}
-use borrow.Author.Tests.{le-leb, lt-leb, lt-ltb, le-ltb, leb-true, ltb-true, eq-eqb, ne-eqb, eqb-true}
-use Rattle.buffers.specs.Splice.{part}
+use borrow.Author.Tests.{le-leb, lt-leb, leb-true, ltb-true, eq-eqb, eqb-true}
 use Rattle.buffers.proofs.Cases.{true-or-false, le-or-lt, clash}
-use Rattle.buffers.proofs.Booleans.{and-false-l, and-false-r}
+use Rattle.buffers.proofs.Booleans.{and-false-r}
 use Rattle.utf8.specs.Table.{Bytes, bytes, within, trail}
-use Rattle.utf8.specs.Formed.{announced, secondLow, secondHigh, second, asked, formed, wellFormed, continues, boundary}
-use Rattle.utf8.specs.Scalar.{scalar, sixBits, encoded, bytesOf}
+use Rattle.utf8.specs.Formed.{announced, secondLow, secondHigh, second, asked, formed, wellFormed, boundary}
+use Rattle.utf8.specs.Scalar.{scalar, bytesOf}
 use Rattle.utf8.proofs.Formed.{announced-one, announced-none, announced-two, announced-three, announced-four, announced-past, asked-two, asked-three, asked-four, formed-lead, formed-rest}
 use Rattle.utf8.proofs.Boundaries.{formed-drop, char-at, boundary-zero}
 use Rattle.utf8.proofs.Scalar.{encoded-one, encoded-two, encoded-three, encoded-four, bytesOf-scalar}
-use Rattle.edits.specs.Characters.{codeAt, codesFrom, codesOf, textOf, CodeBytes, CodesText}
+use Rattle.edits.specs.Characters.{codeAt, codesFrom, codesOf, CodeBytes, CodesText}
+use Rattle.code_points.specs.Codes.{textOf}
 
 -- a byte between two others
 within-both : {low high b : ℕ} → within (bytes low high) b ≡ true → (low ≤ b) × (b ≤ high)

@@ -3,7 +3,7 @@ use Prim.Native.Nat.{ℕ, _≤_}
 use mathlib.Core.Path.{_≡_, _∙_, refl, sym}
 use mathlib.Core.Bool.{Bool, true, false, not}
 use mathlib.Mathlib.Data.Bool.Basic.{and-elim-left, and-elim-right}
-use mathlib.Core.List.{List, []}
+use mathlib.Core.List.{List}
 use lib.Dec.{leb}
 use lib.ListN.{length}
 use borrow.Author.Tests.{not-true, not-false, leb-true, eq-eqb, ne-eqb}
@@ -19,14 +19,8 @@ use Rattle.note.specs.Faults.{noteFaults}
 use Rattle.note.proofs.Verdicts.{refused-then, accepted-then}
 use Rattle.note.proofs.Sound.{normalized-formed}
 use Rattle.note.proofs.Faults.{accepted-sound}
-use Rattle.convert.specs.declared.Range.{Range}
-use Rattle.convert.specs.declared.Converted.{Converted}
-use Rattle.convert.specs.declared.Converted.the-variants.{Found, Refused}
-use Rattle.convert.specs.Converting.{startOf, endOf}
-use Rattle.transform.specs.Transforming.{target}
-use Rattle.transform.proofs.Verdicts.{edit-found}
-use Rattle.edits.specs.Characters.{allScalar}
-use Rattle.edits.specs.Whole.{wholeRange, allReplacing, codesFaults, mapEdit}
+use Rattle.code_points.specs.Codes.{allScalar}
+use Rattle.edits.specs.Whole.{codesFaults}
 
 module _ (most : ℕ) (n : Note) {v : Verdict} (noted : v ≡ verdict (noteFaults most n)) (ok : v ≡ Accepted) where
   pub note-short : length (n .original) ≤ most
@@ -74,13 +68,3 @@ module _ (most : ℕ) (n : Note) (codes : List ℕ) {v : Verdict} (noted : v ≡
 
       pub well-counted : length codes ≡ m → Accepted ≡ verdict (also (noteFaults most n) (codesFaults (n .normalized) codes))
       well-counted h = second (even h)
-
--- the edit that the whole range asks for
-module _ (n : Note) (codes : List ℕ) {x : Converted} (is : x ≡ target (n .starts) (n .ends) (wholeRange n)) where
-  pub map-found : {r : Range} {a b : ℕ} → x ≡ Found r → a ≡ startOf r → b ≡ endOf r → record { from = a; to = b; skip = 0; commands = allReplacing codes } ≡ mapEdit n codes
-  unfolding mapEdit
-  map-found found from to = edit-found 0 (allReplacing codes) is found from to
-
-  pub map-none : {k : Refusal} → x ≡ Refused k → record { from = 0; to = 0; skip = 0; commands = allReplacing [] } ≡ mapEdit n codes
-  unfolding mapEdit allReplacing
-  map-none none = rw (sym is ∙ none)

@@ -1,6 +1,6 @@
 -- Laws of whole-note edits.
 pub mod Characters
-pub mod Codes
+pub mod Mapped
 pub mod Shares
 pub mod Head
 pub mod Sifted

@@ -6,15 +6,15 @@ use mathlib.Core.Bool.{true, false, cond}
 use mathlib.Core.List.{List, [], _∷_, _++_, append-nil}
 use native.Mathlib.Omega.{arith}
 use lib.Dec.{ltb, eqb}
-use lib.ListN.{length, getD, take, drop, replicate, drop-of-length-le, length-drop, length-replicate, take-append-drop}
-use lib.Seq.{drop-cons, length-take-le}
-use borrow.Author.Tests.{le-leb, lt-leb, lt-ltb, ltb-false}
+use lib.ListN.{length, getD, take, drop, replicate, drop-of-length-le, length-replicate, take-append-drop}
+use lib.Seq.{length-take-le}
+use borrow.Author.Tests.{le-leb, lt-leb, lt-ltb, le-ltb, ltb-false}
 use Rattle.buffers.proofs.Cases.{le-or-lt, true-or-false, clash}
 use Rattle.buffers.proofs.Splice.{length-part}
-use Rattle.utf8.specs.Formed.{announced, wellFormed, continues, boundary}
+use Rattle.utf8.specs.Formed.{announced, wellFormed, boundary}
 use Rattle.utf8.specs.Scalar.{bytesOf}
-use Rattle.utf8.specs.Letters.{lettersFrom, letters, leadAt, leads}
-use Rattle.utf8.proofs.Boundaries.{CharAt, char-at, boundary-begins, boundary-zero, boundary-length, formed-take}
+use Rattle.utf8.specs.Letters.{lettersFrom, letters, leads}
+use Rattle.utf8.proofs.Boundaries.{char-at, boundary-zero, boundary-length, formed-take}
 use Rattle.utf8.proofs.Letters.{letters-leads, leads-append, leads-le-length}
 use Rattle.note.specs.Notes.{Note, Sound}
 use Rattle.note.proofs.Sound.{length-starts, length-ends, normalized-formed}
@@ -23,9 +23,13 @@ use Rattle.script.specs.Scripts.{sizeOf}
 use Rattle.edit_steps.specs.Edits.{skipped, starves, moved, starved, carries, characters, carried, given, begins, relaid, edited, transformed, unchanging}
 use Rattle.edit_steps.specs.Walking.{Standing}
 use Rattle.edit_steps.proofs.Positions.{standing-next, skipped-none, skipped-past, skipped-on, starves-replacing, moved-replacing}
-use Rattle.edits.specs.Characters.{codeAt, codesFrom, codesOf, textOf}
+use Rattle.edits.specs.Characters.{codeAt, codesFrom, codesOf}
+use Rattle.code_points.specs.Codes.{textOf}
+use Rattle.letter_columns.specs.Spreading.{ofLetters, spread}
+use Rattle.letter_columns.proofs.Letters.{letters-drop, length-letters, letter-at, leads-at}
+use Rattle.letter_columns.proofs.Spread.{spread-on}
 use Rattle.edits.specs.Whole.{replacing, allReplacing, wholeEdit, mapEdit, droppedAhead, anyKept, keptCommands, filterEdit}
-use Rattle.edits.specs.Plain.{MakesUnless, headBytes, headLetters, ofLetters, spread, mapped, MappedClosed, sifted, cleared, sieved, tailKept, FilteredClosed}
+use Rattle.edits.specs.Plain.{MakesUnless, headBytes, headLetters, mapped, MappedClosed, sifted, cleared, sieved, tailKept, FilteredClosed}
 use Rattle.edits.proofs.Characters.{code-bytes}
 use Rattle.edits.proofs.Head.{none-of, head-is-all, head-most, head-stands, head-placed, zero-placed, whole-cases}
 
@@ -35,60 +39,6 @@ skipped-suc s b d p =
     le-or-lt b p
     (λ past. skipped-past s b (suc d) p past ∙ sym (rw (skipped-past s b 1 p past) (skipped-past s b d p past)))
     (λ more. skipped-on s b d p more ∙ sym (rw (skipped-on s b 0 p more, skipped-none s b (p + announced (getD s p 0)))))
-
--- the letters of a column, from a place on
-pub letters-drop : (k : ℕ) (s xs : List ℕ) → length xs ≡ length s → ofLetters (drop k s) (drop k xs) ≡ drop (leads (take k s)) (ofLetters s xs)
-unfolding ofLetters leads leadAt
-letters-drop zero s xs same = refl
-letters-drop (suc k) [] [] same = refl
-letters-drop (suc k) [] (x ∷ xs) same = absurd (omega arith)
-letters-drop (suc k) (b ∷ s) [] same = absurd (omega arith)
-letters-drop (suc k) (b ∷ s) (x ∷ xs) same =
-    true-or-false (continues b)
-    (λ goes. let z : 0 + leads (take k s) ≡ leads (take k s) = omega arith in rw (goes, z) (letters-drop k s xs (omega arith)))
-    (λ new. let z : 1 + leads (take k s) ≡ suc (leads (take k s)) = omega arith in rw (new, z) (letters-drop k s xs (omega arith)))
-
-pub length-letters : (s xs : List ℕ) → length xs ≡ length s → length (ofLetters s xs) ≡ leads s
-unfolding ofLetters leads leadAt
-length-letters [] xs same = refl
-length-letters (b ∷ s) [] same = absurd (omega arith)
-length-letters (b ∷ s) (x ∷ xs) same =
-    true-or-false (continues b)
-    (λ goes. rw goes (length-letters s xs (omega arith) ∙ omega arith))
-    (λ new. rw new (ap suc (length-letters s xs (omega arith)) ∙ omega arith))
-
-new-letter : (b x : ℕ) (s xs : List ℕ) → continues b ≡ false → ofLetters (b ∷ s) (x ∷ xs) ≡ x ∷ ofLetters s xs
-unfolding ofLetters
-new-letter b x s xs new = rw new
-
-old-letter : (b x : ℕ) (s xs : List ℕ) → continues b ≡ true → ofLetters (b ∷ s) (x ∷ xs) ≡ ofLetters s xs
-unfolding ofLetters
-old-letter b x s xs goes = rw goes
-
-module _ (s xs : List ℕ) (same : length xs ≡ length s) where
-  -- up to the end of a character no letter begins
-  letters-rest : (k p : ℕ) → p + k ≤ length s → ((i : ℕ) → p ≤ i → i < p + k → continues (getD s i 0) ≡ true) → ofLetters (drop p s) (drop p xs) ≡ ofLetters (drop (p + k) s) (drop (p + k) xs)
-  letters-rest zero p h goes = let z : p + 0 ≡ p = omega arith in rw z
-  letters-rest (suc k) p h goes =
-      let z : suc p + k ≡ p + suc k = omega arith in
-      rw (drop-cons s p 0 (omega arith), drop-cons xs p 0 (omega arith))
-      (old-letter (getD s p 0) (getD xs p 0) (drop (suc p) s) (drop (suc p) xs) (goes p (omega arith) (omega arith))
-      ∙ (rw z at (letters-rest k (suc p) (omega arith) (λ i a b. goes i (omega arith) (omega arith)))))
-
-  pub letter-at : (p : ℕ) → wellFormed s ≡ true → boundary s p ≡ true → p < length s → ofLetters (drop p s) (drop p xs) ≡ getD xs p 0 ∷ ofLetters (drop (p + announced (getD s p 0)) s) (drop (p + announced (getD s p 0)) xs)
-  letter-at p formed here h =
-      let w : ℕ = announced (getD s p 0) in
-      let char : CharAt s p w = char-at s p formed here h in
-      let z : suc p + (w - 1) ≡ p + w = omega (arith, char .positive) in
-      rw (drop-cons s p 0 h, drop-cons xs p 0 (omega arith))
-      (new-letter (getD s p 0) (getD xs p 0) (drop (suc p) s) (drop (suc p) xs) (boundary-begins s p here)
-      ∙ ap (_∷_ (getD xs p 0)) (rw z at (letters-rest (w - 1) (suc p) (omega (arith, char .inside, char .positive)) (λ i a b. char .rest i (omega arith) (omega (arith, char .positive))))))
-
-  pub leads-at : (p : ℕ) → wellFormed s ≡ true → boundary s p ≡ true → p < length s → leads (drop p s) ≡ suc (leads (drop (p + announced (getD s p 0)) s))
-  leads-at p formed here h =
-      let long : (k : ℕ) → length (drop k xs) ≡ length (drop k s) = λ k. length-drop k xs ∙ (rw same (sym (length-drop k s))) in
-      sym (length-letters (drop p s) (drop p xs) (long p)) ∙ ap length (letter-at p formed here h)
-      ∙ ap suc (length-letters (drop (p + announced (getD s p 0)) s) (drop (p + announced (getD s p 0)) xs) (long (p + announced (getD s p 0))))
 
 -- the commands of code points and flags
 drops-command : (c k : ℕ) (cs ks : List ℕ) → eqb k 0 ≡ true → keptCommands (c ∷ cs) (k ∷ ks) ≡ keptCommands cs ks
@@ -147,10 +97,6 @@ none-commands (c ∷ cs) (k ∷ ks) e =
     true-or-false (eqb k 0)
     (λ drops. rw drops (none-commands cs ks (rw drops at e)))
     (λ keeps. clash true refl (rw keeps at e))
-
-pub spread-on : (c x : ℕ) (cs xs : List ℕ) {r : List ℕ} → r ≡ spread cs xs → replicate (sizeOf c) x ++ r ≡ spread (c ∷ cs) (x ∷ xs)
-unfolding spread
-spread-on c x cs xs e = ap (_++_ (replicate (sizeOf c) x)) e
 
 module _ (s : List ℕ) where
   abbrev end : ℕ
@@ -430,6 +376,18 @@ module _ (n : Note) (sound : Sound n) (codes : List ℕ) (coded : length codes �
             let first = leads-at (take (headBytes n) (n .normalized)) (take (headBytes n) (n .normalized)) refl 0 formed (boundary-zero _ formed) (omega arith) in
             absurd (omega (arith, first, letterless, head-leads n sound codes flags one-each (sym one-each ∙ coded)))),
       )
+
+  -- a head that has bytes has letters
+  pub head-told : ltb 0 (headLetters n) ≡ ltb 0 (headBytes n)
+  unfolding headLetters lettersFrom letters
+  head-told =
+      true-or-false (ltb 0 (headLetters n))
+      (λ t.
+      t ∙ sym (lt-ltb 0 (headBytes n)
+      (le-or-lt (headBytes n) 0
+      (λ none. let zero : headBytes n ≡ 0 = omega arith in let z : ltb 0 (headLetters n) ≡ false = rw zero in clash (ltb 0 (headLetters n)) t z)
+      (λ some. some))))
+      (λ u. u ∙ sym (le-ltb 0 (headBytes n) (omega (arith, no-head u .1))))
 
   column-mapped : (xs : List ℕ) → length xs ≡ length (n .normalized) → sifted flags (ofLetters (n .normalized) xs) ≡ ofLetters (n .normalized) xs
   column-mapped xs long =

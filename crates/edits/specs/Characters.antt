@@ -1,13 +1,14 @@
 -- The characters of a text as code points (Rust: `str::chars`).
 use Prim.Native.Nat.{ℕ, zero, suc, _+_, _-_, _*_, _<_}
 use mathlib.Core.Path.{_≡_}
-use mathlib.Core.Bool.{Bool, true, cond, _&&_}
-use mathlib.Core.List.{List, [], _∷_, _++_}
+use mathlib.Core.Bool.{true, cond}
+use mathlib.Core.List.{List, [], _∷_}
 use lib.Dec.{eqb}
 use lib.ListN.{length, getD}
 use Rattle.buffers.specs.Splice.{part}
 use Rattle.utf8.specs.Formed.{announced, wellFormed, boundary}
-use Rattle.utf8.specs.Scalar.{scalar, bytesOf}
+use Rattle.utf8.specs.Scalar.{bytesOf}
+use Rattle.code_points.specs.Codes.{textOf}
 
 -- the code point whose bytes stand at p (the Unicode Standard, Table 3-6)
 unfoldable pub codeAt : List ℕ → ℕ → ℕ
@@ -27,16 +28,6 @@ codesFrom (suc k) (b ∷ s) = codesFrom k s
 
 unfoldable pub codesOf : List ℕ → List ℕ
 codesOf s = codesFrom 0 s
-
--- the bytes of code points, one behind the other
-unfoldable pub textOf : List ℕ → List ℕ
-textOf [] = []
-textOf (c ∷ cs) = bytesOf c ++ textOf cs
-
--- each of them is a scalar value
-unfoldable pub allScalar : List ℕ → Bool
-allScalar [] = true
-allScalar (c ∷ cs) = scalar c && allScalar cs
 
 -- CLAIM: the bytes of a character's code point are that character's bytes.
 abbrev pub CodeBytes : Type 0

@@ -4,14 +4,15 @@ use mathlib.Core.Path.{_≡_}
 use mathlib.Core.Bool.{Bool, true, false, cond}
 use mathlib.Core.List.{List, [], _∷_, _++_}
 use lib.Dec.{ltb, eqb}
-use lib.ListN.{length, take, drop, replicate}
-use Rattle.utf8.specs.Formed.{continues, boundary}
+use lib.ListN.{length, take, drop}
+use Rattle.utf8.specs.Formed.{boundary}
 use Rattle.utf8.specs.Letters.{letters}
 use Rattle.note.specs.Notes.{Note, lent, Sound}
 use Rattle.script.specs.declared.Command.{Command}
-use Rattle.script.specs.Scripts.{sizeOf}
+use Rattle.code_points.specs.Codes.{textOf}
+use Rattle.letter_columns.specs.Spreading.{ofLetters, spread}
 use Rattle.edit_steps.specs.Edits.{starved, Edit, placed, begins, transformed}
-use Rattle.edits.specs.Characters.{codesOf, textOf}
+use Rattle.edits.specs.Characters.{codesOf}
 use Rattle.edits.specs.Whole.{wholeEdit, clearEdit, mapEdit, anyKept, filterEdit}
 
 -- an edit that neither 5 nor 7 refuses, and the note that it makes
@@ -58,18 +59,6 @@ cleared n =
 -- CLAIM: so does `clear` leave every sound note; it is never refused for what it does (5, 7).
 abbrev pub ClearedClosed : Type 0
 ClearedClosed = (n : Note) → Sound n → Makes n (clearEdit n) (cleared n)
-
--- what a column has for each character of a text: its element at the character's first byte
-unfoldable pub ofLetters : List ℕ → List ℕ → List ℕ
-ofLetters [] xs = []
-ofLetters (b ∷ s) [] = []
-ofLetters (b ∷ s) (x ∷ xs) = cond (continues b) (ofLetters s xs) (x ∷ ofLetters s xs)
-
--- values, one for each code point, as its bytes carry them
-unfoldable pub spread : List ℕ → List ℕ → List ℕ
-spread [] xs = []
-spread (c ∷ cs) [] = []
-spread (c ∷ cs) (x ∷ xs) = replicate (sizeOf c) x ++ spread cs xs
 
 -- MAP: the code points, each with the alignment of the character that it replaces
 unfoldable pub mapped : Note → List ℕ → Note

@@ -4,7 +4,7 @@ use Prim.Native.Nat.{ℕ, suc, _+_, _-_}
 use mathlib.Core.Path.{_≡_}
 use mathlib.Core.Bool.{Bool, true, false, cond, _||_, not}
 use mathlib.Core.List.{List, [], _∷_, _++_}
-use lib.Dec.{eqb, ltb}
+use lib.Dec.{eqb}
 use lib.ListN.{length, getD}
 use Rattle.utf8.specs.Formed.{announced}
 use Rattle.utf8.specs.Letters.{letters}
@@ -12,17 +12,18 @@ use Rattle.note.specs.declared.Refusal.{Refusal}
 use Rattle.note.specs.declared.Refusal.the-variants.{BadScript, CountMismatch}
 use Rattle.note.specs.declared.Verdict.{Verdict}
 use Rattle.note.specs.declared.Verdict.the-variants.{Accepted, Refused as Rejected}
-use Rattle.note.specs.Refusals.{none, meets, also, verdict, after}
+use Rattle.note.specs.Refusals.{none, meets, also, after}
 use Rattle.note.specs.Notes.{Note}
 use Rattle.note.specs.Starting.{charStart}
 use Rattle.note.specs.Faults.{noteFaults, stringFaults}
 use Rattle.convert.specs.declared.Range.{Range}
 use Rattle.script.specs.declared.Command.{Command}
-use Rattle.edit_steps.specs.Edits.{Edit, transformed, unchanging}
+use Rattle.code_points.specs.Codes.{allScalar}
+use Rattle.edit_steps.specs.Edits.{Edit, unchanging}
 use Rattle.transform.specs.Transforming.{target, editOf, editFaults, wholeTranscript}
 use Rattle.edits.specs.declared.Clearing.{Clearing}
 use Rattle.edits.specs.declared.Clearing.the-variants.{Cleared, Refused}
-use Rattle.edits.specs.Characters.{codeAt, codesOf, allScalar}
+use Rattle.edits.specs.Characters.{codeAt, codesOf}
 
 -- the range that `filter`, `map` and `clear` edit: the whole transcript
 abbrev pub wholeRange : Note → Range

@@ -20,10 +20,13 @@ use Rattle.utf8.specs.Letters.{leadAt, leads}
 use Rattle.utf8.proofs.Boundaries.{char-at, boundary-begins, boundary-zero}
 use Rattle.utf8.proofs.Letters.{Counted, counted-le, lead-one, lead-zero, none-counted, flag-counted, leads-append, leads-take, leads-take-add, letters-leads}
 use Rattle.script.specs.Scripts.{sizeOf}
-use Rattle.edits.specs.Characters.{codeAt, codesOf, textOf}
-use Rattle.edits.specs.Plain.{ofLetters, spread, sifted}
+use Rattle.code_points.specs.Codes.{textOf}
+use Rattle.letter_columns.specs.Spreading.{ofLetters, spread}
+use Rattle.letter_columns.proofs.Letters.{letter-at}
+use Rattle.edits.specs.Characters.{codeAt, codesOf}
+use Rattle.edits.specs.Plain.{sifted}
 use Rattle.edits.proofs.Characters.{code-bytes, codes-none, codes-cons}
-use Rattle.edits.proofs.Sifted.{letter-at, code-size, codes-letters}
+use Rattle.edits.proofs.Sifted.{code-size, codes-letters}
 use Rattle.filters.specs.Chosen.{chosen, FlagEach, KeptEnd, ColumnReady, KeptRoom, KeptLaid, OneValue}
 
 store-one : (d : List ℕ) (at x : ℕ) → at < length d → set d at x ≡ splice d at (x ∷ [])

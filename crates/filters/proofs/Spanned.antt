@@ -23,9 +23,11 @@ use Rattle.edit_steps.specs.Walking.{Standing}
 use Rattle.transform.specs.declared.Editing.the-variants.{Edited}
 use Rattle.transform.specs.Transforming.{editFaults, Rewritten}
 use Rattle.transform.proofs.Verdicts.{small-enough, accepted-rewritten, note-editable}
-use Rattle.edits.specs.Characters.{codesOf, textOf}
+use Rattle.code_points.specs.Codes.{textOf}
+use Rattle.letter_columns.specs.Spreading.{ofLetters, spread}
+use Rattle.edits.specs.Characters.{codesOf}
 use Rattle.edits.specs.Whole.{droppedAhead, anyKept}
-use Rattle.edits.specs.Plain.{ofLetters, spread, sifted}
+use Rattle.edits.specs.Plain.{sifted}
 use Rattle.edits.proofs.Head.{is-placed}
 use Rattle.edits.proofs.Shares.{starts-part, ends-part}
 use Rattle.edits.proofs.Sifted.{given-sifted, starved-sifted, column-sifted, codes-letters}

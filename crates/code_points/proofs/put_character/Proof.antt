@@ -3,9 +3,9 @@ use native.Mathlib.Omega.{arith}
 use lib.Seq.{length-take-le}
 use mathlib.Core.Path.{sym}
 use borrow.Author.Needs.{needs}
-use Rattle.edit_steps.proofs.Given.{encoded-size, encoded-four, encoded-inside, encoded-exact, encoded-over}
-use Rattle.edit_steps.proofs.laying.put_character.Statement.{statement}
-use Rattle.edit_steps.proofs.laying.put_character.Tie as tie
+use Rattle.code_points.proofs.Encoded.{encoded-size, encoded-four, encoded-inside, encoded-exact, encoded-over}
+use Rattle.code_points.proofs.put_character.Statement.{statement}
+use Rattle.code_points.proofs.put_character.Tie as tie
 
 copy-bytes-requires : tie.Need-copy-bytes-requires
 copy-bytes-requires c κs =
