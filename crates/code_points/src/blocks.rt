@@ -50,7 +50,7 @@ fn packed(c: u32) -> u32
 {
     let one = 0x1000000 + c % 128;
     let two = 0x20080C0 + c / 64 % 32 + c % 64 * 256;
-    let three = 0x38080E0 + c / 4096 % 16 + c / 64 % 64 * 256 + c % 64 * 65536;
+    let three = 0x38080E0 + c / 4096 % 16 + c / 64 % 64 * 256 + c % 64 * 0x10000;
     pick(c < 0x80, one, pick(c < 0x800, two, three))
 }
 
@@ -71,8 +71,8 @@ fn put_word(word: u32, out: &mut [u8], at: usize)
     requires { ⌜ at + 4 ≤ length (now out) ⌝ }
     ensures { λ _. ⌜ now (out .exit) ≡ splice (now (out .entry)) at (wordBytes word) ⌝ }
 {
-    put_u16_le((word % 65536) as u16, out, at);
-    put_u16_le((word / 65536) as u16, out, at + 2);
+    put_u16_le((word % 0x10000) as u16, out, at);
+    put_u16_le((word / 0x10000) as u16, out, at + 2);
 }
 
 // Scalar values of at most three bytes each: four bytes are laid of each, and the next one's over what is too much.
@@ -87,7 +87,7 @@ pub fn lay_text_block(codes: &[u32], out: &mut [u8], from: usize, until: usize) 
     while i < 64 {
         let word = words[i];
         put_word(word, out, at);
-        at += (word / 16777216) as usize;
+        at += (word / 0x1000000) as usize;
         i += 1;
     }
     at

@@ -25,7 +25,7 @@ pub struct Judged {
 
 // The same of no more numbers than a 32-bit sum has room for: the loop has no way out inside, so that it is vectorised.
 pub fn judge_block(codes: &[u32]) -> Judged
-    requires { ⌜ length (now codes) ≤ 65536 ⌝ }
+    requires { ⌜ length (now codes) ≤ 0x10000 ⌝ }
     ensures { λ r. ⌜ JudgedAs (now (codes .entry)) r ⌝ }
 {
     let mut scalar = true;
