@@ -19,6 +19,7 @@ use Rattle.note.specs.Notes.{Note, lent, Sound}
 use Rattle.note.specs.Faults.{noteFaults}
 use Rattle.note.proofs.Faults.{accepted-sound}
 use Rattle.edit_steps.specs.Edits.{skipped, characters, carried, starved, Edit, placed, begins, relaid, edited, transformed}
+use Rattle.edit_steps.specs.Laying.{KeepRoom}
 use Rattle.edit_steps.specs.Walking.{Standing}
 use Rattle.transform.specs.declared.Editing.the-variants.{Edited}
 use Rattle.transform.specs.Transforming.{editFaults, Rewritten}
@@ -118,6 +119,18 @@ module _ {s starts ends flags : List ℕ} (r : RangeReady s starts ends flags) w
           text-ready = record { one-each = refl; room = omega (arith, short, chosen-most flags 0 s, lowest) };
           starts-ready = record { one-each = r .editable .one-start; room = omega (arith, short, chosen-most flags 0 s, lowest) };
           ends-ready = record { one-each = r .editable .one-end; room = omega (arith, short, chosen-most flags 0 s, lowest) };
+        }
+
+    pub copied-room : KeepRoom s starts ends 0 (length s) out₀ starts₀ ends₀ 0
+    copied-room =
+        record {
+          onward = omega arith;
+          in-text = omega arith;
+          in-starts = omega (arith, r .editable .one-start);
+          in-ends = omega (arith, r .editable .one-end);
+          text-room = omega (arith, short, lowest);
+          starts-room = omega (arith, short, lowest);
+          ends-room = omega (arith, short, lowest);
         }
 
     made : {k : ℕ} {out starts₁ ends₁ : List ℕ} → KeptLaid s starts ends flags out₀ starts₀ ends₀ k out starts₁ ends₁ → Rewritten (verdict (editFaults most s e (least (length out₀) (length starts₀) (length ends₀)))) (transformed (lent [] s starts ends 0) e) out₀ starts₀ ends₀ (Edited k) out starts₁ ends₁

@@ -29,6 +29,10 @@ pub record KeptEnd (s flags : List ℕ) (e : ℕ) : Type 0 where
   pub behind : (xs : List ℕ) → length xs ≡ length s → chosen flags (leads (take e s)) (drop e s) (drop e xs) ≡ []
   pub before : 0 < e → eqb (getD flags (leads (take e s) - 1) 0) 0 ≡ false
 
+-- no flag drops its character
+abbrev pub EachKept : List ℕ → Type 0
+EachKept flags = (i : ℕ) → i < length flags → eqb (getD flags i 0) 0 ≡ false
+
 -- a column of the text, and room for what is chosen of it
 pub record ColumnReady (s xs flags d : List ℕ) : Type 0 where
   pub one-each : length xs ≡ length s

@@ -4,14 +4,28 @@ use buffers::Offset;
 use note::LIMIT;
 use utf8::continues;
 ghost use mathlib.Core.Path.{_≡_};
+ghost use mathlib.Core.Bool.{true};
 ghost use Rattle.note.specs.Notes.{limit};
-ghost use Rattle.filters.specs.Chosen.{FlagEach, KeptEnd, KeptLaid, KeptRoom, spans};
+ghost use Rattle.filters.specs.Chosen.{EachKept, FlagEach, KeptEnd, KeptLaid, KeptRoom, spans};
 
 // Whether a range is the whole text, and there is room for all of it.
 pub fn spans(from: usize, to: usize, size: usize, room: usize) -> bool
     ensures { λ r. ⌜ r ≡ spans limit from to size room ⌝ }
 {
     (from == 0) & (to == size) & (size <= LIMIT) & (size <= room)
+}
+
+// Whether no flag drops its character.
+pub fn all_kept(flags: &[u8]) -> bool
+    ensures { λ r. ⌜ (r ≡ true → EachKept (now (flags .entry))) ⌝ }
+{
+    let mut ok = true;
+    let mut i = 0;
+    while i < flags.len() {
+        ok = ok & (flags[i] != 0);
+        i += 1;
+    }
+    ok
 }
 
 // Where the last kept character ends.

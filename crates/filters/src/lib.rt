@@ -4,6 +4,7 @@ mod bytewise;
 use buffers::Offset;
 use buffers::copy_bytes;
 use buffers::fill_offsets;
+use bytewise::all_kept;
 use bytewise::kept_end;
 use bytewise::lay_kept;
 use bytewise::spans;
@@ -278,7 +279,8 @@ fn edit_flags(
     }
 }
 
-// The same where the bytes of each character carry one alignment: the whole text is filtered byte by byte.
+// The same where the bytes of each character carry one alignment: the whole text is filtered byte by byte, or copied
+// where nothing is dropped.
 fn filter_range(
     text: &[u8],
     starts: &[Offset],
@@ -312,6 +314,20 @@ fn filter_range(
 {
     let room = least_room(out.len(), out_starts.len(), out_ends.len());
     if spans(from, to, text.len(), room) {
+        if all_kept(flags) {
+            keep(
+                text,
+                starts,
+                ends,
+                0,
+                text.len(),
+                out,
+                out_starts,
+                out_ends,
+                0,
+            );
+            return Editing::Edited(text.len());
+        }
         let end = kept_end(text, flags);
         return Editing::Edited(lay_kept(text, starts, ends, flags, end, out, out_starts, out_ends));
     }
