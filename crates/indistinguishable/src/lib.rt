@@ -11,10 +11,14 @@ use note::before_end;
 use pattern::Entry;
 use pattern::Place;
 use pattern::entry_at;
+use replace::Publication;
 use replace::check_replace;
 ghost use mathlib.Core.Path.{_≡_};
+ghost use Prim.Native.Nat.{ℕ};
 ghost use Rattle.note.specs.Notes.{lent, limit};
+ghost use Rattle.note.specs.declared.Verdict.{Verdict};
 ghost use Rattle.pattern.specs.Entries.{placesOf};
+ghost use Rattle.replace.specs.Replacing.{publication};
 ghost use Rattle.indistinguishable.specs.Alike.{PublishedAlike};
 ghost use Rattle.indistinguishable.specs.Walk.{BothCovered, Lying, allAlike, columnAlike, everyPlace, textAlike};
 
@@ -123,6 +127,16 @@ fn all_alike(
     columns_alike(ends, other_ends, list, wide)
 }
 
+// What an answer says, without its size.
+fn said(answer: Publication) -> Verdict
+    ensures { λ r. ⌜ ((v : Verdict) (size : ℕ) → answer ≡ publication v size → r ≡ v) ⌝ }
+{
+    match answer {
+        Publication::Published(_) => Verdict::Accepted,
+        Publication::Refused(k) => Verdict::Refused(k),
+    }
+}
+
 // Whether the two notes that `replace` makes of these with this list and content are equal, text and alignments.
 pub fn published_alike(
     original: &[u8],
@@ -145,7 +159,7 @@ pub fn published_alike(
         (now («other_starts» .entry)) (now («other_ends» .entry)) «other_shift»)
         (now (list .entry)) (now (content .entry)) r ⌝ }
 {
-    let one = check_replace(
+    let one = said(check_replace(
         original,
         normalized,
         starts,
@@ -154,8 +168,8 @@ pub fn published_alike(
         list,
         content,
         LIMIT,
-    );
-    let two = check_replace(
+    ));
+    let two = said(check_replace(
         other_original,
         other,
         other_starts,
@@ -164,7 +178,7 @@ pub fn published_alike(
         list,
         content,
         LIMIT,
-    );
+    ));
     if let Verdict::Refused(k) = earlier(one, two) {
         return Comparison::Refused(k);
     }

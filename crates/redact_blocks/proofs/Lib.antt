@@ -1,3 +1,4 @@
 -- Laws of stretches, and of what is laid on from them.
 pub mod Keeping
 pub mod Blanks
+pub mod Front

@@ -1,5 +1,5 @@
 -- What the functions that blank every match are told and say.
-use Prim.Native.Nat.{ℕ, _+_, _-_, _≤_, _<_}
+use Prim.Native.Nat.{ℕ, _+_, _-_, _≤_, _<_, min}
 use mathlib.Core.Path.{_≡_}
 use mathlib.Core.Bool.{Bool, true}
 use mathlib.Core.List.{List, _++_}
@@ -67,6 +67,18 @@ pub record Bounded (text : List ℕ) (plain : Bool) (literal content filler : Li
       → b + sizes (length content) (matchesFrom text literal j)
       ≡ at + sizes (length content) (matchesFrom text literal i)
       → b + 144 ≤ at + sizes (length content) (matchesFrom text literal i)
+
+-- a literal's first bytes, up to 16, in front of 16 bytes
+pub record FrontOf (literal front : List ℕ) : Type 0 where
+  pub long : 16 ≤ length front
+  pub front-is : take (min 16 (length literal)) front ≡ take (min 16 (length literal)) literal
+
+-- beside a text from p on
+pub record FrontAt (text literal front : List ℕ) (p : ℕ) : Type 0 where
+  pub of-literal : FrontOf literal front
+  pub block : p + 16 ≤ length text
+  pub some : 0 < length literal
+  pub inside : p + length literal ≤ length text
 
 -- a block of 64 from i on, with the bytes that it is searched and counted by
 pub record BlockRoom (text : List ℕ) (plain : Bool) (literal : List ℕ) (first last i : ℕ) (out starts ends : List ℕ)

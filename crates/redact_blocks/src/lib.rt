@@ -6,6 +6,7 @@
 pub mod stretches;
 
 use buffers::Offset;
+use buffers::copy_bytes;
 use checks::least_of_two;
 use find::search::candidate;
 use find::search::occurs_at;
@@ -15,9 +16,10 @@ use stretches::lay_block;
 use stretches::lay_byte;
 ghost use mathlib.Core.Path.{_≡_};
 ghost use Prim.Native.Nat.{_≤_, _<_};
-ghost use lib.ListN.{length};
+ghost use lib.ListN.{length, take};
+ghost use Rattle.buffers.specs.Same.{same};
 ghost use Rattle.find.specs.Matching.{occursAt};
-ghost use Rattle.redact_blocks.specs.Blanks.{AllLaid, Blankable, Blanked, BlockRoom, Bounded, Passed};
+ghost use Rattle.redact_blocks.specs.Blanks.{AllLaid, Blankable, Blanked, BlockRoom, Bounded, FrontAt, FrontOf, Passed};
 
 // How far a result is laid: the text's bytes before `i` are what it has before `at`.
 pub struct Reached {
@@ -70,6 +72,37 @@ pub fn blank_bytes(
     Reached { i, at }
 }
 
+// Whether the first `few` of 16 bytes are the same. No branch inside, so that the loop is vectorised.
+fn same_front(a: &[u8], b: &[u8], few: u8) -> bool
+    requires { ⌜ (16 ≤ length (now a)) × (16 ≤ length (now b)) × (few ≤ 16) ⌝ }
+    ensures { λ r. ⌜ r ≡ same (take few (now (a .entry))) (take few (now (b .entry))) ⌝ }
+{
+    let mut ok = true;
+    let mut j: u8 = 0;
+    while j < 16 {
+        let k = j as usize;
+        ok = ok & ((a[k] == b[k]) | (few <= j));
+        j += 1;
+    }
+    ok
+}
+
+// Whether the literal stands in the text at `p`, told by its first bytes, which `front` has, and where there are more
+// than 16 by all of them.
+fn begins(text: &[u8], literal: &[u8], front: &[u8], p: usize) -> bool
+    requires { ⌜ FrontAt (now text) (now literal) (now front) p ⌝ }
+    ensures { λ r. ⌜ r ≡ occursAt (now (text .entry)) (now (literal .entry)) p ⌝ }
+{
+    let few = least_of_two(16, literal.len()) as u8;
+    if !same_front(&text[p..p + 16], front, few) {
+        return false;
+    }
+    if literal.len() <= 16 {
+        return true;
+    }
+    occurs_at(text, literal, p)
+}
+
 // The 64 bytes from `i` on, searched and laid; how many of them stand before the first candidate. The search comes
 // first: the next block waits for it alone.
 fn lay_ahead(
@@ -105,6 +138,7 @@ pub fn blank_blocks(
     text: &[u8],
     plain: bool,
     literal: &[u8],
+    front: &[u8],
     content: &[u8],
     filler: &[u8],
     margin: usize,
@@ -118,7 +152,7 @@ pub fn blank_blocks(
     requires { ⌜ Blankable (now text) (now literal) (now content) from base
         (now out) (now «out_starts») (now «out_ends»)
         × Bounded (now text) plain (now literal) (now content) (now filler) from base margin until
-        × (3 ≤ length (now text) → 3 ≤ from) ⌝ }
+        × (3 ≤ length (now text) → 3 ≤ from) × FrontOf (now literal) (now front) ⌝ }
     ensures { λ r. ⌜ Blanked (now (text .entry)) (now (literal .entry)) (now (content .entry)) from base
         (now (out .entry)) (now («out_starts» .entry)) (now («out_ends» .entry)) (r .i) (r .at)
         (now (out .exit)) (now («out_starts» .exit)) (now («out_ends» .exit)) ⌝ }
@@ -147,7 +181,7 @@ pub fn blank_blocks(
         i += k;
         if k < 64 {
             let here = at + k;
-            if occurs_at(text, literal, i) {
+            if begins(text, literal, front, i) {
                 i += literal.len();
                 fill(
                     text,
@@ -203,10 +237,14 @@ pub fn blank(
         out_starts,
         out_ends,
     );
+    let mut front = [0u8; 16];
+    let few = least_of_two(16, literal.len());
+    copy_bytes(&literal[0..few], &mut front, 0);
     let most = blank_blocks(
         text,
         plain,
         literal,
+        &front,
         content,
         filler,
         margin,

@@ -3,7 +3,6 @@
 // Each function here is an inner one: text and room were judged before.
 use buffers::Offset;
 use buffers::blocks::copy_bytes_block;
-use buffers::blocks::copy_bytes_over;
 use buffers::blocks::fill_offsets_over;
 use buffers::copy_bytes;
 use buffers::fill_offsets;
@@ -11,6 +10,7 @@ use from_text::columns::char_end;
 use from_text::columns::char_start;
 use from_text::columns::ends_block;
 use from_text::columns::starts_block;
+use replace::laying::lay_content;
 ghost use mathlib.Core.Path.{_≡_};
 ghost use mathlib.Core.Bool.{true};
 ghost use Prim.Native.Nat.{_+_, _-_, _≤_};
@@ -99,7 +99,7 @@ pub fn fill(
 {
     let first = char_start(text, end - 1) as Offset;
     let last = char_end(text, end - 1) as Offset;
-    copy_bytes_over(filler, 0, wide, out, at, until);
+    lay_content(filler, wide, out, at, until);
     fill_offsets_over(first, wide, out_starts, at, until);
     fill_offsets_over(last, wide, out_ends, at, until);
 }

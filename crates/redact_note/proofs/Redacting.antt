@@ -32,7 +32,7 @@ use Rattle.find.specs.Finding.{foundBytes}
 use Rattle.find.specs.Searching.{firstMatch}
 use Rattle.find.proofs.FoundPlaces.{found-read, found-covers}
 use Rattle.replace.specs.declared.Publication.the-variants.{Published as Replaced}
-use Rattle.replace.specs.Replacing.{laid, replaced, replaceFaults}
+use Rattle.replace.specs.Replacing.{laid, publication, replaced, replaceFaults}
 use Rattle.replace.specs.Sizes.{sizes}
 use Rattle.replace.specs.Laying.{Ready, AllLaid}
 use Rattle.replace.proofs.Sizes.{length-laid}
@@ -178,7 +178,8 @@ module _ (n : Note) (literal content list₀ out₀ starts₀ ends₀ : List ℕ
         record {
           searchable = record { short = all-formed n literal content (length list₀) room ok .short; first-is = is };
           list-room = list-fits n literal content (length list₀) room ok;
-          ready = ready limit n (foundBytes (n .normalized) literal) content out₀ starts₀ ends₀ rooms (sym (replaces n literal content (length list₀) room ok)) refl;
+          ready = ready limit n (foundBytes (n .normalized) literal) content out₀ starts₀ ends₀ rooms refl
+              (ap (λ (v : Verdict). publication v (sizes (length content) (placesOf (foundBytes (n .normalized) literal)))) (replaces n literal content (length list₀) room ok));
         }
 
     pub all-blanked : {size count : ℕ} {list out starts ends : List ℕ} → count ≡ matchCount (foundPlaces (n .normalized) literal) → Blanked (n .normalized) (n .starts) (n .ends) literal content list₀ out₀ starts₀ ends₀ size list out starts ends → NoteRedacted limit n literal content list₀ out₀ starts₀ ends₀ (Published size count) list out starts ends

@@ -15,6 +15,7 @@ use note::Refusal;
 use note::Verdict;
 use note::answers::earlier;
 use replace::laying::lay_out;
+use replace::measure;
 ghost use mathlib.Core.Path.{_≡_};
 ghost use Prim.Native.Nat.{_≤_};
 ghost use lib.Dec.{leb};
@@ -128,12 +129,14 @@ fn blank(
         r (now (list .exit)) (now (out .exit)) (now («out_starts» .exit)) (now («out_ends» .exit)) ⌝ }
 {
     let n = write_list(normalized, literal, first, list);
+    let until = measure(&list[..n], content.len());
     lay_out(
         normalized,
         starts,
         ends,
         &list[..n],
         content,
+        until,
         out,
         out_starts,
         out_ends,

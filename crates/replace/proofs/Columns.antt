@@ -1,5 +1,5 @@
 -- Places laid into a buffer: what one place needs and gives, and a list that has been laid down up to a place.
-use Prim.Native.Nat.{ℕ, _+_, _-_, _≤_, _<_, min}
+use Prim.Native.Nat.{ℕ, _+_, _-_, _≤_, _<_}
 use mathlib.Core.Path.{_≡_, _∙_, ap, refl, sym}
 use mathlib.Core.Bool.{true, false}
 use mathlib.Core.List.{List, [], _∷_, _++_}
@@ -8,8 +8,8 @@ use lib.ListN.{length, replicate, drop, length-append, length-replicate}
 use lib.Seq.{take-length}
 use Rattle.buffers.specs.Splice.{part, splice}
 use Rattle.buffers.specs.Over.{Over, Source}
-use Rattle.buffers.proofs.Splice.{length-part, splice-overlay, take-overlay}
-use Rattle.buffers.proofs.Over.{Reaching, none-reached, run-reached, all-reached, reaching-size}
+use Rattle.buffers.proofs.Splice.{length-part, part-front, splice-overlay, take-overlay}
+use Rattle.buffers.proofs.Over.{over-exact, over-front, through, Reaching, none-reached, run-reached, all-reached, reaching-size}
 use Rattle.note.specs.Notes.{beforeEnd}
 use Rattle.pattern.specs.declared.Place.{Place}
 use Rattle.pattern.specs.declared.Entry.{Entry}
@@ -48,6 +48,13 @@ module _ (fill : ℕ → List ℕ) (column : List ℕ) (wide : ℕ) (p : Place) 
 
   pub place-filled : p .matched ≡ true → Over (fill (p .end .0)) d₀ at until d → PlaceLaid fill column wide p until d₀ at (at + wide) d
   place-filled t o = record { reached = rw (size-matched p wide t); holds = rw (piece-matched fill p column t) o }
+
+-- a content laid as the front of a block, through a local array
+pub content-block : (filler : List ℕ) (wide : ℕ) (d : List ℕ) (at until : ℕ) (b₀ : List ℕ) {b d₁ : List ℕ} → Source filler 0 wide d at until → length b₀ ≡ 16 → wide ≤ 16 → 16 ≤ length filler → at + 16 ≤ until → b ≡ splice b₀ 0 (part filler 0 16) → d₁ ≡ splice d at b → Over (part filler 0 wide) d at until d₁
+content-block filler wide d at until b₀ s size few long below local is =
+    let all : length (part filler 0 16) ≡ 16 = omega (arith, length-part filler 0 16 long) in
+    rw (part-front filler 0 wide 16 few) at
+    (over-front (wide - 0) (over-exact (part filler 0 16) d at until (omega (arith, s .until-room)) (through (part filler 0 16) d at b₀ (omega arith) local is)) (omega arith) (omega (arith, s .until-room)) (omega arith))
 
 -- the same by the number that the column has before the end
 pub carried-filled : (column : List ℕ) (wide : ℕ) (p : Place) {until : ℕ} {d₀ : List ℕ} {at : ℕ} {d : List ℕ} {x : ℕ} → p .matched ≡ true → x ≡ beforeEnd column (p .end .0) → Over (replicate wide x) d₀ at until d → PlaceLaid (carried wide column) column wide p until d₀ at (at + wide) d
@@ -150,13 +157,13 @@ content-alone content = let all : length content - 0 ≡ length content = omega 
 pub filled-by : (text list d₀ : List ℕ) {a content : List ℕ} {r : ℕ} {d : List ℕ} → a ≡ content → ColumnLaid (λ end. a) text list d₀ r d → ColumnLaid (λ end. content) text list d₀ r d
 filled-by text list d₀ is l = rw is at l
 
--- the three columns, one after the other, below a size that was measured
-module _ {text starts ends list content out₀ starts₀ ends₀ : List ℕ} (r : Ready text starts ends list content out₀ starts₀ ends₀) (most : ℕ) {until : ℕ} (measured : until ≡ min most (sizes (length content) (placesOf list))) where
+-- the three columns, one after the other, below a size
+module _ {text starts ends list content out₀ starts₀ ends₀ : List ℕ} (r : Ready text starts ends list content out₀ starts₀ ends₀) {until : ℕ} (low : until ≤ sizes (length content) (placesOf list)) where
   pub text-ready : ColumnReady text list (length content) until out₀
-  text-ready = record { text = text; long = refl; covered = r .covered; room = r .text-room; below = omega arith }
+  text-ready = record { text = text; long = refl; covered = r .covered; room = r .text-room; below = low }
 
   pub starts-ready : ColumnReady starts list (length content) until starts₀
-  starts-ready = record { text = text; long = r .one-start; covered = r .covered; room = r .starts-room; below = omega arith }
+  starts-ready = record { text = text; long = r .one-start; covered = r .covered; room = r .starts-room; below = low }
 
   pub ends-ready : ColumnReady ends list (length content) until ends₀
-  ends-ready = record { text = text; long = r .one-end; covered = r .covered; room = r .ends-room; below = omega arith }
+  ends-ready = record { text = text; long = r .one-end; covered = r .covered; room = r .ends-room; below = low }

@@ -75,10 +75,14 @@ module _ (most : ℕ) (n : Note) (list content : List ℕ) (room : ℕ) (e : ver
   pub accepted-room : sizeIn n list content ≤ min most room
   accepted-room = room-enough (sizeIn n list content) (min most room) (accepted-second (listFaults (n .normalized) list) (roomFaults (sizeIn n list content) (min most room)) result-accepted)
 
--- a call that has published
-says-published : (v : Verdict) (a size : ℕ) → Published a ≡ publication v size → (v ≡ Accepted) × (a ≡ size)
+-- what an answer says
+pub says-published : (v : Verdict) (a size : ℕ) → Published a ≡ publication v size → (v ≡ Accepted) × (a ≡ size)
 says-published Accepted a size e = (refl, cc)
 says-published (Rejected k) a size e = let z : _≡_ {A = ℕ} 0 1 = cc in absurd (omega arith)
+
+pub says-refused : (v : Verdict) (k : Refusal) (size : ℕ) → Refused k ≡ publication v size → v ≡ Rejected k
+says-refused Accepted k size e = let z : _≡_ {A = ℕ} 0 1 = cc in absurd (omega arith)
+says-refused (Rejected j) k size e = let same : j ≡ k = cc in rw same
 
 module _ {most : ℕ} {n : Note} {list content out₀ starts₀ ends₀ out starts ends : List ℕ} {a : ℕ} (call : Replacing most n list content out₀ starts₀ ends₀ (Published a) out starts ends) where
   pub published-says : call .says ≡ Accepted
@@ -96,18 +100,20 @@ module _ {most : ℕ} {n : Note} {list content out₀ starts₀ ends₀ out star
 
 -- the list, then the room
 module _ (text list : List ℕ) (size : ℕ) {t : Bool} (is : t ≡ covers text list) where
-  pub not-covering : (room : ℕ) → not t ≡ true → Rejected BadMatches ≡ verdict (resultFaults text list size room)
+  pub not-covering : (room : ℕ) → not t ≡ true → Refused BadMatches ≡ publication (verdict (resultFaults text list size room)) size
   unfolding verdict
   not-covering room e = rw (sym is ∙ not-true t e)
 
-  pub by-room : (most room : ℕ) {m x : ℕ} {r : Verdict} → not t ≡ false → m ≡ min (most + 1) size → x ≡ min most room → r ≡ cond (ltb x m) (Rejected NoRoom) Accepted → r ≡ verdict (resultFaults text list size (min most room))
-  unfolding verdict
-  by-room most room {m} {x} e measured least answer =
-      answer
-      ∙ rw (sym is ∙ not-false t e)
-      (le-or-lt size (min most room)
-      (λ fits. rw (le-leb size (min most room) fits, le-ltb x m (omega arith)))
-      (λ over. rw (lt-leb size (min most room) over, lt-ltb x m (omega arith))))
+  module _ (most room : ℕ) {m x : ℕ} (e : not t ≡ false) (measured : m ≡ min (most + 1) size) (least : x ≡ min most room) where
+    pub too-large : x < m → Refused NoRoom ≡ publication (verdict (resultFaults text list size (min most room))) size
+    unfolding verdict
+    too-large over = rw (sym is ∙ not-false t e, lt-leb size (min most room) (omega arith))
+
+    pub small-enough : m ≤ x → Published m ≡ publication (verdict (resultFaults text list size (min most room))) size
+    unfolding verdict
+    small-enough fits =
+        let whole : m ≡ size = omega arith in
+        rw (sym is ∙ not-false t e, le-leb size (min most room) (omega arith), whole)
 
 -- the size of the places is that of the result, where they cover the text
 sizes-verdict : (n : Note) (list content : List ℕ) (room : ℕ) → verdict (resultFaults (n .normalized) list (sizes (length content) (placesOf list)) room) ≡ verdict (resultFaults (n .normalized) list (sizeIn n list content) room)
@@ -122,30 +128,39 @@ module _ (most : ℕ) (n : Note) (list content : List ℕ) (room : ℕ) {u v w :
   lent-verdict : w ≡ verdict (lentFaults most n content)
   lent-verdict = earlier-of (noteFaults most n) (stringFaults content) noted string first
 
-  pub refused-lent : {k : Refusal} → w ≡ Rejected k → Rejected k ≡ verdict (replaceFaults most n list content room)
-  refused-lent e = refused-then 4 (lentFaults most n content) (resultFaults (n .normalized) list (sizeIn n list content) (min most room)) refl refl lent-verdict e
+  pub refused-lent : {k : Refusal} (size : ℕ) → w ≡ Rejected k → Refused k ≡ publication (verdict (replaceFaults most n list content room)) size
+  refused-lent size e = ap (λ (v : Verdict). publication v size) (refused-then 4 (lentFaults most n content) (resultFaults (n .normalized) list (sizeIn n list content) (min most room)) refl refl lent-verdict e)
 
-  pub accepted-lent : {r : Verdict} → w ≡ Accepted → r ≡ verdict (resultFaults (n .normalized) list (sizes (length content) (placesOf list)) (min most room)) → r ≡ verdict (replaceFaults most n list content room)
-  accepted-lent e l =
-      accepted-then 4 (lentFaults most n content) (resultFaults (n .normalized) list (sizeIn n list content) (min most room)) refl refl lent-verdict e
-      (l ∙ sizes-verdict n list content (min most room))
+  pub accepted-lent : {r : Publication} (size : ℕ) → w ≡ Accepted → r ≡ publication (verdict (resultFaults (n .normalized) list (sizes (length content) (placesOf list)) (min most room))) size → r ≡ publication (verdict (replaceFaults most n list content room)) size
+  accepted-lent size e l =
+      l ∙ ap (λ (v : Verdict). publication v size)
+      (accepted-then 4 (lentFaults most n content) (resultFaults (n .normalized) list (sizeIn n list content) (min most room)) refl refl lent-verdict e
+      (sizes-verdict n list content (min most room)))
+
+-- the size that an answer tells
+pub measured-size : (most : ℕ) (n : Note) (list content : List ℕ) (room : ℕ) {size a : ℕ} {r : Publication} → r ≡ publication (verdict (replaceFaults most n list content room)) size → r ≡ Published a → a ≤ size
+measured-size most n list content room answers e =
+    omega (arith, says-published (verdict (replaceFaults most n list content room)) _ _ (sym e ∙ answers) .1)
 
 -- the call
-module _ (most : ℕ) (n : Note) (list content out₀ starts₀ ends₀ : List ℕ) {v : Verdict} {room : ℕ} (rooms : room ≡ least (length out₀) (length starts₀) (length ends₀)) (says : v ≡ verdict (replaceFaults most n list content room)) where
-  said : v ≡ verdict (replaceFaults most n list content (least (length out₀) (length starts₀) (length ends₀)))
-  said = says ∙ ap (λ (r : ℕ). verdict (replaceFaults most n list content r)) rooms
+module _ (most : ℕ) (n : Note) (list content out₀ starts₀ ends₀ : List ℕ) {r : Publication} {room : ℕ} (rooms : room ≡ least (length out₀) (length starts₀) (length ends₀)) (answers : r ≡ publication (verdict (replaceFaults most n list content room)) (sizes (length content) (placesOf list))) where
+  said : r ≡ publication (verdict (replaceFaults most n list content (least (length out₀) (length starts₀) (length ends₀)))) (sizes (length content) (placesOf list))
+  said = answers ∙ ap (λ (x : ℕ). publication (verdict (replaceFaults most n list content x)) (sizes (length content) (placesOf list))) rooms
 
-  pub refused : {k : Refusal} → v ≡ Rejected k → Replacing most n list content out₀ starts₀ ends₀ (Refused k) out₀ starts₀ ends₀
-  refused {k} e = record { says = Rejected k; says-is = sym e ∙ said; answer = refl; text-is = refl; starts-are = refl; ends-are = refl }
+  says-accepted : {a : ℕ} → r ≡ Published a → verdict (replaceFaults most n list content (least (length out₀) (length starts₀) (length ends₀))) ≡ Accepted
+  says-accepted e = says-published _ _ _ (sym e ∙ said) .0
 
-  pub ready : v ≡ Accepted → Ready (n .normalized) (n .starts) (n .ends) list content out₀ starts₀ ends₀
+  pub refused : {k : Refusal} → r ≡ Refused k → Replacing most n list content out₀ starts₀ ends₀ (Refused k) out₀ starts₀ ends₀
+  refused {k} e = record { says = Rejected k; says-is = sym (says-refused _ k _ (sym e ∙ said)); answer = refl; text-is = refl; starts-are = refl; ends-are = refl }
+
+  pub ready : {a : ℕ} → r ≡ Published a → Ready (n .normalized) (n .starts) (n .ends) list content out₀ starts₀ ends₀
   unfolding replaced
   ready e =
       let all : ℕ = least (length out₀) (length starts₀) (length ends₀) in
-      let t : Taken n list = accepted-taken most n list content all (sym said ∙ e) in
+      let t : Taken n list = accepted-taken most n list content all (says-accepted e) in
       let size : length (laid (λ end. content) (placesOf list) (n .normalized)) ≡ sizes (length content) (placesOf list) =
       length-laid (n .normalized) (n .normalized) (λ end. content) (length content) 0 (placesOf list) refl (λ e. refl) (t .covered) in
-      let fits = accepted-room most n list content all (sym said ∙ e) in
+      let fits = accepted-room most n list content all (says-accepted e) in
       record {
         one-start = t .one-start;
         one-end = t .one-end;
@@ -155,6 +170,6 @@ module _ (most : ℕ) (n : Note) (list content out₀ starts₀ ends₀ : List �
         ends-room = omega (arith, size, fits);
       }
 
-  pub accepted : v ≡ Accepted → {r : ℕ} {out starts ends : List ℕ} → AllLaid (n .normalized) (n .starts) (n .ends) list content out₀ starts₀ ends₀ r out starts ends → Replacing most n list content out₀ starts₀ ends₀ (Published r) out starts ends
+  pub accepted : {a : ℕ} → r ≡ Published a → {size : ℕ} {out starts ends : List ℕ} → AllLaid (n .normalized) (n .starts) (n .ends) list content out₀ starts₀ ends₀ size out starts ends → Replacing most n list content out₀ starts₀ ends₀ (Published size) out starts ends
   unfolding replaced
-  accepted e l = record { says = Accepted; says-is = sym e ∙ said; answer = ap Published (l .reached); text-is = l .text-is; starts-are = l .starts-are; ends-are = l .ends-are }
+  accepted e l = record { says = Accepted; says-is = sym (says-accepted e); answer = ap Published (l .reached); text-is = l .text-is; starts-are = l .starts-are; ends-are = l .ends-are }

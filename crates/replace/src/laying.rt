@@ -1,7 +1,6 @@
 // The result of a replacement, laid place by place into the lent buffers, one column after the other.
 // Each function here is an inner one: the list covers the text, and there is room for the result. Blocks are laid below
 // `until`, which is within the result, and what they write past a place is overwritten by the next.
-use crate::measure;
 use buffers::Offset;
 use buffers::blocks::copy_bytes_over;
 use buffers::blocks::copy_offsets_over;
@@ -14,8 +13,29 @@ use pattern::entry_at;
 ghost use Prim.Native.Nat.{_≤_};
 ghost use lib.ListN.{length};
 ghost use Rattle.buffers.specs.Splice.{part};
+ghost use Rattle.buffers.specs.Over.{Over, Source};
 ghost use Rattle.replace.specs.Replacing.{carried};
+ghost use Rattle.pattern.specs.Entries.{placesOf};
+ghost use Rattle.replace.specs.Sizes.{sizes};
 ghost use Rattle.replace.specs.Laying.{AllLaid, ColumnLaid, ColumnReady, PlaceLaid, PlaceRoom, Ready};
+
+// The content, what `filler` has in front, `wide` bytes, in `out` from `at` on: 16 at once where they are no more.
+pub fn lay_content(filler: &[u8], wide: usize, out: &mut [u8], at: usize, until: usize)
+    requires { ⌜ Source (now filler) 0 wide (now out) at until ⌝ }
+    ensures { λ _. ⌜ Over (part (now (filler .entry)) 0 wide) (now (out .entry)) at until (now (out .exit)) ⌝ }
+{
+    if wide <= 16 {
+        if 16 <= filler.len() {
+            if at + 16 <= until {
+                let mut block = [0u8; 16];
+                copy_bytes(&filler[0..16], &mut block, 0);
+                copy_bytes(&block, out, at);
+                return;
+            }
+        }
+    }
+    copy_bytes_over(filler, 0, wide, out, at, until);
+}
 
 // A place's bytes, or the content in the place of a matched one, in `out` from `at` on; how far it reaches then. Here
 // and below the content is what `filler` has in front, `wide` bytes.
@@ -37,7 +57,7 @@ fn lay_bytes(
     let from = start.0 as usize;
     let to = end.0 as usize;
     if place.matched {
-        copy_bytes_over(filler, 0, wide, out, at, until);
+        lay_content(filler, wide, out, at, until);
         return at + wide;
     }
     copy_bytes_over(text, from, to, out, at, until);
@@ -143,18 +163,19 @@ pub fn lay_out(
     ends: &[Offset],
     list: &[u8],
     content: &[u8],
+    until: usize,
     out: &mut [u8],
     out_starts: &mut [Offset],
     out_ends: &mut [Offset],
 ) -> usize
     requires { ⌜ Ready (now normalized) (now starts) (now ends) (now list) (now content)
         (now out) (now «out_starts») (now «out_ends») ⌝ }
+    requires { ⌜ until ≤ sizes (length (now content)) (placesOf (now list)) ⌝ }
     ensures { λ r. ⌜ AllLaid (now (normalized .entry)) (now (starts .entry)) (now (ends .entry))
         (now (list .entry)) (now (content .entry))
         (now (out .entry)) (now («out_starts» .entry)) (now («out_ends» .entry))
         r (now (out .exit)) (now («out_starts» .exit)) (now («out_ends» .exit)) ⌝ }
 {
-    let until = measure(list, content.len());
     lay_column(starts, list, content.len(), until, out_starts);
     lay_column(ends, list, content.len(), until, out_ends);
     lay_filled(normalized, list, content, until, out)

@@ -12,19 +12,19 @@ use note::LIMIT;
 use note::Refusal;
 use note::Verdict;
 use note::answers::earlier;
-use note::answers::refused_if;
 use pattern::Entry;
 use pattern::Place;
 use pattern::covers;
 use pattern::entry_at;
 ghost use mathlib.Core.Path.{_≡_};
 ghost use Prim.Native.Nat.{_+_, min};
+ghost use lib.ListN.{length};
 ghost use Rattle.note.specs.Faults.{roomFaults};
 ghost use Rattle.note.specs.Notes.{lent, limit};
 ghost use Rattle.note.specs.Refusals.{also, verdict};
 ghost use Rattle.pattern.specs.Entries.{placesOf};
 ghost use Rattle.pattern.specs.Places.{listFaults};
-ghost use Rattle.replace.specs.Replacing.{Replacing, replaceFaults};
+ghost use Rattle.replace.specs.Replacing.{Replacing, publication, replaceFaults};
 ghost use Rattle.replace.specs.Sizes.{sizeOf, sizes};
 
 // What is published: how many bytes; or why nothing is.
@@ -71,21 +71,23 @@ pub fn measure(list: &[u8], wide: usize) -> usize
     total
 }
 
-// Whether a list covers the text and its result fits the room that is lent.
-fn check_list(text: &[u8], list: &[u8], wide: usize, room: usize) -> Verdict
-    ensures { λ r. ⌜ r ≡ verdict (also (listFaults (now (text .entry)) (now (list .entry)))
-        (roomFaults (sizes wide (placesOf (now (list .entry)))) (min limit room))) ⌝ }
+// Whether a list covers the text and its result fits the room that is lent; how many bytes that is.
+fn check_list(text: &[u8], list: &[u8], wide: usize, room: usize) -> Publication
+    ensures { λ r. ⌜ r ≡ publication (verdict (also (listFaults (now (text .entry)) (now (list .entry)))
+        (roomFaults (sizes wide (placesOf (now (list .entry)))) (min limit room))))
+        (sizes wide (placesOf (now (list .entry)))) ⌝ }
 {
     if !covers(text, list) {
-        return Verdict::Refused(Refusal::BadMatches);
+        return Publication::Refused(Refusal::BadMatches);
     }
-    refused_if(
-        least_of_two(LIMIT, room) < measure(list, wide),
-        Refusal::NoRoom,
-    )
+    let size = measure(list, wide);
+    if least_of_two(LIMIT, room) < size {
+        return Publication::Refused(Refusal::NoRoom);
+    }
+    Publication::Published(size)
 }
 
-// What `replace` says of a note, a list and a content beside the room that is lent.
+// What `replace` answers for a note, a list and a content beside the room that is lent.
 pub fn check_replace(
     original: &[u8],
     normalized: &[u8],
@@ -95,16 +97,17 @@ pub fn check_replace(
     list: &[u8],
     content: &[u8],
     room: usize,
-) -> Verdict
-    ensures { λ r. ⌜ r ≡ verdict (replaceFaults limit
+) -> Publication
+    ensures { λ r. ⌜ r ≡ publication (verdict (replaceFaults limit
         (lent (now (original .entry)) (now (normalized .entry))
         (now (starts .entry)) (now (ends .entry)) «original_shift»)
-        (now (list .entry)) (now (content .entry)) room) ⌝ }
+        (now (list .entry)) (now (content .entry)) room))
+        (sizes (length (now (content .entry))) (placesOf (now (list .entry)))) ⌝ }
 {
     let noted = check_note(original, normalized, starts, ends, original_shift);
     match earlier(noted, check_string(content)) {
         Verdict::Accepted => check_list(normalized, list, content.len(), room),
-        Verdict::Refused(k) => Verdict::Refused(k),
+        Verdict::Refused(k) => Publication::Refused(k),
     }
 }
 
@@ -140,16 +143,17 @@ pub fn replace(
         content,
         room,
     ) {
-        Verdict::Accepted => Publication::Published(lay_out(
+        Publication::Published(size) => Publication::Published(lay_out(
             normalized,
             starts,
             ends,
             list,
             content,
+            size,
             out,
             out_starts,
             out_ends,
         )),
-        Verdict::Refused(k) => Publication::Refused(k),
+        Publication::Refused(k) => Publication::Refused(k),
     }
 }

@@ -1,5 +1,6 @@
 -- The list, and by it the result.
 use mathlib.Core.Path.{sym}
+use native.Mathlib.Omega.{arith}
 use lib.Seq.{length-take-le}
 use borrow.Author.Needs.{needs}
 use Rattle.redact_note.proofs.Redacting.{list-long, list-ready, list-blanked}
@@ -8,13 +9,13 @@ use Rattle.redact_note.proofs.blank.Tie as tie
 
 lay-out-requires : tie.Need-lay-out-requires
 lay-out-requires c κs =
-    let listed = c .before .before .before .before .before .before in
-    list-ready _ _ _ (listed .write-list .ensures) (listed .before .before .before .before .before .before .before .before .before .before .before .pre .ready)
+    let listed = c .before .before .before .before .before .before .before .before in
+    (list-ready _ _ _ (listed .write-list .ensures) (listed .before .before .before .before .before .before .before .before .before .before .before .pre .ready), omega (arith, c .before .before .before .before .measure .ensures))
 
 returns : tie.Need-returns
 returns c =
     let laid = c .before .before .before .before .before .before in
-    list-blanked _ _ _ (laid .before .before .before .before .before .before .before .write-list .ensures) (laid .lay-out .ensures)
+    list-blanked _ _ _ (laid .before .before .before .before .before .before .before .before .before .write-list .ensures) (laid .lay-out .ensures)
 
 pub blank-spec : {M : Type 1} → statement M
 blank-spec =
@@ -23,6 +24,9 @@ blank-spec =
     (λ c κs. search needs)
     (λ c. search needs)
     (λ c. sym (length-take-le _ _ (list-long _ _ _ (c .before .before .before .write-list .ensures))))
+    (λ c κs. search needs)
+    (λ c. search needs)
+    (λ c. sym (length-take-le _ _ (list-long _ _ _ (c .before .before .before .before .before .write-list .ensures))))
     lay-out-requires
     (λ c. search needs)
     (λ c. search needs)

@@ -21,4 +21,4 @@ fill-spec =
     (λ c. search needs)
     (λ c. search needs)
     (λ c. search needs)
-    (λ c. filler-laid (c .before .before .before .before .before .before .before .before .before .before .before .before .before .before .before .before .before .before .before .pre) (c .before .before .before .before .before .before .before .before .before .before .before .before .before .char-start .ensures) (c .before .before .before .before .before .before .before .before .before .before .before .before .char-end .ensures) (c .before .before .before .before .before .before .before .before .before .before .copy-bytes-over .ensures) (c .before .before .before .before .before .before .fill-offsets-over .ensures) (c .before .before .fill-offsets-over2 .ensures)))
+    (λ c. filler-laid (c .before .before .before .before .before .before .before .before .before .before .before .before .before .before .before .before .before .before .before .pre) (c .before .before .before .before .before .before .before .before .before .before .before .before .before .char-start .ensures) (c .before .before .before .before .before .before .before .before .before .before .before .before .char-end .ensures) (c .before .before .before .before .before .before .before .before .before .before .lay-content .ensures) (c .before .before .before .before .before .before .fill-offsets-over .ensures) (c .before .before .fill-offsets-over2 .ensures)))

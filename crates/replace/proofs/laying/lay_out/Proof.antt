@@ -1,4 +1,4 @@
--- The size that was measured is within the result; below it each column is laid in blocks.
+-- Below a size that is within the result each column is laid in blocks.
 use borrow.Author.Needs.{needs}
 use Rattle.replace.proofs.Columns.{text-ready, starts-ready, ends-ready}
 use Rattle.replace.proofs.laying.lay_out.Statement.{statement}
@@ -8,10 +8,9 @@ pub lay-out-spec : {M : Type 1} → statement M
 lay-out-spec =
     tie.close
     (tie.spec
-    (λ c κs. search needs)
-    (λ c κs. starts-ready (c .before .before .before .before .before .before .before .before .before .before .pre) _ (c .before .measure .ensures))
-    (λ c κs. ends-ready (c .before .before .before .before .before .before .before .before .before .before .before .before .before .before .pre) _ (c .before .before .before .before .before .measure .ensures))
-    (λ c κs. text-ready (c .before .before .before .before .before .before .before .before .before .before .before .before .before .before .before .before .before .before .pre) _ (c .before .before .before .before .before .before .before .before .before .measure .ensures))
+    (λ c κs. let entry = c .before .before .before .before .before .before .before .before .before in starts-ready (entry .pre .0) (entry .pre .1))
+    (λ c κs. let entry = c .before .before .before .before .before .before .before .before .before .before .before .before .before in ends-ready (entry .pre .0) (entry .pre .1))
+    (λ c κs. let entry = c .before .before .before .before .before .before .before .before .before .before .before .before .before .before .before .before .before in text-ready (entry .pre .0) (entry .pre .1))
     (λ c. search needs)
     (λ c. search needs)
     (λ c. search needs)
