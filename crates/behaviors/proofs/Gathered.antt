@@ -107,7 +107,7 @@ unfolding goes unremoved
 goes-unremoved Kept p = refl
 goes-unremoved Dropped p = refl
 
-first-remains : (e : EmptyPieces) (run : Place) (ps : List Place) → remaining e (unremoved run ∷ ps) ≡ given (not (goes e run)) run ++ remaining e ps
+pub first-remains : (e : EmptyPieces) (run : Place) (ps : List Place) → remaining e (unremoved run ∷ ps) ≡ given (not (goes e run)) run ++ remaining e ps
 unfolding remaining isPiece given unremoved
 first-remains e run ps =
     rw (goes-unremoved e run) (true-or-false (not (goes e run)) (λ t. rw t) (λ f. rw f))

@@ -1,13 +1,11 @@
--- A list that is read place by place: the run that is open behind a place, what has been counted and what has been written by then.
+-- A list that is read place by place: the run that is open behind a place, and what has been counted by then.
 use Prim.Native.Nat.{ℕ, _+_, _-_, _^_, _≤_, _<_}
 use mathlib.Core.Path.{_≡_, _∙_, ap, refl, sym}
 use mathlib.Core.Bool.{Bool, true, false}
-use mathlib.Core.List.{List, [], _∷_, _++_, append-nil, map}
+use mathlib.Core.List.{List, [], _∷_, _++_}
 use native.Mathlib.Omega.{arith}
-use lib.ListN.{length, set, drop, length-append, length-map}
-use Rattle.buffers.specs.Splice.{splice, overlay}
+use lib.ListN.{length, drop, length-append}
 use Rattle.buffers.proofs.Cases.{true-or-false}
-use Rattle.buffers.proofs.Splice.{Laying, none-laid, piece-laid, all-laid, laying-size, splice-nil, store-after}
 use Rattle.pattern.specs.declared.Place.{Place}
 use Rattle.pattern.specs.declared.Entry.{Entry}
 use Rattle.pattern.specs.declared.Entry.the-variants.{At, Broken}
@@ -19,8 +17,8 @@ use Rattle.behaviors.specs.declared.SplitDelimiterBehavior.{SplitDelimit
 use Rattle.behaviors.specs.declared.EmptyPieces.{EmptyPieces}
 use Rattle.behaviors.specs.declared.Sizes.{Sizes}
 use Rattle.behaviors.specs.Splits.{unremoved, pieces}
-use Rattle.behaviors.specs.Joining.{joins, startsOf, endsOf}
-use Rattle.behaviors.specs.Runs.{onwardIf, onward, stays, over, given, runsFrom, bytesOf, sizesWith, listPieces, Listed, Addable, RunRoom, RunLaid, SpansRoom, SpansLaid}
+use Rattle.behaviors.specs.Joining.{joins}
+use Rattle.behaviors.specs.Runs.{onwardIf, onward, stays, over, given, runsFrom, bytesOf, sizesWith, listPieces, Listed, Addable}
 use Rattle.behaviors.proofs.Gathered.{runs-pieces, pieces-none}
 
 -- the places of a list from i on stand behind an open run
@@ -178,124 +176,6 @@ module _ {most : ℕ} {list : List ℕ} {b : SplitDelimiterBehavior} {e : EmptyP
   pub all-counted : placesOf (drop i list) ≡ [] → {t : Bool} {s₁ : Sizes} → t ≡ stays b e run → s₁ ≡ sizesWith s (given t run) → s₁ ≡ sizesWith none (listPieces b e list)
   unfolding runsFrom
   all-counted done met sum = sum ∙ rw met ((rw done at (k .total)))
-
--- THE COLUMNS
-map-append : (f : Place → ℕ) (xs ys : List Place) → map f (xs ++ ys) ≡ map f xs ++ map f ys
-map-append f [] ys = refl
-map-append f (x ∷ xs) ys = ap (_∷_ (f x)) (map-append f xs ys)
-
-pub store-one : (d : List ℕ) (at x : ℕ) → at < length d → set d at x ≡ splice d at (x ∷ [])
-store-one d at x h =
-    let z : at + 0 ≡ at = omega arith in
-    (rw (splice-nil d at, z) at (store-after d [] at x (omega arith)))
-
--- a run that is written, or passed over
-module _ {most : ℕ} {met : Bool} {run : Place} {starts ends : List ℕ} {at : ℕ} (r : RunRoom most met run starts ends at) where
-  pub run-room : met ≡ true → (at < length starts) × (at < length ends)
-  unfolding given
-  run-room t =
-      let a : at + 1 ≤ length starts = rw t at (r .starts-room) in
-      let z : at + 1 ≤ length ends = rw t at (r .ends-room) in
-      (omega arith, omega arith)
-
-  pub run-laid : met ≡ true → RunLaid met run starts ends at (at + 1) (set starts at (run .start .0)) (set ends at (run .end .0))
-  unfolding given unremoved
-  run-laid t =
-      record {
-        reach = rw t;
-        starts-are = rw t (store-one starts at (run .start .0) (run-room t .0));
-        ends-are = rw t (store-one ends at (run .end .0) (run-room t .1));
-      }
-
-pub run-passed : {met : Bool} {run : Place} {starts ends : List ℕ} {at : ℕ} → met ≡ false → RunLaid met run starts ends at at starts ends
-unfolding given
-run-passed {starts = starts} {ends = ends} {at = at} f =
-    record {
-      reach = rw f (omega arith);
-      starts-are = rw f (sym (splice-nil starts at));
-      ends-are = rw f (sym (splice-nil ends at));
-    }
-
--- what has been written, and the run that is open
-pub record Placing (most : ℕ) (list : List ℕ) (b : SplitDelimiterBehavior) (e : EmptyPieces) (starts₀ ends₀ : List ℕ) (run : Place) (i at : ℕ) (starts ends : List ℕ) : Type 0 where
-  pub opened : Open most list run i
-  pub starts-laid : Laying (startsOf (listPieces b e list)) (startsOf (runsFrom b e run (placesOf (drop i list)))) starts₀ at starts
-  pub ends-laid : Laying (endsOf (listPieces b e list)) (endsOf (runsFrom b e run (placesOf (drop i list)))) ends₀ at ends
-
-module _ {most : ℕ} {list : List ℕ} {b : SplitDelimiterBehavior} {e : EmptyPieces} {starts₀ ends₀ : List ℕ} (l : SpansRoom most list b e starts₀ ends₀) where
-  pub none-placed : {entry : Entry} {p : Place} {next : ℕ} → entry ≡ entryAt list 0 → entry ≡ At p next → Placing most list b e starts₀ ends₀ p next 0 starts₀ ends₀
-  none-placed is there =
-      record {
-        opened = first-open (l .listed) is there;
-        starts-laid = rw (first-pieces (l .listed) is there b e) (none-laid _ _ (rw (length-map (listPieces b e list) (λ (p : Place). p .start .0)) (l .starts-room)));
-        ends-laid = rw (first-pieces (l .listed) is there b e) (none-laid _ _ (rw (length-map (listPieces b e list) (λ (p : Place). p .end .0)) (l .ends-room)));
-      }
-
-  pub nothing-placed : listPieces b e list ≡ [] → SpansLaid (listPieces b e list) starts₀ ends₀ 0 starts₀ ends₀
-  unfolding overlay
-  nothing-placed none = record { reach = rw none; starts-are = rw none; ends-are = rw none }
-
--- one column: what a run gives, and what is left
-module _ (f : Place → ℕ) (whole q rest : List Place) {d₀ : List ℕ} {at : ℕ} {d : List ℕ} (l : Laying (map f whole) (map f (q ++ rest)) d₀ at d) where
-  column-room : at + length q ≤ length d
-  column-room =
-      let room : at + length (map f q ++ map f rest) ≤ length d = rw (map-append f q rest) at (l .room) in
-      omega (arith, length-append (map f q) (map f rest), length-map q f)
-
-  column-next : {at₁ : ℕ} {d₁ : List ℕ} → at₁ ≡ at + length q → d₁ ≡ splice d at (map f q) → Laying (map f whole) (map f rest) d₀ at₁ d₁
-  column-next here is = piece-laid (map f whole) (map f q) (map f rest) d₀ at d (rw (map-append f q rest) at l) _ _ (here ∙ rw (length-map q f)) is
-
-module _ {most : ℕ} {list : List ℕ} {b : SplitDelimiterBehavior} {e : EmptyPieces} {starts₀ ends₀ : List ℕ} {run : Place} {i at : ℕ} {starts ends : List ℕ} (k : Placing most list b e starts₀ ends₀ run i at starts ends) where
-  -- before a place
-  module _ {entry : Entry} {p : Place} {next : ℕ} (is : entry ≡ entryAt list i) (there : entry ≡ At p next) {t : Bool} (met : t ≡ over b e run p) where
-    abbrev rest : List Place
-    rest = runsFrom b e (onward b run p) (placesOf (drop next list))
-
-    stepped-runs : runsFrom b e run (placesOf (drop i list)) ≡ given t run ++ rest
-    unfolding runsFrom
-    stepped-runs = rw (entry-step list is there .places, met)
-
-    pub next-room : RunRoom most t run starts ends at
-    next-room =
-        record {
-          onward = k .opened .forward;
-          inside = omega (arith, k .opened .inside, k .opened .short);
-          starts-room = column-room (λ p. p .start .0) (listPieces b e list) (given t run) rest (rw stepped-runs at (k .starts-laid));
-          ends-room = column-room (λ p. p .end .0) (listPieces b e list) (given t run) rest (rw stepped-runs at (k .ends-laid));
-        }
-
-    pub next-placed : {at₁ : ℕ} {starts₁ ends₁ : List ℕ} {r : Place} → RunLaid t run starts ends at at₁ starts₁ ends₁ → r ≡ onward b run p → Placing most list b e starts₀ ends₀ r next at₁ starts₁ ends₁
-    next-placed laid after =
-        record {
-          opened = next-open (k .opened) is there b after;
-          starts-laid = rw after (column-next (λ p. p .start .0) (listPieces b e list) (given t run) rest (rw stepped-runs at (k .starts-laid)) (laid .reach) (laid .starts-are));
-          ends-laid = rw after (column-next (λ p. p .end .0) (listPieces b e list) (given t run) rest (rw stepped-runs at (k .ends-laid)) (laid .reach) (laid .ends-are));
-        }
-
-  -- behind the last place
-  module _ (done : placesOf (drop i list) ≡ []) {t : Bool} (met : t ≡ stays b e run) where
-    last-run : runsFrom b e run (placesOf (drop i list)) ≡ given t run ++ []
-    unfolding runsFrom
-    last-run = rw (done, met, append-nil (given (stays b e run) run))
-
-    pub last-room : RunRoom most t run starts ends at
-    last-room =
-        record {
-          onward = k .opened .forward;
-          inside = omega (arith, k .opened .inside, k .opened .short);
-          starts-room = column-room (λ p. p .start .0) (listPieces b e list) (given t run) [] (rw last-run at (k .starts-laid));
-          ends-room = column-room (λ p. p .end .0) (listPieces b e list) (given t run) [] (rw last-run at (k .ends-laid));
-        }
-
-    pub all-placed : {at₁ : ℕ} {starts₁ ends₁ : List ℕ} → RunLaid t run starts ends at at₁ starts₁ ends₁ → SpansLaid (listPieces b e list) starts₀ ends₀ at₁ starts₁ ends₁
-    all-placed laid =
-        let s = column-next (λ p. p .start .0) (listPieces b e list) (given t run) [] (rw last-run at (k .starts-laid)) (laid .reach) (laid .starts-are) in
-        let z = column-next (λ p. p .end .0) (listPieces b e list) (given t run) [] (rw last-run at (k .ends-laid)) (laid .reach) (laid .ends-are) in
-        record {
-          reach = omega (arith, laying-size _ [] _ _ _ s, length-map (listPieces b e list) (λ (p : Place). p .start .0));
-          starts-are = all-laid _ _ _ _ s;
-          ends-are = all-laid _ _ _ _ z;
-        }
 
 -- the two ways behind the last place
 pub done-broken : (list : List ℕ) {i : ℕ} {entry : Entry} → i < length list → entry ≡ entryAt list i → entry ≡ Broken → placesOf (drop i list) ≡ []

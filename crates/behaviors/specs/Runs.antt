@@ -4,7 +4,6 @@ use mathlib.Core.Path.{_≡_}
 use mathlib.Core.Bool.{Bool, true, false, cond, _&&_, not}
 use mathlib.Core.List.{List, [], _∷_, _++_}
 use lib.ListN.{length, getD}
-use Rattle.buffers.specs.Splice.{splice, overlay}
 use Rattle.pattern.specs.declared.Place.{Place}
 use Rattle.pattern.specs.Entries.{placesOf}
 use Rattle.pattern.specs.Places.{coversFrom}
@@ -12,7 +11,7 @@ use Rattle.behaviors.specs.declared.SplitDelimiterBehavior.{SplitDelimit
 use Rattle.behaviors.specs.declared.EmptyPieces.{EmptyPieces}
 use Rattle.behaviors.specs.declared.Sizes.{Sizes}
 use Rattle.behaviors.specs.Splits.{unremoved, goes, pieces}
-use Rattle.behaviors.specs.Joining.{joins, loses, startsOf, endsOf}
+use Rattle.behaviors.specs.Joining.{joins, loses}
 
 -- a run is the place from its first place's start to its last one's end, with the flag of its last; it takes one more
 -- place, or a new one begins
@@ -63,18 +62,6 @@ pub record Listed (most : ℕ) (list : List ℕ) : Type 0 where
 abbrev pub listPieces : SplitDelimiterBehavior → EmptyPieces → List ℕ → List Place
 listPieces behavior empty list = pieces behavior empty (placesOf list)
 
--- what a run gives stands in the two columns from `at` on
-pub record RunLaid (met : Bool) (run : Place) (starts₀ ends₀ : List ℕ) (at r : ℕ) (starts ends : List ℕ) : Type 0 where
-  pub reach : r ≡ at + length (given met run)
-  pub starts-are : starts ≡ splice starts₀ at (startsOf (given met run))
-  pub ends-are : ends ≡ splice ends₀ at (endsOf (given met run))
-
--- all pieces stand in front of the two columns
-pub record SpansLaid (ps : List Place) (starts₀ ends₀ : List ℕ) (r : ℕ) (starts ends : List ℕ) : Type 0 where
-  pub reach : r ≡ length ps
-  pub starts-are : starts ≡ overlay (startsOf ps) starts₀
-  pub ends-are : ends ≡ overlay (endsOf ps) ends₀
-
 -- sizes, and those of pieces with them
 unfoldable pub sizesWith : Sizes → List Place → Sizes
 sizesWith s ps = record { pieces = s .pieces + length ps; bytes = s .bytes + bytesOf ps }
@@ -84,17 +71,3 @@ pub record Addable (s : Sizes) (run : Place) : Type 0 where
   pub onward : run .start .0 ≤ run .end .0
   pub few : s .pieces + 1 < 2 ^ 64
   pub short : s .bytes + run .end .0 < 2 ^ 64
-
--- a run inside a text, and room for it where it gives a piece
-pub record RunRoom (most : ℕ) (met : Bool) (run : Place) (starts ends : List ℕ) (at : ℕ) : Type 0 where
-  pub onward : run .start .0 ≤ run .end .0
-  pub inside : run .end .0 ≤ most
-  pub starts-room : at + length (given met run) ≤ length starts
-  pub ends-room : at + length (given met run) ≤ length ends
-
--- a list, and room for its pieces
-pub record SpansRoom (most : ℕ) (list : List ℕ) (behavior : SplitDelimiterBehavior) (empty : EmptyPieces)
-    (starts ends : List ℕ) : Type 0 where
-  pub listed : Listed most list
-  pub starts-room : length (listPieces behavior empty list) ≤ length starts
-  pub ends-room : length (listPieces behavior empty list) ≤ length ends

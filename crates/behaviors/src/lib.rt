@@ -1,8 +1,5 @@
 // The behaviours of splitting (RULES 11; Rust: `SplitDelimiterBehavior`): which stretches of the cleaned text a match
-// list cuts out, measured and written. The two loops are inner functions: the list was judged before.
-pub mod wide;
-
-use buffers::Offset;
+// list cuts out, told place by place and measured.
 use pattern::Entry;
 use pattern::Place;
 use pattern::entry_at;
@@ -10,8 +7,8 @@ ghost use mathlib.Core.Path.{_≡_};
 ghost use Rattle.note.specs.Notes.{limit};
 ghost use Rattle.behaviors.specs.Splits.{goes};
 ghost use Rattle.behaviors.specs.Joining.{joins, loses};
-ghost use Rattle.behaviors.specs.Runs.{given, joinedBy, joinTable, listPieces, onwardIf, stays};
-ghost use Rattle.behaviors.specs.Runs.{Addable, Listed, RunLaid, RunRoom, SpansLaid, SpansRoom, sizesWith};
+ghost use Rattle.behaviors.specs.Runs.{Addable, given, joinedBy, joinTable, Listed, listPieces, onwardIf, sizesWith};
+ghost use Rattle.behaviors.specs.Runs.{stays};
 
 // What becomes of the delimiters, the matched places.
 pub enum SplitDelimiterBehavior {
@@ -48,7 +45,7 @@ fn joins(behavior: SplitDelimiterBehavior, before: bool, now: bool) -> bool
 }
 
 // What `joins` says of the four pairs of flags: asked once, so that a place of a list takes no case on the behaviour.
-fn join_table(behavior: SplitDelimiterBehavior) -> [bool; 4]
+pub fn join_table(behavior: SplitDelimiterBehavior) -> [bool; 4]
     ensures { λ r. ⌜ r ≡ joinTable behavior ⌝ }
 {
     [
@@ -60,7 +57,7 @@ fn join_table(behavior: SplitDelimiterBehavior) -> [bool; 4]
 }
 
 // The same by the table, for the flags of two places.
-fn joined(table: &[bool; 4], before: bool, matched: bool) -> bool
+pub fn joined(table: &[bool; 4], before: bool, matched: bool) -> bool
     ensures { λ r. ⌜ r ≡ joinedBy (now (table .entry)) before matched ⌝ }
 {
     table[before as usize * 2 + matched as usize]
@@ -80,7 +77,7 @@ fn loses(behavior: SplitDelimiterBehavior) -> bool
 }
 
 // Whether a piece is dropped for having no byte.
-fn goes(empty: EmptyPieces, run: Place) -> bool
+pub fn goes(empty: EmptyPieces, run: Place) -> bool
     ensures { λ r. ⌜ r ≡ goes empty run ⌝ }
 {
     match empty {
@@ -94,7 +91,7 @@ fn goes(empty: EmptyPieces, run: Place) -> bool
 }
 
 // The run behind the next place: drawn out to it where that belongs to it, else begun with it.
-fn onward(joined: bool, run: Place, place: Place) -> Place
+pub fn onward(joined: bool, run: Place, place: Place) -> Place
     ensures { λ r. ⌜ r ≡ onwardIf joined run place ⌝ }
 {
     if joined {
@@ -110,7 +107,7 @@ fn onward(joined: bool, run: Place, place: Place) -> Place
 }
 
 // Whether a run that is over gives a piece.
-fn stays(behavior: SplitDelimiterBehavior, empty: EmptyPieces, run: Place) -> bool
+pub fn stays(behavior: SplitDelimiterBehavior, empty: EmptyPieces, run: Place) -> bool
     ensures { λ r. ⌜ r ≡ stays behavior empty run ⌝ }
 {
     !(loses(behavior) & run.matched) & !goes(empty, run)
@@ -132,7 +129,7 @@ fn counted(sizes: Sizes, met: bool, run: Place) -> Sizes
     sizes
 }
 
-// How many pieces a list gives, and how many bytes they have.
+// How many pieces a list gives, and how many bytes they have. An inner function: the list was judged before.
 pub fn measure(list: &[u8], behavior: SplitDelimiterBehavior, empty: EmptyPieces) -> Sizes
     requires { ⌜ Listed limit (now list) ⌝ }
     ensures { λ r. ⌜ r ≡ sizesWith (record { pieces = 0; bytes = 0 })
@@ -161,53 +158,4 @@ pub fn measure(list: &[u8], behavior: SplitDelimiterBehavior, empty: EmptyPieces
         }
     }
     counted(sizes, stays(behavior, empty, run), run)
-}
-
-// A piece's two ends at `at`, where there is one; where the next piece stands.
-fn write_run(met: bool, run: Place, starts: &mut [Offset], ends: &mut [Offset], at: usize) -> usize
-    requires { ⌜ RunRoom limit met run (now starts) (now ends) at ⌝ }
-    ensures { λ r. ⌜ RunLaid met run (now (starts .entry)) (now (ends .entry)) at
-        r (now (starts .exit)) (now (ends .exit)) ⌝ }
-{
-    if met {
-        let start = run.start;
-        let end = run.end;
-        starts[at] = start.0 as Offset;
-        ends[at] = end.0 as Offset;
-        return at + 1;
-    }
-    at
-}
-
-// Where each piece of a list starts and where it ends, in front of two columns that have room for them; how many.
-pub fn write_spans(
-    list: &[u8],
-    behavior: SplitDelimiterBehavior,
-    empty: EmptyPieces,
-    starts: &mut [Offset],
-    ends: &mut [Offset],
-) -> usize
-    requires { ⌜ SpansRoom limit (now list) behavior empty (now starts) (now ends) ⌝ }
-    ensures { λ r. ⌜ SpansLaid (listPieces behavior empty (now (list .entry)))
-        (now (starts .entry)) (now (ends .entry)) r (now (starts .exit)) (now (ends .exit)) ⌝ }
-{
-    let Entry::At(first, second) = entry_at(list, 0) else {
-        return 0;
-    };
-    let table = join_table(behavior);
-    let mut run = first;
-    let mut i = second;
-    let mut at = 0;
-    while i < list.len() {
-        match entry_at(list, i) {
-            Entry::At(place, next) => {
-                let joins = joined(&table, run.matched, place.matched);
-                at = write_run(!joins & stays(behavior, empty, run), run, starts, ends, at);
-                run = onward(joins, run, place);
-                i = next;
-            }
-            Entry::Broken => break,
-        }
-    }
-    write_run(stays(behavior, empty, run), run, starts, ends, at)
 }

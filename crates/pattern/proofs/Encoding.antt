@@ -5,12 +5,14 @@ use mathlib.Core.Bool.{Bool, true, false, cond, _&&_, _||_}
 use mathlib.Mathlib.Data.Bool.Basic.{and-elim-left, and-elim-right}
 use mathlib.Core.List.{List, [], _∷_, _++_, append-assoc}
 use native.Mathlib.Omega.{arith}
+use mir.Val.{boolByte}
 use lib.Dec.{ltb, eqb}
 use lib.ListN.{length, getD, set, take, drop, length-append}
 use lib.Seq.{take-suc, set-at, length-take-le}
 use native.Mathlib.Numerals.{add-one}
 use borrow.Author.Tests.{le-leb, ltb-true}
 use Rattle.buffers.specs.Splice.{splice, Laid}
+use Rattle.buffers.proofs.Cases.{true-or-false}
 use Rattle.buffers.proofs.Splice.{length-splice, splice-splice}
 use Rattle.numbers.specs.LittleEndian.{littleEndian, valueOf}
 use Rattle.numbers.proofs.LittleEndian.{number-read-back, length-littleEndian}
@@ -88,6 +90,13 @@ store-first d r i c h =
 two : (n : ℕ) → length (littleEndian 2 n) ≡ 2
 two n = length-littleEndian 2 n
 
+command-byte : (m : Bool) → 11 + boolByte m ≡ cond m 12 11
+command-byte true = refl
+command-byte false = refl
+
+pub command-small : (m : Bool) → 11 + boolByte m < 2 ^ 8
+command-small m = rw (command-byte m) (true-or-false m (λ t. rw t (omega arith)) (λ f. rw f (omega arith)))
+
 module _ (p : Place) (d : List ℕ) {d₁ : List ℕ} (i : ℕ) (room : i + length (placeBytes p) ≤ length d) (first : d₁ ≡ splice d (i + 1) (littleEndian 2 (p .start .0))) where
   pub after-start : length d₁ ≡ length d
   after-start = ap length first ∙ length-splice d (i + 1) _ (omega (arith, length-placeBytes p, two (p .start .0)))
@@ -96,9 +105,11 @@ module _ (p : Place) (d : List ℕ) {d₁ : List ℕ} (i : ℕ) (room : i + leng
     pub after-end : length d₂ ≡ length d
     after-end = ap length second ∙ length-splice d₁ (i + 3) _ (omega (arith, length-placeBytes p, two (p .end .0), after-start)) ∙ after-start
 
-    pub place-laid : {c : ℕ} → c ≡ cond (p .matched) 12 11 → Laid (placeBytes p) d i (i + 5) (set d₂ i c)
+    pub place-laid : Laid (placeBytes p) d i (i + 5) (set d₂ i (11 + boolByte (p .matched)))
     unfolding placeBytes
-    place-laid {c} is =
+    place-laid =
+        let c : ℕ = 11 + boolByte (p .matched) in
+        let is : c ≡ cond (p .matched) 12 11 = command-byte (p .matched) in
         let long : length (placeBytes p) ≡ 5 = length-placeBytes p in
         let far : i + 3 ≡ i + 1 + length (littleEndian 2 (p .start .0)) = omega (arith, two (p .start .0)) in
         record {

@@ -2,14 +2,14 @@
 use Prim.Native.Nat.{ℕ, zero, suc, _+_, _-_, _*_, _/_, _≤_, _<_}
 use mathlib.Core.Path.{_≡_, _∙_, ap, refl, sym}
 use mathlib.Core.Bool.{Bool, true, false, cond, _&&_, _||_, or-true}
-use mathlib.Mathlib.Data.Bool.Basic.{and-elim-right}
+use mathlib.Mathlib.Data.Bool.Basic.{and-elim-left, and-elim-right}
 use mathlib.Core.List.{List, [], _∷_}
 use native.Mathlib.Omega.{arith}
 use lib.Dec.{leb, eqb}
 use lib.ListN.{length, getD, drop, length-drop, drop-of-length-le}
 use lib.Seq.{drop-cons, drop-drop, getD-drop}
 use borrow.Author.Tests.{le-leb, lt-leb, leb-true, eq-eqb, ne-eqb}
-use Rattle.buffers.proofs.Cases.{le-or-lt, true-or-false}
+use Rattle.buffers.proofs.Cases.{le-or-lt, true-or-false, clash}
 use Rattle.buffers.proofs.Booleans.{and-false-r}
 use Rattle.note.specs.declared.NormalizedByte.{NormalizedByte}
 use Rattle.pattern.specs.declared.Place.{Place}
@@ -141,3 +141,61 @@ places-few (suc k) (x ∷ l) = omega (arith, places-few k l)
 pub places-most : (l : List ℕ) → length (placesOf l) ≤ length l / 5
 unfolding placesOf
 places-most l = omega (arith, places-few 0 l)
+
+-- A LIST WITHOUT A BROKEN ENTRY has five bytes for each place, and its places stand by index
+whole-size : (k : ℕ) (l : List ℕ) → wholeFrom k l ≡ true → k ≤ length l → 5 * length (placesFrom k l) + k ≡ length l
+unfolding placesFrom wholeFrom entryAt
+whole-size k [] w h = omega arith
+whole-size zero (x ∷ l) w h =
+    true-or-false (test (x ∷ l) 0)
+    (λ t.
+    let rest : wholeFrom 4 l ≡ true = rw t at w in
+    rw t (omega (arith, whole-size 4 l rest (omega (arith, leb-true 5 (length (x ∷ l)) (and-elim-right (eqb x 11 || eqb x 12) _ t))))))
+    (λ f. clash false (rw f at w) refl)
+whole-size (suc k) (x ∷ l) w h = omega (arith, whole-size k l w (omega arith))
+
+whole-count : (l : List ℕ) → whole l ≡ true → 5 * length (placesOf l) ≡ length l
+unfolding placesOf whole
+whole-count l w = omega (arith, whole-size 0 l w (omega arith))
+
+pub places-exact : (l : List ℕ) → whole l ≡ true → length (placesOf l) ≡ length l / 5
+places-exact l w = omega (arith, whole-count l w)
+
+broken-at : (l : List ℕ) (i : ℕ) → test l i ≡ false → entryAt l i ≡ Broken
+unfolding entryAt
+broken-at l i f = rw f
+
+whole-step : (l : List ℕ) (i : ℕ) → i < length l → whole (drop i l) ≡ true → Stepped l i (placeAt l i) (i + 5)
+whole-step l i h w =
+    true-or-false (test l i)
+    (λ t. entry-step l refl (entry-known l i (leb-true (i + 5) (length l) (and-elim-right (eqb (getD l i 0) 11 || eqb (getD l i 0) 12) _ t)) (and-elim-left _ (leb (i + 5) (length l)) t)))
+    (λ f. clash (whole (drop i l)) w (entry-broken l h refl (broken-at l i f) .1))
+
+record Indexed (l : List ℕ) (k : ℕ) : Type 0 where
+  places : drop k (placesOf l) ≡ placesOf (drop (5 * k) l)
+  unbroken : whole (drop (5 * k) l) ≡ true
+
+indexed : (l : List ℕ) → whole l ≡ true → (k : ℕ) → k ≤ length (placesOf l) → Indexed l k
+indexed l w zero h = record { places = refl; unbroken = w }
+indexed l w (suc k) h =
+    let so-far : Indexed l k = indexed l w k (omega arith) in
+    let st : Stepped l (5 * k) (placeAt l (5 * k)) (5 * k + 5) = whole-step l (5 * k) (omega (arith, whole-count l w)) (so-far .unbroken) in
+    let far : 5 * k + 5 ≡ 5 * suc k = omega arith in
+    let one : k + 1 ≡ suc k = omega arith in
+    record {
+      places = rw (← far, ← one, ← drop-drop 1 k (placesOf l), so-far .places, st .places);
+      unbroken = rw far at (sym (st .wholes) ∙ so-far .unbroken);
+    }
+
+module _ (l : List ℕ) (w : whole l ≡ true) (k : ℕ) (h : k < length (placesOf l)) where
+  pub place-inside : 5 * k + 5 ≤ length l
+  place-inside = omega (arith, whole-count l w)
+
+  pub place-there : {start end : NormalizedByte} → start ≡ positionAt l (5 * k + 1) → end ≡ positionAt l (5 * k + 3) → drop k (placesOf l) ≡ record { start = start; end = end; matched = eqb (getD l (5 * k) 0) 12 } ∷ drop (k + 1) (placesOf l)
+  unfolding placeAt
+  place-there s e =
+      let here : Indexed l k = indexed l w k (omega arith) in
+      let next : Indexed l (k + 1) = indexed l w (k + 1) (omega arith) in
+      let st : Stepped l (5 * k) (placeAt l (5 * k)) (5 * k + 5) = whole-step l (5 * k) (omega (arith, whole-count l w)) (here .unbroken) in
+      let far : 5 * (k + 1) ≡ 5 * k + 5 = omega arith in
+      rw (here .places, next .places, far, s, e) (st .places)

@@ -8,9 +8,11 @@ use note::NormalizedByte;
 use numbers::little_endian::get_u16_le;
 use utf8::is_char_boundary;
 ghost use mathlib.Core.Path.{_≡_};
-ghost use Prim.Native.Nat.{_+_, _≤_};
-ghost use lib.ListN.{length};
-ghost use Rattle.pattern.specs.Entries.{entryAt, placesOf, positionAt};
+ghost use mathlib.Core.Bool.{true};
+ghost use mathlib.Core.List.{_∷_};
+ghost use Prim.Native.Nat.{_+_, _≤_, _<_};
+ghost use lib.ListN.{length, drop};
+ghost use Rattle.pattern.specs.Entries.{entryAt, placesOf, positionAt, whole};
 ghost use Rattle.pattern.specs.Places.{covers, fitsAt};
 
 // A place of the cleaned text, and whether the pattern matched there (Rust: `(Offsets, bool)`).
@@ -67,11 +69,28 @@ pub fn entry_at(list: &[u8], i: usize) -> Entry
     )
 }
 
-// As many places as a list can have at most.
+// As many places as a list can have at most, and has where no entry is broken.
 pub fn most_places(list: &[u8]) -> usize
-    ensures { λ r. ⌜ length (placesOf (now (list .entry))) ≤ r ⌝ }
+    ensures { λ r. ⌜ (length (placesOf (now (list .entry))) ≤ r)
+        × (whole (now (list .entry)) ≡ true → length (placesOf (now (list .entry))) ≡ r) ⌝ }
 {
     list.len() / 5
+}
+
+// The place `k` of a list. An inner function: the list was judged before.
+pub fn place_at(list: &[u8], k: usize) -> Place
+    requires { ⌜ (whole (now list) ≡ true) × (k < length (placesOf (now list))) ⌝ }
+    ensures { λ r. ⌜ drop k (placesOf (now (list .entry))) ≡ r ∷ drop (k + 1) (placesOf (now (list .entry))) ⌝ }
+{
+    let i = 5 * k;
+    let start = position_at(list, i + 1);
+    let end = position_at(list, i + 3);
+    let matched = list[i] == 12;
+    Place {
+        start,
+        end,
+        matched,
+    }
 }
 
 // Whether a place can stand behind one that ended at `at`.

@@ -3,21 +3,12 @@ use crate::MOST;
 use crate::Place;
 use numbers::little_endian::put_u16_le;
 ghost use mathlib.Core.Path.{_≡_};
-ghost use mathlib.Core.Bool.{cond, true};
+ghost use mathlib.Core.Bool.{true};
 ghost use Prim.Native.Nat.{_+_, _≤_};
 ghost use lib.ListN.{length};
 ghost use Rattle.buffers.specs.Splice.{Laid};
 ghost use Rattle.note.specs.Notes.{limit};
 ghost use Rattle.pattern.specs.Encoding.{placeBytes, roomFor, writable};
-
-fn command_of(matched: bool) -> u8
-    ensures { λ r. ⌜ r ≡ cond matched 12 11 ⌝ }
-{
-    if matched {
-        return 12;
-    }
-    11
-}
 
 // Bytes that are enough for so many places; a text's matches have no more places than this demands.
 pub fn room_for(places: usize) -> usize
@@ -36,6 +27,6 @@ pub fn write_place(place: Place, out: &mut [u8], i: usize) -> usize
     let end = place.end;
     put_u16_le(start.0 as u16, out, i + 1);
     put_u16_le(end.0 as u16, out, i + 3);
-    out[i] = command_of(place.matched);
+    out[i] = 11 + place.matched as u8;
     i + 5
 }

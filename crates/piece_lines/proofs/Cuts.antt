@@ -21,10 +21,12 @@ use Rattle.note.specs.Refusals.{verdict}
 use Rattle.note.specs.Starting.{starting}
 use Rattle.pattern.specs.declared.Place.{Place}
 use Rattle.pattern.specs.Entries.{placesOf}
+use Rattle.pattern.proofs.Places.{covers-places, covers-whole}
 use Rattle.behaviors.specs.declared.SplitDelimiterBehavior.{SplitDelimiterBehavior}
 use Rattle.behaviors.specs.declared.EmptyPieces.the-variants.{Kept}
 use Rattle.behaviors.specs.Joining.{startsOf, endsOf}
-use Rattle.behaviors.specs.Runs.{bytesOf, listPieces, SpansLaid, SpansRoom}
+use Rattle.behaviors.specs.Runs.{bytesOf, listPieces}
+use Rattle.spans.specs.Packing.{SpansLaid, SpansRoom}
 use Rattle.piece_lines.specs.Input.{longest}
 use Rattle.piece_lines.specs.Spans.{line, spanLines, piecesWord, spansText, Spans, Cuttable}
 use Rattle.piece_lines.specs.Printing.{most, piecesText}
@@ -53,20 +55,24 @@ text-bounded text brief ps l own few =
 
 module _ {list text : List ℕ} (c : Cuttable list text) (behavior : SplitDelimiterBehavior) where
   lie : AllLie text (listPieces behavior Kept list) × (bytesOf (listPieces behavior Kept list) ≤ length text)
-  lie = pieces-lie text behavior Kept (placesOf list) (boundary-zero text (c .formed)) (c .covered)
+  lie = pieces-lie text behavior Kept (placesOf list) (boundary-zero text (c .formed)) (covers-places text list (c .covered))
 
   few : length (listPieces behavior Kept list) ≤ 2 * longest + 1
   few = omega (arith, pieces-few behavior Kept (placesOf list), c .few)
 
-  pub spans-room : {starts ends : List ℕ} → 2 * longest + 1 ≡ length starts → 2 * longest + 1 ≡ length ends → SpansRoom limit list behavior Kept starts ends
-  spans-room s e =
+  pub spans-room : {spans starts ends : List ℕ} → 2 * longest + 1 ≡ length spans → 2 * longest + 1 ≡ length starts → 2 * longest + 1 ≡ length ends → SpansRoom limit list behavior Kept spans starts ends
+  spans-room p s e =
       record {
-        listed = record { text = text; short = omega (arith, c .brief); covered = c .covered };
+        packed-room = record {
+          listed = record { text = text; short = omega (arith, c .brief); covered = covers-places text list (c .covered) };
+          unbroken = covers-whole text list (c .covered);
+          room = omega (arith, few);
+        };
         starts-room = omega (arith, few);
         ends-room = omega (arith, few);
       }
 
-  module _ {starts₀ ends₀ : List ℕ} {r : ℕ} {starts ends : List ℕ} (l : SpansLaid (listPieces behavior Kept list) starts₀ ends₀ r starts ends) where
+  module _ {spans₀ starts₀ ends₀ : List ℕ} {r : ℕ} {spans starts ends : List ℕ} (l : SpansLaid (listPieces behavior Kept list) spans₀ starts₀ ends₀ r spans starts ends) where
     starts-count : length (startsOf (listPieces behavior Kept list)) ≡ r
     starts-count = length-map (listPieces behavior Kept list) _ ∙ sym (l .reach)
 

@@ -28,7 +28,7 @@ use Rattle.find.specs.declared.Matches.{Matches}
 use Rattle.find.specs.declared.Matches.the-variants.{Written, Refused}
 use Rattle.find.specs.Matching.{foundPlaces}
 use Rattle.find.specs.Finding.{foundBytes, findFaults, matchesOf, Finding}
-use Rattle.find.proofs.FoundPlaces.{found-cases, places-cover, found-read, count-longest}
+use Rattle.find.proofs.FoundPlaces.{found-cases, found-covers, found-read, count-longest}
 use Rattle.behaviors.specs.declared.SplitDelimiterBehavior.{SplitDelimiterBehavior}
 use Rattle.behaviors.specs.declared.EmptyPieces.the-variants.{Kept}
 use Rattle.behaviors.specs.Runs.{listPieces}
@@ -62,7 +62,7 @@ found-cuttable literal note e =
     record {
       brief = brief;
       formed = formed;
-      covered = rw read (places-cover note literal formed (text-formed longest literal first));
+      covered = found-covers note literal formed (text-formed longest literal first) (omega arith);
       few = rw read (omega (arith, places-few note literal));
     }
 

@@ -8,7 +8,7 @@ use Rattle.buffers.specs.Splice.{part}
 use Rattle.utf8.specs.Formed.{wellFormed}
 use Rattle.numbers.specs.Decimal.{field}
 use Rattle.pattern.specs.Entries.{placesOf}
-use Rattle.pattern.specs.Places.{coversFrom}
+use Rattle.pattern.specs.Places.{covers}
 use Rattle.piece_lines.specs.Input.{longest}
 
 -- a line: start, end, and the bytes
@@ -39,5 +39,5 @@ pub record Spans (text starts ends : List ℕ) : Type 0 where
 pub record Cuttable (list text : List ℕ) : Type 0 where
   pub brief : length text ≤ longest
   pub formed : wellFormed text ≡ true
-  pub covered : coversFrom text 0 (placesOf list) ≡ true
+  pub covered : covers text list ≡ true
   pub few : length (placesOf list) ≤ 2 * longest + 1

@@ -5,7 +5,6 @@ pub mod lines;
 
 use behaviors::EmptyPieces;
 use behaviors::SplitDelimiterBehavior;
-use behaviors::write_spans;
 use buffers::Offset;
 use find::Matches;
 use find::find_matches;
@@ -17,6 +16,7 @@ use lines::write_lines;
 use note::Refusal;
 use note::answers::number;
 use pattern::MOST;
+use spans::write_spans;
 ghost use mathlib.Core.Path.{_≡_};
 ghost use Prim.Native.Nat.{_+_, _*_, _≤_};
 ghost use lib.ListN.{length};
@@ -60,6 +60,13 @@ fn column_buffer() -> [Offset; SPANS]
     [0; SPANS]
 }
 
+// Zeros for both ends of each piece.
+fn span_buffer() -> [u32; SPANS]
+    ensures { λ r. ⌜ 2 * longest + 1 ≡ length r ⌝ }
+{
+    [0; SPANS]
+}
+
 // The behaviour that a digit chooses.
 fn behavior_of(digit: u8) -> SplitDelimiterBehavior
     ensures { λ r. ⌜ r ≡ behaviorOf digit ⌝ }
@@ -98,9 +105,17 @@ fn write_cut(list: &[u8], behavior: SplitDelimiterBehavior, text: &[u8], out: &m
     ensures { λ r. ⌜ Laid (piecesText (starting (now (text .entry))) (listPieces behavior Kept (now (list .entry))))
         (now (out .entry)) 0 r (now (out .exit)) ⌝ }
 {
+    let mut spans = span_buffer();
     let mut starts = column_buffer();
     let mut ends = column_buffer();
-    let count = write_spans(list, behavior, EmptyPieces::Kept, &mut starts, &mut ends);
+    let count = write_spans(
+        list,
+        behavior,
+        EmptyPieces::Kept,
+        &mut spans,
+        &mut starts,
+        &mut ends,
+    );
     write_pieces(text, &starts[..count], &ends[..count], out)
 }
 

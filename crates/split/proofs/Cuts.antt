@@ -180,3 +180,7 @@ ends-are n ps = refl
 pub pieces-long : (n : Note) (ps : List Place) → length (cut n ps .starts) ≡ length ps
 unfolding cut
 pieces-long n ps = length-map ps (λ (p : Place). p .start .0)
+
+pub shifts-long : (n : Note) (ps : List Place) (f : Place → ℕ) → length (cut n ps .shifts) ≡ length (map f ps)
+unfolding cut
+shifts-long n ps f = length-map ps (λ p. pieceOf n p .«original_shift») ∙ sym (length-map ps f)

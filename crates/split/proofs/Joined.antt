@@ -14,7 +14,7 @@ use Rattle.buffers.proofs.Over.{over-exact, over-front, through, Reaching, none
 use Rattle.slice.specs.Slicing.{lowered}
 use Rattle.slice.specs.Writing.{Lowerable}
 use Rattle.slice.proofs.Lowered.{length-lowered, part-lowered}
-use Rattle.behaviors.proofs.Runs.{store-one}
+use Rattle.spans.proofs.Packing.{store-one}
 use Rattle.split.specs.PieceSlices.{bytesBefore}
 use Rattle.split.specs.Writing.{fromStart, toEnd, shiftOf, lengthOf, columnOf, joined, Inside, ShiftsRoom, LengthsRoom, ColumnRoom, ColumnsRoom, ColumnsLaid, BlockRoom, StretchRoom, BothRoom}
 

@@ -6,7 +6,7 @@ use mathlib.Core.List.{List}
 use native.Mathlib.Omega.{arith}
 use lib.ListN.{length, take, length-map}
 use borrow.Author.Tests.{not-true, not-false, le-leb, lt-leb}
-use Rattle.buffers.proofs.Splice.{take-overlay, overlay-long}
+use Rattle.buffers.proofs.Splice.{take-overlay, overlay-long, length-overlay, overlay-overlay}
 use Rattle.note.specs.declared.Refusal.{Refusal}
 use Rattle.note.specs.declared.Refusal.the-variants.{BadMatches, NoRoom}
 use Rattle.note.specs.declared.Verdict.{Verdict}
@@ -18,22 +18,23 @@ use Rattle.note.proofs.Verdicts.{accepted-first, accepted-second, accepted-meet
 use Rattle.note.proofs.Faults.{accepted-sound, room-enough}
 use Rattle.note.proofs.Sound.{length-starts, length-ends}
 use Rattle.pattern.specs.declared.Place.{Place}
-use Rattle.pattern.specs.Entries.{placesOf}
+use Rattle.pattern.specs.Entries.{placesOf, whole as unbroken}
 use Rattle.pattern.specs.Places.{coversFrom, covers, listFaults}
-use Rattle.pattern.proofs.Places.{covers-places}
+use Rattle.pattern.proofs.Places.{covers-places, covers-whole}
 use Rattle.slice.proofs.Judged.{Short, accepted-short}
 use Rattle.behaviors.specs.declared.SplitDelimiterBehavior.{SplitDelimiterBehavior}
 use Rattle.behaviors.specs.declared.EmptyPieces.{EmptyPieces}
 use Rattle.behaviors.specs.declared.Sizes.{Sizes}
 use Rattle.behaviors.specs.Joining.{startsOf, endsOf}
-use Rattle.behaviors.specs.Runs.{bytesOf, sizesWith, listPieces, Listed, SpansRoom, SpansLaid}
+use Rattle.behaviors.specs.Runs.{bytesOf, sizesWith, listPieces, Listed}
 use Rattle.behaviors.proofs.Runs.{pieces-few}
+use Rattle.spans.specs.Packing.{packed, packedOf, SpansRoom, SpansLaid}
 use Rattle.split.specs.declared.Pieces.{Pieces}
 use Rattle.split.specs.declared.Pieces.the-variants.{Cut, Refused}
 use Rattle.split.specs.Splitting.{Columns, cutBy, splitFaults, cutUnlessRefused, pieceRoom, alignmentRoom, Splitting}
 use Rattle.split.specs.PieceSlices.{bytesBefore}
 use Rattle.split.specs.Writing.{Spans, ColumnsRoom, ColumnsLaid, Countable, CutInto}
-use Rattle.split.proofs.Cuts.{pieces-spans, pieces-short, bytes-counted, in-order, starts-above, ends-above, shifts-are, lengths-are, alignment-starts-are, alignment-ends-are, starts-long, ends-long, alignments-long, starts-are, ends-are, pieces-long}
+use Rattle.split.proofs.Cuts.{pieces-spans, pieces-short, bytes-counted, in-order, starts-above, ends-above, shifts-are, lengths-are, alignment-starts-are, alignment-ends-are, starts-long, ends-long, alignments-long, starts-are, ends-are, pieces-long, shifts-long}
 
 -- the list, then the two rooms
 module _ (text list : List ℕ) (pieces alignments forPieces forAlignments : ℕ) where
@@ -142,10 +143,16 @@ module _ (most : ℕ) (n : Note) (list : List ℕ) (b : SplitDelimiterBehavior) 
   rest-ok : verdict (also (listFaults (n .normalized) list) rooms) ≡ Accepted
   rest-ok = accepted-second (noteFaults most n) (also (listFaults (n .normalized) list) rooms) ok
 
+  covers-list : covers (n .normalized) list ≡ true
+  covers-list =
+      not-false (covers (n .normalized) list)
+      (accepted-meets (listFaults (n .normalized) list) (accepted-first (listFaults (n .normalized) list) rooms rest-ok) BadMatches)
+
   pub cut-covered : coversFrom (n .normalized) 0 (placesOf list) ≡ true
-  cut-covered =
-      covers-places (n .normalized) list (not-false (covers (n .normalized) list)
-      (accepted-meets (listFaults (n .normalized) list) (accepted-first (listFaults (n .normalized) list) rooms rest-ok) BadMatches))
+  cut-covered = covers-places (n .normalized) list covers-list
+
+  pub cut-unbroken : unbroken list ≡ true
+  cut-unbroken = covers-whole (n .normalized) list covers-list
 
   rooms-ok : verdict rooms ≡ Accepted
   rooms-ok = accepted-second (listFaults (n .normalized) list) rooms rest-ok
@@ -177,15 +184,22 @@ module _ (most : ℕ) (n : Note) (list : List ℕ) (b : SplitDelimiterBehavior) 
   inside : Spans (length (n .normalized)) (startsOf ps) (endsOf ps)
   inside = cut-spans most n list b e (pieceRoom c) (alignmentRoom c) ok
 
-  pub spans-room : SpansRoom most list b e (c .starts) (c .ends)
+  pub spans-room : SpansRoom most list b e (c .shifts) (c .starts) (c .ends)
   spans-room =
       record {
-        listed = record { text = n .normalized; short = cut-short most n list b e (pieceRoom c) (alignmentRoom c) ok .normalized-short; covered = cut-covered most n list b e (pieceRoom c) (alignmentRoom c) ok };
+        packed-room = record {
+          listed = record { text = n .normalized; short = cut-short most n list b e (pieceRoom c) (alignmentRoom c) ok .normalized-short; covered = cut-covered most n list b e (pieceRoom c) (alignmentRoom c) ok };
+          unbroken = cut-unbroken most n list b e (pieceRoom c) (alignmentRoom c) ok;
+          room = omega (arith, fit);
+        };
         starts-room = omega (arith, fit);
         ends-room = omega (arith, fit);
       }
 
-  module _ {count : ℕ} {starts ends : List ℕ} (l : SpansLaid ps (c .starts) (c .ends) count starts ends) where
+  module _ {count : ℕ} {packings starts ends : List ℕ} (l : SpansLaid ps (c .shifts) (c .starts) (c .ends) count packings starts ends) where
+    packings-long : length packings ≡ length (c .shifts)
+    packings-long = rw (l .spans-are) (length-overlay (packedOf ps) (c .shifts) (rw (length-map ps packed) (omega (arith, fit))))
+
     starts-count : length (startsOf ps) ≡ count
     starts-count = length-map ps (λ (p : Place). p .start .0) ∙ sym (l .reach)
 
@@ -220,14 +234,14 @@ module _ (most : ℕ) (n : Note) (list : List ℕ) (b : SplitDelimiterBehavior) 
       total-is : alignments ≡ bytesOf ps
       total-is = total ∙ rw (from-is, to-is, length-map ps (λ (p : Place). p .start .0)) (bytes-counted ps)
 
-      pub columns-room : ColumnsRoom most (n .starts) (n .ends) (take count starts) (take count ends) (n .original-shift) alignments (c .shifts) (c .lengths) (c .alignment-starts) (c .alignment-ends)
+      pub columns-room : ColumnsRoom most (n .starts) (n .ends) (take count starts) (take count ends) (n .original-shift) alignments packings (c .lengths) (c .alignment-starts) (c .alignment-ends)
       columns-room =
           rw (from-is, to-is)
           (record {
             shifts-room = record {
               spans = spans-of;
               low = cut-short most n list b e (pieceRoom c) (alignmentRoom c) ok .shift-low;
-              room = omega (arith, fit, starts-count, l .reach);
+              room = omega (arith, fit, starts-count, l .reach, packings-long);
             };
             lengths-room = record {
               spans = spans-of;
@@ -252,7 +266,7 @@ module _ (most : ℕ) (n : Note) (list : List ℕ) (b : SplitDelimiterBehavior) 
           })
 
       pub all-cut : {shifts lengths alignmentStarts alignmentEnds : List ℕ}
-          → ColumnsLaid (n .starts) (n .ends) (take count starts) (take count ends) (n .original-shift) (c .shifts) (c .lengths) (c .alignment-starts) (c .alignment-ends) shifts lengths alignmentStarts alignmentEnds
+          → ColumnsLaid (n .starts) (n .ends) (take count starts) (take count ends) (n .original-shift) packings (c .lengths) (c .alignment-starts) (c .alignment-ends) shifts lengths alignmentStarts alignmentEnds
           → CutInto n list b e c (Cut count alignments) (record { starts = starts; ends = ends; shifts = shifts; lengths = lengths; alignment-starts = alignmentStarts; alignment-ends = alignmentEnds })
       all-cut w =
           let counts : count ≡ length (cutBy n list b e .starts) = l .reach ∙ sym (pieces-long n ps) in
@@ -261,7 +275,7 @@ module _ (most : ℕ) (n : Note) (list : List ℕ) (b : SplitDelimiterBehavior) 
             answer = λ i. Cut (counts i) (bytes i);
             starts-are = l .starts-are ∙ rw (starts-are n ps);
             ends-are = l .ends-are ∙ rw (ends-are n ps);
-            shifts-are = w .shifts-are ∙ rw (from-is, to-is, shifts-are n good ps inside);
+            shifts-are = w .shifts-are ∙ rw (from-is, to-is, shifts-are n good ps inside, l .spans-are) (overlay-overlay _ (packedOf ps) (c .shifts) (ap length (sym (shifts-are n good ps inside)) ∙ shifts-long n ps packed));
             lengths-are = w .lengths-are ∙ rw (from-is, to-is, lengths-are n good ps inside);
             alignment-starts-are = w .starts-are ∙ rw (from-is, to-is, alignment-starts-are n good ps inside);
             alignment-ends-are = w .ends-are ∙ rw (from-is, to-is, alignment-ends-are n good ps inside);

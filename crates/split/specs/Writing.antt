@@ -90,6 +90,13 @@ pub record Countable (most : ℕ) (from to : List ℕ) : Type 0 where
   pub forward : (k : ℕ) → k < length from → getD from k 0 ≤ getD to k 0
   pub few : bytesBefore from to (length from) ≤ most
 
+-- a piece that has some bytes, at most 16, of a text that has 16 from there on; a block from `at` on stays below `until`
+pub record BlockFits (from to size at until : ℕ) : Type 0 where
+  pub some : from < to
+  pub few : to - from ≤ 16
+  pub inside : 16 ≤ size - from
+  pub below : at + 16 ≤ until
+
 -- room for a block of a column, and no number of it is below `base`
 pub record BlockRoom (column : List ℕ) (i base : ℕ) (out : List ℕ) (at : ℕ) : Type 0 where
   pub inside : i + 16 ≤ length column

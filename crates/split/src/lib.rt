@@ -3,7 +3,6 @@
 use behaviors::EmptyPieces;
 use behaviors::SplitDelimiterBehavior;
 use behaviors::measure;
-use behaviors::write_spans;
 use buffers::Offset;
 use buffers::copy_offsets;
 use checks::check_note;
@@ -13,8 +12,10 @@ use note::Verdict;
 use pattern::covers;
 use pattern::most_places;
 use slice::write_lowered;
+use spans::write_spans;
 ghost use mathlib.Core.Path.{_≡_};
-ghost use Prim.Native.Nat.{_+_};
+ghost use mathlib.Core.Bool.{true};
+ghost use Prim.Native.Nat.{_+_, _^_, _≤_, _<_};
 ghost use lib.ListN.{length};
 ghost use Rattle.buffers.specs.Over.{Over};
 ghost use Rattle.buffers.specs.Splice.{part, splice};
@@ -24,8 +25,8 @@ ghost use Rattle.note.specs.Refusals.{verdict};
 ghost use Rattle.slice.specs.Slicing.{lowered};
 ghost use Rattle.split.specs.PieceSlices.{bytesBefore};
 ghost use Rattle.split.specs.Splitting.{alignmentRoom, columns, pieceRoom, splitFaults, Splitting};
-ghost use Rattle.split.specs.Writing.{BlockRoom, BothRoom, ColumnsLaid, ColumnsRoom, Countable, CutInto};
-ghost use Rattle.split.specs.Writing.{fromStart, Inside, toEnd};
+ghost use Rattle.split.specs.Writing.{BlockFits, BlockRoom, BothRoom, ColumnsLaid, ColumnsRoom, Countable};
+ghost use Rattle.split.specs.Writing.{CutInto, fromStart, Inside, toEnd};
 
 // What `split` says: how many pieces there are, and how many alignments they have; or why there are none.
 pub enum Pieces {
@@ -81,6 +82,24 @@ fn lower_block(column: &[Offset], i: usize, base: Offset, out: &mut [Offset], at
     copy_offsets(&block, out, at);
 }
 
+// Whether the piece from..to of a text of `size` bytes has some, and can be laid as the front of a block: the text has
+// 16 bytes from there on, and the block stays below `until`.
+fn has_block(from: usize, to: usize, size: usize, at: usize, until: usize) -> bool
+    requires { ⌜ (from ≤ size) × (at + 16 < 2 ^ 64) ⌝ }
+    ensures { λ r. ⌜ (r ≡ true → BlockFits from to size at until) ⌝ }
+{
+    if to <= from {
+        return false;
+    }
+    if 16 < to - from {
+        return false;
+    }
+    if size - from < 16 {
+        return false;
+    }
+    at + 16 <= until
+}
+
 // The alignments of the piece from..to, each less `base`, stand in the two columns from `at` on. Those of a short piece
 // are laid as the front of a block, so that no loop's number of turns is its length; what the block has behind them
 // stays below `until`.
@@ -101,16 +120,10 @@ fn lower_piece(
         × Over (lowered base (part (now (ends .entry)) from to)) (now («out_ends» .entry)) at until
         (now («out_ends» .exit)) ⌝ }
 {
-    if from < to {
-        if to - from <= 16 {
-            if 16 <= starts.len() - from {
-                if at + 16 <= until {
-                    lower_block(starts, from, base, out_starts, at);
-                    lower_block(ends, from, base, out_ends, at);
-                    return;
-                }
-            }
-        }
+    if has_block(from, to, starts.len(), at, until) {
+        lower_block(starts, from, base, out_starts, at);
+        lower_block(ends, from, base, out_ends, at);
+        return;
     }
     write_lowered(&starts[from..to], base, out_starts, at);
     write_lowered(&ends[from..to], base, out_ends, at);
@@ -139,12 +152,14 @@ fn write_columns(
     let mut at = 0;
     let mut k = 0;
     while k < from.len() {
-        let start = original_start(starts, from[k], to[k]);
-        let end = original_end(ends, from[k], to[k]);
+        let first = from[k];
+        let past = to[k];
+        let start = original_start(starts, first, past);
+        let end = original_end(ends, first, past);
         shifts[k] = shift + start as u32;
         lengths[k] = end - start;
-        let a = from[k] as usize;
-        let b = to[k] as usize;
+        let a = first as usize;
+        let b = past as usize;
         lower_piece(starts, ends, a, b, start, out_starts, out_ends, at, until);
         at += b - a;
         k += 1;
@@ -223,7 +238,14 @@ fn write_pieces(
         (columns (now («piece_starts» .exit)) (now («piece_ends» .exit)) (now («piece_shifts» .exit))
         (now («piece_lengths» .exit)) (now («out_starts» .exit)) (now («out_ends» .exit))) ⌝ }
 {
-    let count = write_spans(list, behavior, empty, piece_starts, piece_ends);
+    let count = write_spans(
+        list,
+        behavior,
+        empty,
+        piece_shifts,
+        piece_starts,
+        piece_ends,
+    );
     let from = &piece_starts[..count];
     let to = &piece_ends[..count];
     let alignments = byte_count(from, to);

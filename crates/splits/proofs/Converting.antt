@@ -1,18 +1,19 @@
 -- Columns of spans that become offsets, one piece after the other: none yet, one more, all of them.
-use Prim.Native.Nat.{ℕ, suc, _+_, _-_, _≤_, _<_}
+use Prim.Native.Nat.{ℕ, zero, suc, _+_, _-_, _≤_, _<_}
 use mathlib.Core.Path.{_≡_, _∙_, ap, refl, sym}
 use mathlib.Core.Bool.{true, _&&_}
-use mathlib.Core.List.{List, [], _∷_, _++_}
+use mathlib.Core.List.{List, [], _∷_, _++_, map}
 use mathlib.Mathlib.Data.Bool.Basic.{and-elim-left, and-elim-right}
 use native.Mathlib.Numerals.{add-one}
 use native.Mathlib.Omega.{arith}
 use lib.Dec.{leb, ltb}
-use lib.ListN.{length, getD, set, take, drop, length-take, drop-of-length-le}
+use lib.ListN.{length, getD, set, take, drop, length-map, drop-of-length-le}
 use lib.Seq.{drop-cons, getD-take, getD-drop, length-take-le}
 use borrow.Author.Tests.{leb-true, ltb-true}
 use Rattle.buffers.proofs.Cases.{clash}
 use Rattle.buffers.proofs.Splice.{Laying, none-laid, piece-laid, all-laid}
-use Rattle.behaviors.proofs.Runs.{store-one}
+use Rattle.spans.specs.Packing.{startIn, endIn}
+use Rattle.spans.proofs.Packing.{store-one}
 use Rattle.char_offsets.specs.Positions.{indexOf}
 use Rattle.char_offsets.specs.Steps.{IndexKnown}
 use Rattle.convert.specs.declared.OffsetReferential.{OffsetReferential}
@@ -56,18 +57,30 @@ unwritten {d₀ = d₀} {k = k} {d = d} l =
     let here : k + 0 ≡ k = omega arith in
     ap (λ (i : ℕ). getD d i 0) (sym here) ∙ sym (getD-drop k d 0 0) ∙ ap (λ (xs : List ℕ). getD xs 0 0) (l .beyond) ∙ getD-drop k d₀ 0 0 ∙ ap (λ (i : ℕ). getD d₀ i 0) here
 
+-- an element of a column whose numbers become others
+getD-map : (f : ℕ → ℕ) (xs : List ℕ) (k : ℕ) → k < length xs → getD (map f xs) k 0 ≡ f (getD xs k 0)
+getD-map f [] k h = absurd (omega arith)
+getD-map f (x ∷ xs) zero h = refl
+getD-map f (x ∷ xs) (suc k) h = getD-map f xs k (omega arith)
+
 abbrev each : (List ℕ → OffsetType → ℕ → ℕ → ℕ) → List ℕ → List ℕ → List ℕ → ℕ → OffsetReferential → OffsetType → ℕ → List ℕ → List ℕ → List ℕ
 each number original starts ends shift side unit sum from to = eachSpan (number original unit) starts ends shift side sum from to
 
+abbrev firsts : ℕ → List ℕ → List ℕ
+firsts count spans = map startIn (take count spans)
+
+abbrev lasts : ℕ → List ℕ → List ℕ
+lasts count spans = map endIn (take count spans)
+
 -- what is written of the first `count` pieces, and what is known behind it
-pub record Converting (most : ℕ) (original starts ends : List ℕ) (shift : ℕ) (side : OffsetReferential) (unit : OffsetType) (count : ℕ) (from₀ to₀ : List ℕ) (first last : Cursor) (sum k : ℕ) (from to : List ℕ) : Type 0 where
+pub record Converting (most : ℕ) (original starts ends : List ℕ) (shift : ℕ) (side : OffsetReferential) (unit : OffsetType) (count : ℕ) (spans₀ to₀ : List ℕ) (first last : Cursor) (sum k : ℕ) (from to : List ℕ) : Type 0 where
   pub at : ℕ
   pub behind : sum ≤ at
   pub few : k ≤ count
-  pub ordered : inOrder (length starts) at (drop k (take count from₀)) (drop k (take count to₀)) ≡ true
+  pub ordered : inOrder (length starts) at (drop k (firsts count spans₀)) (drop k (lasts count spans₀)) ≡ true
   pub known : BothKnown most original first last
-  pub starts-laid : Laying (each startNumber original starts ends shift side unit 0 (take count from₀) (take count to₀)) (each startNumber original starts ends shift side unit sum (drop k (take count from₀)) (drop k (take count to₀))) from₀ k from
-  pub ends-laid : Laying (each endNumber original starts ends shift side unit 0 (take count from₀) (take count to₀)) (each endNumber original starts ends shift side unit sum (drop k (take count from₀)) (drop k (take count to₀))) to₀ k to
+  pub starts-laid : Laying (each startNumber original starts ends shift side unit 0 (firsts count spans₀) (lasts count spans₀)) (each startNumber original starts ends shift side unit sum (drop k (firsts count spans₀)) (drop k (lasts count spans₀))) spans₀ k from
+  pub ends-laid : Laying (each endNumber original starts ends shift side unit 0 (firsts count spans₀) (lasts count spans₀)) (each endNumber original starts ends shift side unit sum (drop k (firsts count spans₀)) (drop k (lasts count spans₀))) to₀ k to
 
 abbrev zero-cursor : Cursor
 zero-cursor = record { at = 0; index = 0 }
@@ -76,87 +89,83 @@ zero-known : {most : ℕ} {s : List ℕ} → length s ≤ most → IndexKnown mo
 unfolding indexOf
 zero-known short = record { short = short; inside = omega arith; so-far = refl }
 
-module _ {most : ℕ} {original starts ends : List ℕ} {shift count : ℕ} {from₀ to₀ : List ℕ} (r : SpansReady most original starts ends shift count from₀ to₀) where
-  from-long : length (take count from₀) ≡ count
-  from-long = length-take-le count from₀ (r .starts-room)
+module _ {most : ℕ} {original starts ends : List ℕ} {shift count : ℕ} {spans₀ to₀ : List ℕ} (r : SpansReady most original starts ends shift count spans₀ to₀) where
+  spans-long : length (take count spans₀) ≡ count
+  spans-long = length-take-le count spans₀ (r .starts-room)
 
-  to-long : length (take count to₀) ≡ count
-  to-long = length-take-le count to₀ (r .ends-room)
+  column-long : (f : ℕ → ℕ) → length (map f (take count spans₀)) ≡ count
+  column-long f = length-map (take count spans₀) f ∙ spans-long
 
-  pub none-converted : (side : OffsetReferential) (unit : OffsetType) → Converting most original starts ends shift side unit count from₀ to₀ zero-cursor zero-cursor 0 0 from₀ to₀
+  pub none-converted : (side : OffsetReferential) (unit : OffsetType) → Converting most original starts ends shift side unit count spans₀ to₀ zero-cursor zero-cursor 0 0 spans₀ to₀
   none-converted side unit =
-      let size : (number : ℕ → ℕ → ℕ) → length (eachSpan number starts ends shift side 0 (take count from₀) (take count to₀)) ≡ length (take count from₀) = λ number. length-each number starts ends shift side 0 (length starts) 0 (take count from₀) (take count to₀) (r .ordered) in
+      let size : (number : ℕ → ℕ → ℕ) → length (eachSpan number starts ends shift side 0 (firsts count spans₀) (lasts count spans₀)) ≡ length (firsts count spans₀) = λ number. length-each number starts ends shift side 0 (length starts) 0 (firsts count spans₀) (lasts count spans₀) (r .ordered) in
       record {
         at = 0;
         behind = omega arith;
         few = omega arith;
         ordered = r .ordered;
         known = record { first-known = zero-known (r .short); last-known = zero-known (r .short) };
-        starts-laid = none-laid _ from₀ (omega (arith, size (startNumber original unit), from-long, r .starts-room));
-        ends-laid = none-laid _ to₀ (omega (arith, size (endNumber original unit), from-long, r .ends-room));
+        starts-laid = none-laid _ spans₀ (omega (arith, size (startNumber original unit), column-long startIn, r .starts-room));
+        ends-laid = none-laid _ to₀ (omega (arith, size (endNumber original unit), column-long startIn, r .ends-room));
       }
 
-  module _ {side : OffsetReferential} {unit : OffsetType} {first last : Cursor} {sum k : ℕ} {from to : List ℕ} (c : Converting most original starts ends shift side unit count from₀ to₀ first last sum k from to) where
+  module _ {side : OffsetReferential} {unit : OffsetType} {first last : Cursor} {sum k : ℕ} {from to : List ℕ} (c : Converting most original starts ends shift side unit count spans₀ to₀ first last sum k from to) where
     -- where the loop is over
-    pub all-converted : count ≤ k → SpansConverted original starts ends shift side unit count from₀ to₀ from to
+    pub all-converted : count ≤ k → SpansConverted original starts ends shift side unit count spans₀ to₀ from to
     unfolding eachSpan
     all-converted done =
-        let none : drop k (take count from₀) ≡ [] = drop-of-length-le (take count from₀) {i = k} (omega (arith, from-long)) in
+        let none : drop k (firsts count spans₀) ≡ [] = drop-of-length-le (firsts count spans₀) {i = k} (omega (arith, column-long startIn)) in
         record {
-          starts-are = all-laid _ from₀ k from (rw none at (c .starts-laid));
+          starts-are = all-laid _ spans₀ k from (rw none at (c .starts-laid));
           ends-are = all-laid _ to₀ k to (rw none at (c .ends-laid));
         }
 
     module _ (more : k < count) where
-      abbrev a : ℕ
-      a = getD from k 0
-
-      abbrev b : ℕ
-      b = getD to k 0
-
-      from-here : drop k (take count from₀) ≡ a ∷ drop (k + 1) (take count from₀)
-      from-here =
-          drop-cons (take count from₀) k 0 (omega (arith, from-long))
-          ∙ rw (getD-take count from₀ k 0 more, ← unwritten (c .starts-laid), add-one k)
-
-      to-here : drop k (take count to₀) ≡ b ∷ drop (k + 1) (take count to₀)
-      to-here =
-          drop-cons (take count to₀) k 0 (omega (arith, to-long))
-          ∙ rw (getD-take count to₀ k 0 more, ← unwritten (c .ends-laid), add-one k)
-
-      here : First (length starts) (c .at) a b (drop (k + 1) (take count from₀)) (drop (k + 1) (take count to₀))
-      here = first-of (length starts) (c .at) a b _ _ (rw (from-here, to-here) at (c .ordered))
-
-      pub piece-here : Piece most starts ends shift sum a b
-      piece-here =
-          record {
-            some = here .some;
-            behind = omega (arith, c .behind, here .behind);
-            in-starts = here .inside;
-            in-ends = omega (arith, here .inside, r .one-end);
-            few = r .few;
-            low = r .low;
-          }
-
       pub in-columns : (k < length from) × (k < length to)
       in-columns = (omega (arith, c .starts-laid .same, r .starts-room), omega (arith, c .ends-laid .same, r .ends-room))
 
-      each-here : (number : ℕ → ℕ → ℕ) → eachSpan number starts ends shift side sum (drop k (take count from₀)) (drop k (take count to₀)) ≡ (number (fromByte starts shift side sum a) (toByte ends shift side sum a b) ∷ []) ++ eachSpan number starts ends shift side (sum + (b - a)) (drop (k + 1) (take count from₀)) (drop (k + 1) (take count to₀))
-      unfolding eachSpan
-      each-here number = rw (from-here, to-here)
+      column-here : (f : ℕ → ℕ) → drop k (map f (take count spans₀)) ≡ f (getD from k 0) ∷ drop (k + 1) (map f (take count spans₀))
+      column-here f =
+          drop-cons (map f (take count spans₀)) k 0 (omega (arith, column-long f))
+          ∙ rw (getD-map f (take count spans₀) k (omega (arith, spans-long)), getD-take count spans₀ k 0 more, ← unwritten (c .starts-laid), add-one k)
 
-      pub one-converted : {bytes : Bytes} {o : Offsets} → BytesAre starts ends shift side sum a b bytes → Stepped most original unit (bytes .start) (bytes .end) o → Converting most original starts ends shift side unit count from₀ to₀ (o .first) (o .last) (sum + (b - a)) (k + 1) (set from k (o .start)) (set to k (o .end))
-      one-converted {o = o} w s =
-          record {
-            at = b;
-            behind = omega (arith, c .behind, here .behind, here .some);
-            few = omega arith;
-            ordered = here .rest;
-            known = s .known;
-            starts-laid =
-                piece-laid _ (o .start ∷ []) _ from₀ k from
-                (rw (each-here (startNumber original unit), ← w .start-is, ← w .end-is, ← s .start-is) at (c .starts-laid)) (k + 1) (set from k (o .start)) refl (store-one from k (o .start) (in-columns .0));
-            ends-laid =
-                piece-laid _ (o .end ∷ []) _ to₀ k to
-                (rw (each-here (endNumber original unit), ← w .start-is, ← w .end-is, ← s .end-is) at (c .ends-laid)) (k + 1) (set to k (o .end)) refl (store-one to k (o .end) (in-columns .1));
-          }
+      module _ {a b : ℕ} (starting : a ≡ startIn (getD from k 0)) (ending : b ≡ endIn (getD from k 0)) where
+        from-here : drop k (firsts count spans₀) ≡ a ∷ drop (k + 1) (firsts count spans₀)
+        from-here = rw starting (column-here startIn)
+
+        to-here : drop k (lasts count spans₀) ≡ b ∷ drop (k + 1) (lasts count spans₀)
+        to-here = rw ending (column-here endIn)
+
+        here : First (length starts) (c .at) a b (drop (k + 1) (firsts count spans₀)) (drop (k + 1) (lasts count spans₀))
+        here = first-of (length starts) (c .at) a b _ _ (rw (from-here, to-here) at (c .ordered))
+
+        pub piece-here : Piece most starts ends shift sum a b
+        piece-here =
+            record {
+              some = here .some;
+              behind = omega (arith, c .behind, here .behind);
+              in-starts = here .inside;
+              in-ends = omega (arith, here .inside, r .one-end);
+              few = r .few;
+              low = r .low;
+            }
+
+        each-here : (number : ℕ → ℕ → ℕ) → eachSpan number starts ends shift side sum (drop k (firsts count spans₀)) (drop k (lasts count spans₀)) ≡ (number (fromByte starts shift side sum a) (toByte ends shift side sum a b) ∷ []) ++ eachSpan number starts ends shift side (sum + (b - a)) (drop (k + 1) (firsts count spans₀)) (drop (k + 1) (lasts count spans₀))
+        unfolding eachSpan
+        each-here number = rw (from-here, to-here)
+
+        pub one-converted : {bytes : Bytes} {o : Offsets} → BytesAre starts ends shift side sum a b bytes → Stepped most original unit (bytes .start) (bytes .end) o → Converting most original starts ends shift side unit count spans₀ to₀ (o .first) (o .last) (sum + (b - a)) (k + 1) (set from k (o .start)) (set to k (o .end))
+        one-converted {o = o} w s =
+            record {
+              at = b;
+              behind = omega (arith, c .behind, here .behind, here .some);
+              few = omega arith;
+              ordered = here .rest;
+              known = s .known;
+              starts-laid =
+                  piece-laid _ (o .start ∷ []) _ spans₀ k from
+                  (rw (each-here (startNumber original unit), ← w .start-is, ← w .end-is, ← s .start-is) at (c .starts-laid)) (k + 1) (set from k (o .start)) refl (store-one from k (o .start) (in-columns .0));
+              ends-laid =
+                  piece-laid _ (o .end ∷ []) _ to₀ k to
+                  (rw (each-here (endNumber original unit), ← w .start-is, ← w .end-is, ← s .end-is) at (c .ends-laid)) (k + 1) (set to k (o .end)) refl (store-one to k (o .end) (in-columns .1));
+            }

@@ -17,9 +17,9 @@ use Rattle.note.specs.Notes.{Note, fits, Sound}
 use Rattle.note.specs.Faults.{noteFaults, roomFaults}
 use Rattle.note.proofs.Verdicts.{accepted-first, accepted-second, accepted-meets, refused-then, accepted-then}
 use Rattle.note.proofs.Faults.{accepted-sound, room-enough, no-room, enough-room}
-use Rattle.pattern.specs.Entries.{placesOf}
+use Rattle.pattern.specs.Entries.{placesOf, whole}
 use Rattle.pattern.specs.Places.{covers, coversFrom, listFaults}
-use Rattle.pattern.proofs.Places.{covers-places}
+use Rattle.pattern.proofs.Places.{covers-places, covers-whole}
 use Rattle.slice.proofs.Judged.{Short, accepted-short}
 use Rattle.behaviors.specs.declared.SplitDelimiterBehavior.{SplitDelimiterBehavior}
 use Rattle.behaviors.specs.declared.Sizes.{Sizes}
@@ -94,10 +94,15 @@ module _ (most : ℕ) (n : Note) (list : List ℕ) (behavior : SplitDelimiterBeh
     pub accepted-lengths : Short most n
     accepted-lengths = accepted-short most n (noted-sound .1)
 
+    covers-list : covers (n .normalized) list ≡ true
+    covers-list =
+        not-false (covers (n .normalized) list) (accepted-meets (listFaults (n .normalized) list) (accepted-first (listFaults (n .normalized) list) small rest) BadMatches)
+
     pub accepted-covers : coversFrom (n .normalized) 0 (placesOf list) ≡ true
-    accepted-covers =
-        covers-places (n .normalized) list
-        (not-false (covers (n .normalized) list) (accepted-meets (listFaults (n .normalized) list) (accepted-first (listFaults (n .normalized) list) small rest) BadMatches))
+    accepted-covers = covers-places (n .normalized) list covers-list
+
+    pub accepted-whole : whole list ≡ true
+    accepted-whole = covers-whole (n .normalized) list covers-list
 
     pub accepted-room : length (splitPieces list behavior) ≤ room
     accepted-room = room-enough (length (splitPieces list behavior)) room (accepted-second (listFaults (n .normalized) list) small rest)

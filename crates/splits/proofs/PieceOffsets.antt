@@ -6,11 +6,11 @@ use mathlib.Core.List.{List, [], _∷_, map}
 use mathlib.Mathlib.Data.Bool.Basic.{and-intro, and-elim-right}
 use native.Mathlib.Omega.{arith}
 use lib.Dec.{leb, ltb, eqb}
-use lib.ListN.{length, take, length-map}
+use lib.ListN.{length, take}
 use borrow.Author.Tests.{le-leb, lt-ltb, eqb-false, not-true}
 use Rattle.buffers.specs.Splice.{overlay}
 use Rattle.buffers.proofs.Cases.{true-or-false}
-use Rattle.buffers.proofs.Splice.{take-overlay, overlay-overlay, overlay-long}
+use Rattle.buffers.proofs.Splice.{overlay-overlay}
 use Rattle.note.specs.declared.Refusal.{Refusal}
 use Rattle.note.specs.declared.Verdict.{Verdict}
 use Rattle.note.specs.declared.Verdict.the-variants.{Accepted, Refused as Rejected}
@@ -34,7 +34,8 @@ use Rattle.behaviors.specs.declared.SplitDelimiterBehavior.{SplitDelimiterBehav
 use Rattle.behaviors.specs.declared.EmptyPieces.the-variants.{Dropped}
 use Rattle.behaviors.specs.Splits.{splits, goes, isPiece, remaining, pieces}
 use Rattle.behaviors.specs.Joining.{startsOf, endsOf}
-use Rattle.behaviors.specs.Runs.{SpansRoom, SpansLaid}
+use Rattle.spans.specs.Packing.{packedOf, packed, startIn, endIn, PackedRoom, PackedLaid}
+use Rattle.spans.proofs.Packing.{packed-long, packed-front}
 use Rattle.behaviors.proofs.Gathered.{splits-cover}
 use Rattle.split.specs.Splitting.{pieceOf, transcriptLength}
 use Rattle.splits.specs.declared.OffsetType.{OffsetType}
@@ -42,7 +43,7 @@ use Rattle.splits.specs.declared.Splits.the-variants.{Listed as Offered,
 use Rattle.splits.specs.SplitOffsets.{splitPieces, sizeOf, startByte, endByte, startNumber, endNumber, eachPiece, splitsFaults, GetSplits}
 use Rattle.splits.specs.Steps.{fromByte, toByte, inOrder, eachSpan, SpansReady, SpansConverted}
 use Rattle.splits.proofs.Converting.{First, first-of}
-use Rattle.splits.proofs.Judged.{accepted-note, accepted-lengths, accepted-covers, accepted-room}
+use Rattle.splits.proofs.Judged.{accepted-note, accepted-lengths, accepted-covers, accepted-whole, accepted-room}
 
 -- IN ORDER
 order-low : (size at at₁ : ℕ) (from to : List ℕ) → at ≤ at₁ → inOrder size at₁ from to ≡ true → inOrder size at from to ≡ true
@@ -129,7 +130,7 @@ module _ (most : ℕ) (n : Note) (list : List ℕ) (behavior : SplitDelimiterBeh
     sound : Sound n
     sound = accepted-note most n list behavior (min (length starts₀) (length ends₀)) accepted
 
-    pub spans-room : SpansRoom most list behavior Dropped starts₀ ends₀
+    pub spans-room : PackedRoom most list behavior Dropped starts₀
     spans-room =
         record {
           listed = record {
@@ -137,8 +138,8 @@ module _ (most : ℕ) (n : Note) (list : List ℕ) (behavior : SplitDelimiterBeh
             short = accepted-lengths most n list behavior (min (length starts₀) (length ends₀)) accepted .normalized-short;
             covered = accepted-covers most n list behavior (min (length starts₀) (length ends₀)) accepted;
           };
-          starts-room = omega (arith, fits);
-          ends-room = omega (arith, fits);
+          unbroken = accepted-whole most n list behavior (min (length starts₀) (length ends₀)) accepted;
+          room = omega (arith, fits);
         }
 
     order : inOrder (length (n .starts)) 0 (startsOf ps) (endsOf ps) ≡ true
@@ -148,29 +149,27 @@ module _ (most : ℕ) (n : Note) (list : List ℕ) (behavior : SplitDelimiterBeh
         (pieces-ordered (n .normalized) 0 (splits behavior (placesOf list))
         (splits-cover (n .normalized) 0 behavior (placesOf list) (accepted-covers most n list behavior (min (length starts₀) (length ends₀)) accepted)))
 
-    module _ {count : ℕ} {from to : List ℕ} (laid : SpansLaid ps starts₀ ends₀ count from to) where
-      from-is : take count from ≡ startsOf ps
-      from-is = rw (laid .reach, laid .starts-are, ← length-map ps (λ (p : Place). p .start .0)) (take-overlay (startsOf ps) starts₀)
+    module _ {count : ℕ} {spans : List ℕ} (laid : PackedLaid ps starts₀ count spans) where
+      from-is : map startIn (take count spans) ≡ startsOf ps
+      from-is = rw (packed-front laid) (laid .starts-in)
 
-      to-is : take count to ≡ endsOf ps
-      to-is = rw (laid .reach, laid .ends-are, ← length-map ps (λ (p : Place). p .end .0)) (take-overlay (endsOf ps) ends₀)
+      to-is : map endIn (take count spans) ≡ endsOf ps
+      to-is = rw (packed-front laid) (laid .ends-in)
 
-      pub spans-ready : SpansReady most (n .original) (n .starts) (n .ends) (n .original-shift) count from to
+      pub spans-ready : SpansReady most (n .original) (n .starts) (n .ends) (n .original-shift) count spans ends₀
       spans-ready =
           let short = accepted-lengths most n list behavior (min (length starts₀) (length ends₀)) accepted in
-          let from-room : length (startsOf ps) ≤ length from = rw (laid .starts-are) (overlay-long (startsOf ps) starts₀) in
-          let to-room : length (endsOf ps) ≤ length to = rw (laid .ends-are) (overlay-long (endsOf ps) ends₀) in
           record {
             short = short .original-short;
             low = short .shift-low;
             few = omega (arith, short .normalized-short, length-starts n sound);
             one-end = length-ends n sound ∙ sym (length-starts n sound);
-            starts-room = omega (arith, laid .reach, from-room, length-map ps (λ (p : Place). p .start .0));
-            ends-room = omega (arith, laid .reach, to-room, length-map ps (λ (p : Place). p .end .0));
+            starts-room = packed-long laid;
+            ends-room = omega (arith, laid .reach, fits);
             ordered = rw (from-is, to-is) order;
           }
 
-      pub listed : {starts ends : List ℕ} → SpansConverted (n .original) (n .starts) (n .ends) (n .original-shift) side unit count from to starts ends → GetSplits most n list behavior side unit starts₀ ends₀ (Offered count) starts ends
+      pub listed : {starts ends : List ℕ} → SpansConverted (n .original) (n .starts) (n .ends) (n .original-shift) side unit count spans ends₀ starts ends → GetSplits most n list behavior side unit starts₀ ends₀ (Offered count) starts ends
       listed c =
           let first = each-pieces (startNumber (n .original) unit) n sound side 0 0 ps order in
           let last = each-pieces (endNumber (n .original) unit) n sound side 0 0 ps order in
@@ -178,6 +177,6 @@ module _ (most : ℕ) (n : Note) (list : List ℕ) (behavior : SplitDelimiterBeh
             says = Accepted;
             says-is = sym accepted;
             answer = ap Offered (laid .reach);
-            starts-are = c .starts-are ∙ rw (from-is, to-is, first, laid .starts-are) (overlay-overlay _ (startsOf ps) starts₀ (length-pieces (startNumber (n .original) unit) n side 0 ps (λ (p : Place). p .start .0)));
-            ends-are = c .ends-are ∙ rw (from-is, to-is, last, laid .ends-are) (overlay-overlay _ (endsOf ps) ends₀ (length-pieces (endNumber (n .original) unit) n side 0 ps (λ (p : Place). p .end .0)));
+            starts-are = c .starts-are ∙ rw (from-is, to-is, first, laid .spans-are) (overlay-overlay _ (packedOf ps) starts₀ (length-pieces (startNumber (n .original) unit) n side 0 ps packed));
+            ends-are = c .ends-are ∙ rw (from-is, to-is, last);
           }

@@ -2,7 +2,7 @@
 use Prim.Native.Nat.{ℕ, _+_, _-_, _≤_, _<_}
 use mathlib.Core.Path.{_≡_}
 use mathlib.Core.Bool.{Bool, true, false, _&&_}
-use mathlib.Core.List.{List, [], _∷_}
+use mathlib.Core.List.{List, [], _∷_, map}
 use lib.Dec.{leb, ltb}
 use lib.ListN.{length, getD, take}
 use Rattle.buffers.specs.Splice.{overlay}
@@ -10,6 +10,7 @@ use Rattle.validity.specs.Texts.{ascii}
 use Rattle.char_offsets.specs.Steps.{IndexKnown}
 use Rattle.convert.specs.declared.OffsetReferential.{OffsetReferential}
 use Rattle.convert.specs.declared.OffsetReferential.the-variants.{Original, Normalized}
+use Rattle.spans.specs.Packing.{startIn, endIn}
 use Rattle.splits.specs.declared.OffsetType.{OffsetType}
 use Rattle.splits.specs.declared.Bytes.{Bytes}
 use Rattle.splits.specs.declared.Cursor.{Cursor}
@@ -73,20 +74,23 @@ eachSpan number starts ends shift side sum (a ∷ from) (b ∷ to) =
     number (fromByte starts shift side sum a) (toByte ends shift side sum a b)
     ∷ eachSpan number starts ends shift side (sum + (b - a)) from to
 
--- the first `count` of two columns are such pieces of a note within the limit
-pub record SpansReady (most : ℕ) (original starts ends : List ℕ) (shift count : ℕ) (from to : List ℕ) : Type 0 where
+-- the first `count` numbers of a column have the ends of such pieces, of a note within the limit; the other column has
+-- room for as many
+pub record SpansReady (most : ℕ) (original starts ends : List ℕ) (shift count : ℕ) (spans to : List ℕ) : Type 0 where
   pub short : length original ≤ most
   pub low : shift ≤ most
   pub few : length starts ≤ most
   pub one-end : length ends ≡ length starts
-  pub starts-room : count ≤ length from
+  pub starts-room : count ≤ length spans
   pub ends-room : count ≤ length to
-  pub ordered : inOrder (length starts) 0 (take count from) (take count to) ≡ true
+  pub ordered : inOrder (length starts) 0 (map startIn (take count spans)) (map endIn (take count spans)) ≡ true
 
 -- and become their numbers
 pub record SpansConverted (original starts ends : List ℕ) (shift : ℕ) (side : OffsetReferential) (unit : OffsetType)
-    (count : ℕ) (from₀ to₀ from to : List ℕ) : Type 0 where
+    (count : ℕ) (spans₀ to₀ from to : List ℕ) : Type 0 where
   pub starts-are : from ≡ overlay
-      (eachSpan (startNumber original unit) starts ends shift side 0 (take count from₀) (take count to₀)) from₀
+      (eachSpan (startNumber original unit) starts ends shift side 0
+      (map startIn (take count spans₀)) (map endIn (take count spans₀))) spans₀
   pub ends-are : to ≡ overlay
-      (eachSpan (endNumber original unit) starts ends shift side 0 (take count from₀) (take count to₀)) to₀
+      (eachSpan (endNumber original unit) starts ends shift side 0
+      (map startIn (take count spans₀)) (map endIn (take count spans₀))) to₀

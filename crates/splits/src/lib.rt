@@ -2,7 +2,6 @@
 use behaviors::EmptyPieces;
 use behaviors::SplitDelimiterBehavior;
 use behaviors::measure;
-use behaviors::wide::write_spans;
 use buffers::Offset;
 use char_offsets::index_from;
 use char_offsets::index_near;
@@ -14,6 +13,9 @@ use note::Verdict;
 use note::answers::refused_if;
 use pattern::covers;
 use pattern::most_places;
+use spans::span_end;
+use spans::span_start;
+use spans::write_packed;
 use validity::is_ascii;
 ghost use mathlib.Core.Path.{_≡_};
 ghost use mathlib.Core.Bool.{true};
@@ -202,7 +204,7 @@ fn in_unit(
     }
 }
 
-// The cleaned starts and ends of pieces, in front of the two columns, become the offsets that were asked.
+// The cleaned starts and ends of pieces, in front of the first column, become the offsets that were asked.
 fn convert_spans(
     original: &[u8],
     starts: &[Offset],
@@ -226,8 +228,9 @@ fn convert_spans(
     let mut sum: u32 = 0;
     let mut k = 0;
     while k < count {
-        let from = out_starts[k];
-        let to = out_ends[k];
+        let span = out_starts[k];
+        let from = span_start(span);
+        let to = span_end(span);
         let bytes = piece_bytes(starts, ends, original_shift, side, sum, from, to);
         let offsets = in_unit(original, unit, plain, first, last, bytes.start, bytes.end);
         out_starts[k] = offsets.start;
@@ -301,7 +304,7 @@ pub fn get_splits(
     ) {
         Verdict::Refused(k) => Splits::Refused(k),
         Verdict::Accepted => {
-            let count = write_spans(list, behavior, EmptyPieces::Dropped, out_starts, out_ends);
+            let count = write_packed(list, behavior, EmptyPieces::Dropped, out_starts);
             convert_spans(
                 original,
                 starts,

@@ -9,7 +9,7 @@ returns-2 : tie.Need-returns-2
 returns-2 c = list-refused limit _ _ _ _ _ _ (c .before .before .before .before .check-note .ensures) (c .before .before .enum-told .given .1) (c .before .covers .ensures) (c .if1 .taken)
 
 returns-3 : tie.Need-returns-3
-returns-3 c = roomy-accepted limit _ _ _ _ _ _ (c .before .before .before .before .before .before .before .check-note .ensures) (c .before .before .before .before .before .enum-told .given .1) (c .before .before .before .before .covers .ensures) (c .before .before .before .if1 .left) (c .before .before .most-places .ensures) (c .before .if2 .taken) (c .if3 .taken)
+returns-3 c = roomy-accepted limit _ _ _ _ _ _ (c .before .before .before .before .before .before .before .check-note .ensures) (c .before .before .before .before .before .enum-told .given .1) (c .before .before .before .before .covers .ensures) (c .before .before .before .if1 .left) (c .before .before .most-places .ensures .0) (c .before .if2 .taken) (c .if3 .taken)
 
 returns-4 : tie.Need-returns-4
 returns-4 c = no-piece-room limit _ _ _ _ _ _ (c .before .before .before .before .before .before .before .before .before .check-note .ensures) (c .before .before .before .before .before .before .before .enum-told .given .1) (c .before .before .before .before .before .before .covers .ensures) (c .before .before .before .before .before .if1 .left) (c .before .before .measure .ensures) (c .if4 .taken)

@@ -13,12 +13,28 @@ Inv-loop starts ends from to shift until shifts₀ lengths₀ out-starts₀ out-
 abbrev μ-loop : tie.MeasureT-loop
 μ-loop starts ends from to shift until shifts₀ lengths₀ out-starts₀ out-ends₀ at₀ k₀ shifts lengths out-starts out-ends at k = length from - k
 
+original-end-requires : tie.Need-original-end-requires Inv-loop μ-loop
+original-end-requires c κs =
+    let pre = c .before .before .before .before .before .before .before .before .before .before .before .before .before .pre in
+    inside-of (pre .shifts-room .spans .each _ (c .before .before .before .loop-test .taken)) (pre .lengths-room .one-end)
+
+lower-piece-requires : tie.Need-lower-piece-requires Inv-loop μ-loop
+lower-piece-requires c κs =
+    let head = c .before .before .before .before .before .before .before in
+    piece-room (head .before .before .before .before .before .before .before .before .before .pre) (head .loop .inv) (c .before .before .before .before .before .before .loop-test .taken) (c .before .before .before .original-start .ensures)
+
 add-at : tie.Need-add-at Inv-loop μ-loop
 add-at c =
-    let entry = c .before .before .before .before .before .before .before .before .before .before .before .before .before .before .before .before .before .before .before .before .before .before .before .before .before in
-    let room = piece-room (entry .pre) (c .before .before .before .before .before .before .before .before .before .before .before .before .before .before .before .before .loop .inv) (c .before .before .before .before .before .before .before .before .before .before .before .before .before .before .before .loop-test .taken) (c .before .before .before .before .before .before .before .before .before .before .before .before .original-start .ensures) .starts-room .source .room in
+    let head = c .before .before .before .before .before .before .before .before .before .before .before .before in
+    let entry = head .before .before .before .before .before .before .before .before .before in
+    let room = piece-room (entry .pre) (head .loop .inv) (c .before .before .before .before .before .before .before .before .before .before .before .loop-test .taken) (c .before .before .before .before .before .before .before .before .original-start .ensures) .starts-room .source .room in
     let long : length (entry .args .out-starts .now) < 2 ^ 64 = entry .good .1 .1 .1 .1 .1 .1 .1 .1 .0 .0 in
-    omega (arith, room, c .before .before .before .before .before .before .before .before .before .before .before .before .before .before .before .before .loop .inv .starts-on .laid .same)
+    omega (arith, room, head .loop .inv .starts-on .laid .same)
+
+loop-again : tie.Need-loop-again Inv-loop μ-loop
+loop-again c =
+    let head = c .before .before .before .before .before .before .before .before .before .before .before .before in
+    next-gone (head .before .before .before .before .before .before .before .before .before .pre) (head .loop .inv) (c .before .before .before .before .before .before .before .before .before .before .before .loop-test .taken) (c .before .before .before .before .before .before .before .before .original-start .ensures) (c .before .before .before .before .before .before .before .original-end .ensures) (c .before .before .before .before .lower-piece .ensures)
 
 pub write-columns-spec : {M : Type 1} → statement M
 write-columns-spec =
@@ -32,30 +48,22 @@ write-columns-spec =
     (λ c. search needs)
     (λ c. omega (arith, c .before .before .before .before .before .before .before .before .before .before .before .before .pre .shifts-room .spans .paired, c .before .before .loop-test .taken))
     (λ c κs. c .before .before .before .before .before .before .before .before .before .before .before .before .pre .shifts-room .spans .each _ (c .before .before .loop-test .taken))
-    (λ c. search needs)
-    (λ c. search needs)
-    (λ c. search needs)
-    (λ c. omega (arith, c .before .before .before .before .before .before .before .before .before .before .before .before .before .before .before .pre .shifts-room .spans .paired, c .before .before .before .before .before .loop-test .taken))
-    (λ c κs. inside-of (c .before .before .before .before .before .before .before .before .before .before .before .before .before .before .before .pre .shifts-room .spans .each _ (c .before .before .before .before .before .loop-test .taken)) (c .before .before .before .before .before .before .before .before .before .before .before .before .before .before .before .pre .lengths-room .one-end))
+    original-end-requires
     (λ c. omega arith)
-    (λ c. omega (arith, c .before .before .before .before .before .before .before .before .before .before .before .before .before .before .before .before .pre .shifts-room .low))
+    (λ c. omega (arith, c .before .before .before .before .before .before .before .before .before .before .before .before .before .before .pre .shifts-room .low))
     (λ c. search needs)
-    (λ c. omega (arith, c .before .before .before .before .before .before .before .before .before .before .before .before .before .before .before .before .pre .shifts-room .room, c .before .before .before .before .before .before .before .loop .inv .shifts-on .laid .same))
-    (λ c. omega (arith, c .before .before .before .original-start .ensures, c .original-end .ensures, c .before .before .before .before .before .before .before .before .before .before .before .before .before .before .before .before .pre .lengths-room .ordered _ (c .before .before .before .before .before .before .loop-test .taken)))
+    (λ c. omega (arith, c .before .before .before .before .before .before .before .before .before .before .before .before .before .before .pre .shifts-room .room, c .before .before .before .before .before .loop .inv .shifts-on .laid .same))
+    (λ c. omega (arith, c .before .original-start .ensures, c .original-end .ensures, c .before .before .before .before .before .before .before .before .before .before .before .before .before .before .pre .lengths-room .ordered _ (c .before .before .before .before .loop-test .taken)))
     (λ c. search needs)
-    (λ c. omega (arith, c .before .before .before .before .before .before .before .before .before .before .before .before .before .before .before .before .pre .lengths-room .room, c .before .before .before .before .before .before .before .loop .inv .lengths-on .laid .same))
-    (λ c. search needs)
-    (λ c. search needs)
-    (λ c. omega (arith, c .shared-slice-known9 .given (c .before .before .before .before .before .before .before .before .loop .k)))
-    (λ c. search needs)
-    (λ c. omega (arith, c .before .before .before .before .before .before .before .before .before .before .before .before .before .before .before .before .before .before .pre .shifts-room .spans .paired, c .before .before .before .before .before .before .before .before .loop-test .taken))
-    (λ c. omega (arith, c .shared-slice-known10 .given (c .before .before .before .before .before .before .before .before .before .loop .k)))
-    (λ c κs. piece-room (c .before .before .before .before .before .before .before .before .before .before .before .before .before .before .before .before .before .before .before .before .pre) (c .before .before .before .before .before .before .before .before .before .before .before .loop .inv) (c .before .before .before .before .before .before .before .before .before .before .loop-test .taken) (c .before .before .before .before .before .before .before .original-start .ensures))
-    (λ c. omega (arith, c .before .before .before .before .before .before .before .before .before .before .before .before .before .before .before .before .before .before .before .before .before .before .before .before .before .pre .shifts-room .spans .each _ (c .before .before .before .before .before .before .before .before .before .before .before .before .before .before .before .loop-test .taken) .forward))
+    (λ c. omega (arith, c .before .before .before .before .before .before .before .before .before .before .before .before .before .before .pre .lengths-room .room, c .before .before .before .before .before .loop .inv .lengths-on .laid .same))
+    (λ c. omega (arith, c .before .before .before .shared-slice-known5 .given (c .before .before .before .before .before .loop .k)))
+    (λ c. omega (arith, c .before .before .shared-slice-known6 .given (c .before .before .before .before .before .loop .k)))
+    lower-piece-requires
+    (λ c. omega (arith, c .before .before .before .before .before .before .before .before .before .before .before .before .before .before .before .before .before .before .before .before .before .pre .shifts-room .spans .each _ (c .before .before .before .before .before .before .before .before .before .before .before .loop-test .taken) .forward))
     add-at
-    (λ c. omega (arith, c .before .before .before .before .before .before .before .before .before .before .before .before .before .before .before .loop-test .taken, c .before .before .before .before .before .before .before .before .before .before .before .before .before .before .before .before .before .before .before .before .before .before .before .before .before .good .1 .1 .0 .0))
-    (λ c. omega (arith, c .before .before .before .before .before .before .before .before .before .before .before .before .before .before .before .loop-test .taken))
-    (λ c. next-gone (c .before .before .before .before .before .before .before .before .before .before .before .before .before .before .before .before .before .before .before .before .before .before .before .before .before .pre) (c .before .before .before .before .before .before .before .before .before .before .before .before .before .before .before .before .loop .inv) (c .before .before .before .before .before .before .before .before .before .before .before .before .before .before .before .loop-test .taken) (c .before .before .before .before .before .before .before .before .before .before .before .before .original-start .ensures) (c .before .before .before .before .before .before .before .before .before .original-end .ensures) (c .before .before .before .before .lower-piece .ensures))
+    (λ c. omega (arith, c .before .before .before .before .before .before .before .before .before .before .before .loop-test .taken, c .before .before .before .before .before .before .before .before .before .before .before .before .before .before .before .before .before .before .before .before .before .good .1 .1 .0 .0))
+    (λ c. omega (arith, c .before .before .before .before .before .before .before .before .before .before .before .loop-test .taken))
+    loop-again
     (λ c. c .before .loop .inv .shifts-on .laid .same)
     (λ c. c .before .loop .inv .lengths-on .laid .same)
     (λ c. c .before .loop .inv .starts-on .laid .same)

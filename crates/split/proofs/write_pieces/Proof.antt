@@ -10,50 +10,58 @@ use Rattle.split.proofs.write_pieces.Tie as tie
 
 write-spans-requires : tie.Need-write-spans-requires
 write-spans-requires c κs =
-    let a = c .before .before .before .before .before .before .before .before .before .before .before .before .before .args in
-    spans-room limit _ _ _ _ (columns (a .piece-starts .now) (a .piece-ends .now) (a .piece-shifts .now) (a .piece-lengths .now) (a .out-starts .now) (a .out-ends .now)) (c .before .before .before .before .before .before .before .before .before .before .before .before .before .pre)
+    let entry = c .before .before .before .before .before .before .before .before .before .before .before .before .before .before in
+    let a = entry .args in
+    spans-room limit _ _ _ _ (columns (a .piece-starts .now) (a .piece-ends .now) (a .piece-shifts .now) (a .piece-lengths .now) (a .out-starts .now) (a .out-ends .now)) (entry .pre)
 
 from-fits : tie.Need-slice-reshare-prefix-from
 from-fits c =
-    let spans = c .before .before .before .before in
-    let a = spans .before .before .before .before .before .before .before .before .before .before .before .before .before .before .args in
-    from-long limit _ _ _ _ (columns (a .piece-starts .now) (a .piece-ends .now) (a .piece-shifts .now) (a .piece-lengths .now) (a .out-starts .now) (a .out-ends .now)) (spans .before .before .before .before .before .before .before .before .before .before .before .before .before .before .pre) (spans .write-spans .ensures)
+    let spans = c .before .before .before .before .before .before in
+    let entry = spans .before .before .before .before .before .before .before .before .before .before .before .before .before .before .before in
+    let a = entry .args in
+    from-long limit _ _ _ _ (columns (a .piece-starts .now) (a .piece-ends .now) (a .piece-shifts .now) (a .piece-lengths .now) (a .out-starts .now) (a .out-ends .now)) (entry .pre) (spans .write-spans .ensures)
 
 from-whole : tie.Need-slice-aggregate-from
 from-whole c =
-    let spans = c .before .before .before .before .before in
-    let a = spans .before .before .before .before .before .before .before .before .before .before .before .before .before .before .args in
-    sym (length-take-le _ _ (from-long limit _ _ _ _ (columns (a .piece-starts .now) (a .piece-ends .now) (a .piece-shifts .now) (a .piece-lengths .now) (a .out-starts .now) (a .out-ends .now)) (spans .before .before .before .before .before .before .before .before .before .before .before .before .before .before .pre) (spans .write-spans .ensures)))
+    let spans = c .before .before .before .before .before .before .before in
+    let entry = spans .before .before .before .before .before .before .before .before .before .before .before .before .before .before .before in
+    let a = entry .args in
+    sym (length-take-le _ _ (from-long limit _ _ _ _ (columns (a .piece-starts .now) (a .piece-ends .now) (a .piece-shifts .now) (a .piece-lengths .now) (a .out-starts .now) (a .out-ends .now)) (entry .pre) (spans .write-spans .ensures)))
 
 to-fits : tie.Need-slice-reshare-prefix-to
 to-fits c =
-    let spans = c .before .before .before .before .before in
-    let a = spans .before .before .before .before .before .before .before .before .before .before .before .before .before .before .args in
-    to-long limit _ _ _ _ (columns (a .piece-starts .now) (a .piece-ends .now) (a .piece-shifts .now) (a .piece-lengths .now) (a .out-starts .now) (a .out-ends .now)) (spans .before .before .before .before .before .before .before .before .before .before .before .before .before .before .pre) (spans .write-spans .ensures)
+    let spans = c .before .before .before .before .before .before .before in
+    let entry = spans .before .before .before .before .before .before .before .before .before .before .before .before .before .before .before in
+    let a = entry .args in
+    to-long limit _ _ _ _ (columns (a .piece-starts .now) (a .piece-ends .now) (a .piece-shifts .now) (a .piece-lengths .now) (a .out-starts .now) (a .out-ends .now)) (entry .pre) (spans .write-spans .ensures)
 
 to-whole : tie.Need-slice-aggregate-to
 to-whole c =
-    let spans = c .before .before .before .before .before .before in
-    let a = spans .before .before .before .before .before .before .before .before .before .before .before .before .before .before .args in
-    sym (length-take-le _ _ (to-long limit _ _ _ _ (columns (a .piece-starts .now) (a .piece-ends .now) (a .piece-shifts .now) (a .piece-lengths .now) (a .out-starts .now) (a .out-ends .now)) (spans .before .before .before .before .before .before .before .before .before .before .before .before .before .before .pre) (spans .write-spans .ensures)))
+    let spans = c .before .before .before .before .before .before .before .before in
+    let entry = spans .before .before .before .before .before .before .before .before .before .before .before .before .before .before .before in
+    let a = entry .args in
+    sym (length-take-le _ _ (to-long limit _ _ _ _ (columns (a .piece-starts .now) (a .piece-ends .now) (a .piece-shifts .now) (a .piece-lengths .now) (a .out-starts .now) (a .out-ends .now)) (entry .pre) (spans .write-spans .ensures)))
 
 byte-count-requires : tie.Need-byte-count-requires
 byte-count-requires c κs =
-    let spans = c .before .before .before .before .before .before in
-    let a = spans .before .before .before .before .before .before .before .before .before .before .before .before .before .before .args in
-    countable limit _ _ _ _ (columns (a .piece-starts .now) (a .piece-ends .now) (a .piece-shifts .now) (a .piece-lengths .now) (a .out-starts .now) (a .out-ends .now)) (spans .before .before .before .before .before .before .before .before .before .before .before .before .before .before .pre) (spans .write-spans .ensures)
+    let spans = c .before .before .before .before .before .before .before .before in
+    let entry = spans .before .before .before .before .before .before .before .before .before .before .before .before .before .before .before in
+    let a = entry .args in
+    countable limit _ _ _ _ (columns (a .piece-starts .now) (a .piece-ends .now) (a .piece-shifts .now) (a .piece-lengths .now) (a .out-starts .now) (a .out-ends .now)) (entry .pre) (spans .write-spans .ensures)
 
 write-columns-requires : tie.Need-write-columns-requires
 write-columns-requires c κs =
-    let spans = c .before .before .before .before .before .before .before .before .before .before .before in
-    let a = spans .before .before .before .before .before .before .before .before .before .before .before .before .before .before .args in
-    columns-room limit _ _ _ _ (columns (a .piece-starts .now) (a .piece-ends .now) (a .piece-shifts .now) (a .piece-lengths .now) (a .out-starts .now) (a .out-ends .now)) (spans .before .before .before .before .before .before .before .before .before .before .before .before .before .before .pre) (spans .write-spans .ensures) (c .before .before .before .before .byte-count .ensures)
+    let spans = c .before .before .before .before .before .before .before .before .before .before .before .before .before in
+    let entry = spans .before .before .before .before .before .before .before .before .before .before .before .before .before .before .before in
+    let a = entry .args in
+    columns-room limit _ _ _ _ (columns (a .piece-starts .now) (a .piece-ends .now) (a .piece-shifts .now) (a .piece-lengths .now) (a .out-starts .now) (a .out-ends .now)) (entry .pre) (spans .write-spans .ensures) (c .before .before .before .before .byte-count .ensures)
 
 returns : tie.Need-returns
 returns c =
-    let spans = c .before .before .before .before .before .before .before .before .before .before .before .before .before .before .before .before .before .before .before .before in
-    let a = spans .before .before .before .before .before .before .before .before .before .before .before .before .before .before .args in
-    all-cut limit _ _ _ _ (columns (a .piece-starts .now) (a .piece-ends .now) (a .piece-shifts .now) (a .piece-lengths .now) (a .out-starts .now) (a .out-ends .now)) (spans .before .before .before .before .before .before .before .before .before .before .before .before .before .before .pre) (spans .write-spans .ensures) (c .before .before .before .before .before .before .before .before .before .before .before .before .before .byte-count .ensures) (c .before .before .before .before .before .before .before .before .write-columns .ensures)
+    let spans = c .before .before .before .before .before .before .before .before .before .before .before .before .before .before .before .before .before .before .before .before .before .before in
+    let entry = spans .before .before .before .before .before .before .before .before .before .before .before .before .before .before .before in
+    let a = entry .args in
+    all-cut limit _ _ _ _ (columns (a .piece-starts .now) (a .piece-ends .now) (a .piece-shifts .now) (a .piece-lengths .now) (a .out-starts .now) (a .out-ends .now)) (entry .pre) (spans .write-spans .ensures) (c .before .before .before .before .before .before .before .before .before .before .before .before .before .byte-count .ensures) (c .before .before .before .before .before .before .before .before .write-columns .ensures)
 
 pub write-pieces-spec : {M : Type 1} → statement M
 write-pieces-spec =

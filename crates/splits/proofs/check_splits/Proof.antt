@@ -7,7 +7,7 @@ use Rattle.splits.proofs.check_splits.Statement.{statement}
 use Rattle.splits.proofs.check_splits.Tie as tie
 
 returns-3 : tie.Need-returns-3
-returns-3 c = judged-roomy limit _ _ _ _ (c .before .before .before .before .before .before .check-note .ensures) (c .before .before .before .before .enum-told .given .1) (c .before .before .before .covers .ensures) (not-false _ (c .before .before .if1 .left)) (c .before .most-places .ensures) (c .if2 .taken)
+returns-3 c = judged-roomy limit _ _ _ _ (c .before .before .before .before .before .before .check-note .ensures) (c .before .before .before .before .enum-told .given .1) (c .before .before .before .covers .ensures) (not-false _ (c .before .before .if1 .left)) (c .before .most-places .ensures .0) (c .if2 .taken)
 
 measure-requires : tie.Need-measure-requires
 measure-requires c κs = listed limit _ _ (c .before .before .before .before .before .before .before .before .before .before .before .before .args .behavior) (c .before .before .before .before .before .before .before .before .before .before .before .before .args .room) (c .before .before .before .before .before .before .check-note .ensures) (c .before .before .before .before .enum-told .given .1) (c .before .before .before .covers .ensures) (not-false _ (c .before .before .if1 .left))

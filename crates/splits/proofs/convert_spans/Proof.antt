@@ -8,53 +8,49 @@ use Rattle.splits.proofs.convert_spans.Statement.{statement}
 use Rattle.splits.proofs.convert_spans.Tie as tie
 
 abbrev Inv-loop : tie.InvT-loop
-Inv-loop original starts ends shift side unit count from₀ to₀ plain first₀ last₀ sum₀ k₀ from to first last sum k =
-    Converting limit original starts ends shift side unit count from₀ to₀ first last sum k from to
+Inv-loop original starts ends shift side unit count spans₀ to₀ plain first₀ last₀ sum₀ k₀ from to first last sum k =
+    Converting limit original starts ends shift side unit count spans₀ to₀ first last sum k from to
 
 abbrev μ-loop : tie.MeasureT-loop
-μ-loop original starts ends shift side unit count from₀ to₀ plain first₀ last₀ sum₀ k₀ from to first last sum k = count - k
-
-read-from : tie.Need-slice-read-from Inv-loop μ-loop
-read-from c = let head = c .before .before in in-columns (head .before .before .before .before .before .before .before .pre) (head .loop .inv) (c .before .loop-test .taken) .0
-
-read-to : tie.Need-slice-read-to Inv-loop μ-loop
-read-to c = let head = c .before .before .before in in-columns (head .before .before .before .before .before .before .before .pre) (head .loop .inv) (c .before .before .loop-test .taken) .1
+μ-loop original starts ends shift side unit count spans₀ to₀ plain first₀ last₀ sum₀ k₀ from to first last sum k = count - k
 
 piece-asked : tie.Need-piece-bytes-requires Inv-loop μ-loop
-piece-asked c κs = let head = c .before .before .before in piece-here (head .before .before .before .before .before .before .before .pre) (head .loop .inv) (c .before .before .loop-test .taken)
+piece-asked c κs =
+    let head = c .before .before .before .before in
+    piece-here (head .before .before .before .before .before .before .before .pre) (head .loop .inv) (c .before .before .before .loop-test .taken) (c .before .span-start .ensures) (c .span-end .ensures)
 
 write-from : tie.Need-slice-write-out-starts Inv-loop μ-loop
-write-from c = let head = c .before .before .before .before .before in in-columns (head .before .before .before .before .before .before .before .pre) (head .loop .inv) (c .before .before .before .before .loop-test .taken) .0
+write-from c = let head = c .before .before .before .before .before .before in in-columns (head .before .before .before .before .before .before .before .pre) (head .loop .inv) (c .before .before .before .before .before .loop-test .taken) .0
 
 write-to : tie.Need-slice-write-out-ends Inv-loop μ-loop
-write-to c = let head = c .before .before .before .before .before in in-columns (head .before .before .before .before .before .before .before .pre) (head .loop .inv) (c .before .before .before .before .loop-test .taken) .1
+write-to c = let head = c .before .before .before .before .before .before in in-columns (head .before .before .before .before .before .before .before .pre) (head .loop .inv) (c .before .before .before .before .before .loop-test .taken) .1
 
 mul-from : tie.Need-mul-out-starts Inv-loop μ-loop
 mul-from c =
-    let head = c .before .before .before .before .before in
-    omega (arith, head .before .before .before .before .before .before .before .good .1 .1 .1 .1 .1 .1 .1 .0, head .loop .inv .starts-laid .same, in-columns (head .before .before .before .before .before .before .before .pre) (head .loop .inv) (c .before .before .before .before .loop-test .taken) .0)
+    let head = c .before .before .before .before .before .before in
+    omega (arith, head .before .before .before .before .before .before .before .good .1 .1 .1 .1 .1 .1 .1 .0, head .loop .inv .starts-laid .same, in-columns (head .before .before .before .before .before .before .before .pre) (head .loop .inv) (c .before .before .before .before .before .loop-test .taken) .0)
 
 mul-to : tie.Need-mul-out-ends Inv-loop μ-loop
 mul-to c =
-    let head = c .before .before .before .before .before in
-    omega (arith, head .before .before .before .before .before .before .before .good .1 .1 .1 .1 .1 .1 .1 .1 .0, head .loop .inv .ends-laid .same, in-columns (head .before .before .before .before .before .before .before .pre) (head .loop .inv) (c .before .before .before .before .loop-test .taken) .1)
+    let head = c .before .before .before .before .before .before in
+    omega (arith, head .before .before .before .before .before .before .before .good .1 .1 .1 .1 .1 .1 .1 .1 .0, head .loop .inv .ends-laid .same, in-columns (head .before .before .before .before .before .before .before .pre) (head .loop .inv) (c .before .before .before .before .before .loop-test .taken) .1)
 
 sub-sum : tie.Need-sub-sum Inv-loop μ-loop
 sub-sum c =
-    let head = c .before .before .before .before .before .before .before in
-    let piece = piece-here (head .before .before .before .before .before .before .before .pre) (head .loop .inv) (c .before .before .before .before .before .before .loop-test .taken) in
+    let head = c .before .before .before .before .before .before .before .before in
+    let piece = piece-here (head .before .before .before .before .before .before .before .pre) (head .loop .inv) (c .before .before .before .before .before .before .before .loop-test .taken) (c .before .before .before .before .before .span-start .ensures) (c .before .before .before .before .span-end .ensures) in
     omega (arith, piece .some, piece .behind)
 
 add-sum : tie.Need-add-sum Inv-loop μ-loop
 add-sum c =
-    let head = c .before .before .before .before .before .before .before in
-    let piece = piece-here (head .before .before .before .before .before .before .before .pre) (head .loop .inv) (c .before .before .before .before .before .before .loop-test .taken) in
+    let head = c .before .before .before .before .before .before .before .before in
+    let piece = piece-here (head .before .before .before .before .before .before .before .pre) (head .loop .inv) (c .before .before .before .before .before .before .before .loop-test .taken) (c .before .before .before .before .before .span-start .ensures) (c .before .before .before .before .span-end .ensures) in
     omega (arith, piece .some, piece .behind, piece .in-starts, piece .few)
 
 loop-again : tie.Need-loop-again Inv-loop μ-loop
 loop-again c =
-    let head = c .before .before .before .before .before .before .before in
-    one-converted (head .before .before .before .before .before .before .before .pre) (head .loop .inv) (c .before .before .before .before .before .before .loop-test .taken) (c .before .before .before .piece-bytes .ensures) (c .before .before .in-unit .ensures)
+    let head = c .before .before .before .before .before .before .before .before in
+    one-converted (head .before .before .before .before .before .before .before .pre) (head .loop .inv) (c .before .before .before .before .before .before .before .loop-test .taken) (c .before .before .before .before .before .span-start .ensures) (c .before .before .before .before .span-end .ensures) (c .before .before .before .piece-bytes .ensures) (c .before .before .in-unit .ensures)
 
 pub convert-spans-spec : {M : Type 1} → statement M
 convert-spans-spec =
@@ -65,18 +61,18 @@ convert-spans-spec =
     (λ c κs. search needs)
     (λ c. none-converted (c .before .before .before .before .before .before .pre) _ _)
     (λ c. omega arith)
-    read-from
-    (λ c. omega arith)
-    read-to
+    (λ c. let head = c .before .before in in-columns (head .before .before .before .before .before .before .before .pre) (head .loop .inv) (c .before .loop-test .taken) .0)
+    (λ c κs. search needs)
+    (λ c κs. search needs)
     piece-asked
-    (λ c κs. (c .before .before .before .before .loop .inv .known, c .before .before .before .before .before .is-plain .ensures))
+    (λ c κs. (c .before .before .before .before .before .loop .inv .known, c .before .before .before .before .before .before .is-plain .ensures))
     mul-from
     write-from
     mul-to
     write-to
     sub-sum
     add-sum
-    (λ c. omega (arith, c .before .before .before .before .before .before .loop-test .taken, c .before .before .before .before .before .before .before .before .before .before .before .before .before .before .fits .count))
+    (λ c. omega (arith, c .before .before .before .before .before .before .before .loop-test .taken, c .before .before .before .before .before .before .before .before .before .before .before .before .before .before .before .fits .count))
     (λ c. omega arith)
     loop-again
     (λ c. c .before .loop .inv .starts-laid .same)

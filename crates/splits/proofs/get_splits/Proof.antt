@@ -5,23 +5,23 @@ use Rattle.splits.proofs.PieceOffsets.{refused, spans-room, spans-ready
 use Rattle.splits.proofs.get_splits.Statement.{statement}
 use Rattle.splits.proofs.get_splits.Tie as tie
 
-spans-asked : tie.Need-write-spans-requires
+spans-asked : tie.Need-write-packed-requires
 spans-asked c κs =
-    let told = c .before .before in
+    let told = c .before in
     let args = told .before .before .before .before .before .before .before .before .before .before .before .args in
     spans-room limit _ _ _ (args .side) (args .unit) (args .out-starts .now) (args .out-ends .now) (told .before .before .before .least-of-two .ensures) (told .before .before .check-splits .ensures) (told .enum-told .given .1)
 
 ready : tie.Need-convert-spans-requires
 ready c κs =
-    let told = c .before .before .before .before .before .before .before .before .before in
+    let told = c .before .before .before .before .before .before in
     let args = told .before .before .before .before .before .before .before .before .before .before .before .args in
-    spans-ready limit _ _ _ (args .side) (args .unit) (args .out-starts .now) (args .out-ends .now) (told .before .before .before .least-of-two .ensures) (told .before .before .check-splits .ensures) (told .enum-told .given .1) (c .before .before .before .before .before .before .write-spans .ensures)
+    spans-ready limit _ _ _ (args .side) (args .unit) (args .out-starts .now) (args .out-ends .now) (told .before .before .before .least-of-two .ensures) (told .before .before .check-splits .ensures) (told .enum-told .given .1) (c .before .before .before .before .write-packed .ensures)
 
 returns-2 : tie.Need-returns-2
 returns-2 c =
-    let told = c .before .before .before .before .before .before .before .before .before .before .before .before .before .before in
+    let told = c .before .before .before .before .before .before .before .before .before .before .before in
     let args = told .before .before .before .before .before .before .before .before .before .before .before .args in
-    listed limit _ _ _ (args .side) (args .unit) (args .out-starts .now) (args .out-ends .now) (told .before .before .before .least-of-two .ensures) (told .before .before .check-splits .ensures) (told .enum-told .given .1) (c .before .before .before .before .before .before .before .before .before .before .before .write-spans .ensures) (c .before .before .before .before .convert-spans .ensures)
+    listed limit _ _ _ (args .side) (args .unit) (args .out-starts .now) (args .out-ends .now) (told .before .before .before .least-of-two .ensures) (told .before .before .check-splits .ensures) (told .enum-told .given .1) (c .before .before .before .before .before .before .before .before .before .write-packed .ensures) (c .before .before .before .before .convert-spans .ensures)
 
 pub get-splits-spec : {M : Type 1} → statement M
 get-splits-spec =

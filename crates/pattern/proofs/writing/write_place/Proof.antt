@@ -2,7 +2,7 @@
 use native.Mathlib.Omega.{arith}
 use lib.ListN.{length-set}
 use borrow.Author.Needs.{needs}
-use Rattle.pattern.proofs.Encoding.{length-placeBytes, writable-start, writable-end, after-start, after-end, place-laid}
+use Rattle.pattern.proofs.Encoding.{length-placeBytes, writable-start, writable-end, after-start, after-end, command-small, place-laid}
 use Rattle.pattern.proofs.writing.write_place.Statement.{statement}
 use Rattle.pattern.proofs.writing.write_place.Tie as tie
 
@@ -17,7 +17,7 @@ returns c =
     let end = c .before .before .before in
     let start = end .before .before .before .before .before in
     let entry = start .before .before .before .before .before .before in
-    place-laid (entry .args .place) _ _ (entry .pre .1) (start .put-u16-le .ensures) (end .put-u16-le2 .ensures) (c .command-of .ensures)
+    place-laid (entry .args .place) _ _ (entry .pre .1) (start .put-u16-le .ensures) (end .put-u16-le2 .ensures)
 
 slice-write-out : tie.Need-slice-write-out
 slice-write-out c =
@@ -43,7 +43,8 @@ write-place-spec =
     (λ c. omega (arith, writable-end _ (c .before .before .before .before .before .before .before .before .before .pre .0)))
     (λ c. search needs)
     put-u16-le-requires-2
-    (λ c κs. search needs)
+    (λ c. search needs)
+    (λ c. omega (arith, command-small (c .before .before .before .before .before .before .before .before .before .before .before .before .before .before .args .place .matched)))
     slice-write-out
     (λ c. search needs)
     same-length

@@ -1,0 +1,3 @@
+-- Laws of the columns of pieces.
+pub mod Packing
+pub mod Placing

@@ -1,0 +1,2 @@
+-- Where pieces start and end, in columns.
+pub mod Packing

@@ -1,0 +1,75 @@
+-- The two ends of a piece in one number; the columns in which a list's pieces are written.
+use Prim.Native.Nat.{ℕ, _+_, _*_, _/_, _%_, _≤_}
+use mathlib.Core.Path.{_≡_}
+use mathlib.Core.Bool.{Bool, true}
+use mathlib.Core.List.{List, map}
+use lib.ListN.{length}
+use Rattle.buffers.specs.Splice.{splice, overlay}
+use Rattle.pattern.specs.declared.Place.{Place}
+use Rattle.pattern.specs.Entries.{whole}
+use Rattle.behaviors.specs.declared.SplitDelimiterBehavior.{SplitDelimiterBehavior}
+use Rattle.behaviors.specs.declared.EmptyPieces.{EmptyPieces}
+use Rattle.behaviors.specs.Joining.{startsOf, endsOf}
+use Rattle.behaviors.specs.Runs.{given, listPieces, Listed}
+
+-- the number of a piece, and its two ends in that number
+unfoldable pub packed : Place → ℕ
+packed p = p .start .0 + p .end .0 * 65536
+
+unfoldable pub startIn : ℕ → ℕ
+startIn span = span % 65536
+
+unfoldable pub endIn : ℕ → ℕ
+endIn span = span / 65536
+
+abbrev pub packedOf : List Place → List ℕ
+packedOf ps = map packed ps
+
+-- a run inside a text, and room for it where it gives a piece
+pub record RunRoom (most : ℕ) (met : Bool) (run : Place) (spans : List ℕ) (at : ℕ) : Type 0 where
+  pub onward : run .start .0 ≤ run .end .0
+  pub inside : run .end .0 ≤ most
+  pub room : at + length (given met run) ≤ length spans
+
+-- what a run gives stands in the column from `at` on
+pub record RunLaid (met : Bool) (run : Place) (spans₀ : List ℕ) (at r : ℕ) (spans : List ℕ) : Type 0 where
+  pub reach : r ≡ at + length (given met run)
+  pub spans-are : spans ≡ splice spans₀ at (packedOf (given met run))
+
+-- a judged list, and room for its pieces
+pub record PackedRoom (most : ℕ) (list : List ℕ) (behavior : SplitDelimiterBehavior) (empty : EmptyPieces)
+    (spans : List ℕ) : Type 0 where
+  pub listed : Listed most list
+  pub unbroken : whole list ≡ true
+  pub room : length (listPieces behavior empty list) ≤ length spans
+
+-- all pieces stand in front of the column; each number has a piece's two ends
+pub record PackedLaid (ps : List Place) (spans₀ : List ℕ) (r : ℕ) (spans : List ℕ) : Type 0 where
+  pub reach : r ≡ length ps
+  pub spans-are : spans ≡ overlay (packedOf ps) spans₀
+  pub starts-in : map startIn (packedOf ps) ≡ startsOf ps
+  pub ends-in : map endIn (packedOf ps) ≡ endsOf ps
+
+-- numbers that are taken apart
+pub record UnpackRoom (spans starts ends : List ℕ) : Type 0 where
+  pub starts-room : length spans ≤ length starts
+  pub ends-room : length spans ≤ length ends
+
+pub record Unpacked (spans starts₀ ends₀ starts ends : List ℕ) : Type 0 where
+  pub starts-are : starts ≡ overlay (map startIn spans) starts₀
+  pub ends-are : ends ≡ overlay (map endIn spans) ends₀
+
+-- room for a list's pieces in three columns
+pub record SpansRoom (most : ℕ) (list : List ℕ) (behavior : SplitDelimiterBehavior) (empty : EmptyPieces)
+    (spans starts ends : List ℕ) : Type 0 where
+  pub packed-room : PackedRoom most list behavior empty spans
+  pub starts-room : length (listPieces behavior empty list) ≤ length starts
+  pub ends-room : length (listPieces behavior empty list) ≤ length ends
+
+-- all pieces stand in front of the last two, and their numbers in front of the first
+pub record SpansLaid (ps : List Place) (spans₀ starts₀ ends₀ : List ℕ) (r : ℕ)
+    (spans starts ends : List ℕ) : Type 0 where
+  pub reach : r ≡ length ps
+  pub spans-are : spans ≡ overlay (packedOf ps) spans₀
+  pub starts-are : starts ≡ overlay (startsOf ps) starts₀
+  pub ends-are : ends ≡ overlay (endsOf ps) ends₀
