@@ -1,6 +1,4 @@
 -- Laws of code points.
-pub mod Parts
 pub mod Encoded
-pub mod Codes
-pub mod Packed
-pub mod Texts
+pub mod Judging
+pub mod Blocks

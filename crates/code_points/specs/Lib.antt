@@ -1,3 +1,2 @@
--- Code points and their bytes.
-pub mod Codes
+-- Code points judged and laid down.
 pub mod Laying

@@ -1,10 +1,8 @@
 // Code points: judged, measured, and their bytes laid down.
-pub mod blocks;
-
-use blocks::lay_text_block;
-use blocks::narrow;
-use blocks::union;
 use buffers::copy_bytes;
+use code_point_blocks::lay_text_block;
+use code_point_blocks::narrow;
+use code_point_blocks::union;
 use script::size_of;
 use utf8::encode_utf8;
 ghost use mathlib.Core.Path.{_≡_};
@@ -14,8 +12,9 @@ ghost use lib.ListN.{length};
 ghost use Rattle.buffers.specs.Over.{Over};
 ghost use Rattle.utf8.specs.Scalar.{bytesOf};
 ghost use Rattle.script.specs.Scripts.{sizeOf};
-ghost use Rattle.code_points.specs.Codes.{allScalar};
-ghost use Rattle.code_points.specs.Laying.{BlockRoom, JudgedAs, TextLaid, TextRoom};
+ghost use Rattle.code_point_blocks.specs.Codes.{allScalar};
+ghost use Rattle.code_point_blocks.specs.Laying.{BlockRoom, TextLaid};
+ghost use Rattle.code_points.specs.Laying.{JudgedAs, TextRoom};
 
 // Whether numbers are scalar values, and how many bytes those that are have.
 pub struct Judged {

@@ -18,7 +18,7 @@ use Rattle.utf8.proofs.Formed.{announced-one, announced-none, announced-two, an
 use Rattle.utf8.proofs.Boundaries.{formed-drop, char-at, boundary-zero}
 use Rattle.utf8.proofs.Scalar.{encoded-one, encoded-two, encoded-three, encoded-four, bytesOf-scalar}
 use Rattle.edits.specs.Characters.{codeAt, codesFrom, codesOf, CodeBytes, CodesText}
-use Rattle.code_points.specs.Codes.{textOf}
+use Rattle.code_point_blocks.specs.Codes.{textOf}
 
 -- a byte between two others
 within-both : {low high b : ℕ} → within (bytes low high) b ≡ true → (low ≤ b) × (b ≤ high)

@@ -19,7 +19,7 @@ use Rattle.note.specs.Faults.{noteFaults}
 use Rattle.note.proofs.Verdicts.{refused-then, accepted-then}
 use Rattle.note.proofs.Sound.{normalized-formed}
 use Rattle.note.proofs.Faults.{accepted-sound}
-use Rattle.code_points.specs.Codes.{allScalar}
+use Rattle.code_point_blocks.specs.Codes.{allScalar}
 use Rattle.edits.specs.Whole.{codesFaults}
 
 module _ (most : ℕ) (n : Note) {v : Verdict} (noted : v ≡ verdict (noteFaults most n)) (ok : v ≡ Accepted) where

@@ -21,10 +21,10 @@ use Rattle.note.specs.Notes.{Note, Sound}
 use Rattle.note.specs.Faults.{noteFaults}
 use Rattle.note.proofs.Sound.{length-starts, length-ends, normalized-formed, shared-at}
 use Rattle.note.proofs.Faults.{accepted-sound}
-use Rattle.code_points.specs.Codes.{textOf}
+use Rattle.code_point_blocks.specs.Codes.{textOf}
 use Rattle.code_points.specs.declared.Judged.{Judged}
 use Rattle.code_points.specs.Laying.{JudgedAs}
-use Rattle.code_points.proofs.Parts.{over-splice}
+use Rattle.code_point_blocks.proofs.Parts.{over-splice}
 use Rattle.letter_columns.specs.declared.Reached.{Reached}
 use Rattle.letter_columns.specs.Spreading.{ofLetters, spread}
 use Rattle.letter_columns.specs.Laying.{ColumnRoom, CodesRoom, CodesLaid}

@@ -24,7 +24,7 @@ use Rattle.edit_steps.specs.Edits.{skipped, starves, moved, starved, carries, c
 use Rattle.edit_steps.specs.Walking.{Standing}
 use Rattle.edit_steps.proofs.Positions.{standing-next, skipped-none, skipped-past, skipped-on, starves-replacing, moved-replacing}
 use Rattle.edits.specs.Characters.{codeAt, codesFrom, codesOf}
-use Rattle.code_points.specs.Codes.{textOf}
+use Rattle.code_point_blocks.specs.Codes.{textOf}
 use Rattle.letter_columns.specs.Spreading.{ofLetters, spread}
 use Rattle.letter_columns.proofs.Letters.{letters-drop, length-letters, letter-at, leads-at}
 use Rattle.letter_columns.proofs.Spread.{spread-on}

@@ -8,7 +8,7 @@ use lib.ListN.{length, getD}
 use Rattle.buffers.specs.Splice.{part}
 use Rattle.utf8.specs.Formed.{announced, wellFormed, boundary}
 use Rattle.utf8.specs.Scalar.{bytesOf}
-use Rattle.code_points.specs.Codes.{textOf}
+use Rattle.code_point_blocks.specs.Codes.{textOf}
 
 -- the code point whose bytes stand at p (the Unicode Standard, Table 3-6)
 unfoldable pub codeAt : List ℕ → ℕ → ℕ

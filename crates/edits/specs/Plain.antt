@@ -9,7 +9,7 @@ use Rattle.utf8.specs.Formed.{boundary}
 use Rattle.utf8.specs.Letters.{letters}
 use Rattle.note.specs.Notes.{Note, lent, Sound}
 use Rattle.script.specs.declared.Command.{Command}
-use Rattle.code_points.specs.Codes.{textOf}
+use Rattle.code_point_blocks.specs.Codes.{textOf}
 use Rattle.letter_columns.specs.Spreading.{ofLetters, spread}
 use Rattle.edit_steps.specs.Edits.{starved, Edit, placed, begins, transformed}
 use Rattle.edits.specs.Characters.{codesOf}

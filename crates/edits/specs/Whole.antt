@@ -18,7 +18,7 @@ use Rattle.note.specs.Starting.{charStart}
 use Rattle.note.specs.Faults.{noteFaults, stringFaults}
 use Rattle.convert.specs.declared.Range.{Range}
 use Rattle.script.specs.declared.Command.{Command}
-use Rattle.code_points.specs.Codes.{allScalar}
+use Rattle.code_point_blocks.specs.Codes.{allScalar}
 use Rattle.edit_steps.specs.Edits.{Edit, unchanging}
 use Rattle.transform.specs.Transforming.{target, editOf, editFaults, wholeTranscript}
 use Rattle.edits.specs.declared.Clearing.{Clearing}

@@ -20,7 +20,7 @@ use Rattle.utf8.specs.Letters.{leadAt, leads}
 use Rattle.utf8.proofs.Boundaries.{char-at, boundary-begins, boundary-zero}
 use Rattle.utf8.proofs.Letters.{Counted, counted-le, lead-one, lead-zero, none-counted, flag-counted, leads-append, leads-take, leads-take-add, letters-leads}
 use Rattle.script.specs.Scripts.{sizeOf}
-use Rattle.code_points.specs.Codes.{textOf}
+use Rattle.code_point_blocks.specs.Codes.{textOf}
 use Rattle.letter_columns.specs.Spreading.{ofLetters, spread}
 use Rattle.letter_columns.proofs.Letters.{letter-at}
 use Rattle.edits.specs.Characters.{codeAt, codesOf}

@@ -24,7 +24,7 @@ use Rattle.edit_steps.specs.Walking.{Standing}
 use Rattle.transform.specs.declared.Editing.the-variants.{Edited}
 use Rattle.transform.specs.Transforming.{editFaults, Rewritten}
 use Rattle.transform.proofs.Verdicts.{small-enough, accepted-rewritten, note-editable}
-use Rattle.code_points.specs.Codes.{textOf}
+use Rattle.code_point_blocks.specs.Codes.{textOf}
 use Rattle.letter_columns.specs.Spreading.{ofLetters, spread}
 use Rattle.edits.specs.Characters.{codesOf}
 use Rattle.edits.specs.Whole.{droppedAhead, anyKept}

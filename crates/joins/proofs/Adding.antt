@@ -9,7 +9,7 @@ use Rattle.utf8.specs.Scalar.{bytesOf}
 use Rattle.note.specs.Notes.{beforeEnd}
 use Rattle.script.specs.Scripts.{sizeOf}
 use Rattle.edit_steps.specs.Edits.{starves, moved, starved, carries, characters, carried, given}
-use Rattle.code_points.specs.Codes.{textOf}
+use Rattle.code_point_blocks.specs.Codes.{textOf}
 use Rattle.edits.specs.Whole.{allAdding}
 
 pub replicate-add : (a b v : ℕ) → replicate (a + b) v ≡ replicate a v ++ replicate b v

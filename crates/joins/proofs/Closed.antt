@@ -22,7 +22,7 @@ use Rattle.script.specs.Scripts.{sizeOf}
 use Rattle.edit_steps.specs.Edits.{skipped, starves, moved, starved, carries, characters, carried, given, placed, begins, relaid, edited, transformed, unchanging}
 use Rattle.edit_steps.proofs.Positions.{skipped-none, skipped-on, moved-replacing, starves-replacing}
 use Rattle.edit_steps.proofs.Given.{unchanged}
-use Rattle.code_points.specs.Codes.{textOf}
+use Rattle.code_point_blocks.specs.Codes.{textOf}
 use Rattle.edits.specs.Characters.{codeAt, codesOf}
 use Rattle.edits.specs.Whole.{replacing, adding, allAdding, replacingFirst, appendEdit, prependEdit}
 use Rattle.edits.proofs.Characters.{code-bytes, codes-none, codes-cons, codes-text}

@@ -11,9 +11,9 @@ use Rattle.buffers.proofs.Cases.{le-or-lt}
 use Rattle.buffers.proofs.Splice.{length-part, part-index}
 use Rattle.buffers.proofs.Over.{over-exact}
 use Rattle.utf8.specs.Formed.{continues}
-use Rattle.code_points.specs.Codes.{textOf}
-use Rattle.code_points.specs.Laying.{TextLaid}
-use Rattle.code_points.proofs.Parts.{over-run}
+use Rattle.code_point_blocks.specs.Codes.{textOf}
+use Rattle.code_point_blocks.specs.Laying.{TextLaid}
+use Rattle.code_point_blocks.proofs.Parts.{over-run}
 use Rattle.letter_columns.specs.Laying.{SameLeads, CodesRoom, CodesLaid}
 use Rattle.letter_columns.proofs.Spread.{copied}
 

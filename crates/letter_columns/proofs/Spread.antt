@@ -19,8 +19,8 @@ use Rattle.utf8.specs.Scalar.{scalar, bytesOf}
 use Rattle.utf8.proofs.Letters.{lead-one, lead-zero, leads-drop}
 use Rattle.script.specs.Scripts.{sizeOf}
 use Rattle.script.proofs.Scripts.{size-most, bool-most}
-use Rattle.code_points.specs.Codes.{textOf, allScalar}
-use Rattle.code_points.proofs.Parts.{Parts, no-part, parts-size, one-part, all-parts}
+use Rattle.code_point_blocks.specs.Codes.{textOf, allScalar}
+use Rattle.code_point_blocks.proofs.Parts.{Parts, no-part, parts-size, one-part, all-parts}
 use Rattle.letter_columns.specs.Spreading.{ofLetters, spread}
 use Rattle.letter_columns.specs.Laying.{Steady, ColumnRoom, LettersRoom, LettersLaid}
 use Rattle.letter_columns.proofs.Bytes.{Character, character}

@@ -7,7 +7,7 @@ use lib.ListN.{length, getD, drop}
 use Rattle.buffers.specs.Over.{Over}
 use Rattle.utf8.specs.Formed.{continues}
 use Rattle.utf8.specs.Letters.{leads}
-use Rattle.code_points.specs.Codes.{textOf, allScalar}
+use Rattle.code_point_blocks.specs.Codes.{textOf, allScalar}
 use Rattle.letter_columns.specs.declared.Reached.{Reached}
 use Rattle.letter_columns.specs.Spreading.{ofLetters, spread}
 

@@ -3,7 +3,8 @@ use native.Mathlib.Omega.{arith}
 use borrow.Author.Needs.{needs}
 use Prim.Native.Nat.{_-_, _*_, _^_, _<_}
 use lib.ListN.{length}
-use Rattle.code_points.proofs.Codes.{length-text, Judging, none-judged, block-judged, rest-judged}
+use Rattle.code_point_blocks.proofs.Codes.{length-text}
+use Rattle.code_points.proofs.Judging.{Judging, none-judged, block-judged, rest-judged}
 use Rattle.code_points.proofs.judge.Statement.{statement}
 use Rattle.code_points.proofs.judge.Tie as tie
 

@@ -4,7 +4,7 @@ use lib.ListN.{length, getD}
 use native.Mathlib.Omega.{arith}
 use borrow.Author.Needs.{needs}
 use Rattle.script.proofs.Scripts.{size-most}
-use Rattle.code_points.proofs.Codes.{Judging, none-judged, one-judged, all-judged}
+use Rattle.code_points.proofs.Judging.{Judging, none-judged, one-judged, all-judged}
 use Rattle.code_points.proofs.judge_block.Statement.{statement}
 use Rattle.code_points.proofs.judge_block.Tie as tie
 

@@ -1,7 +1,7 @@
 -- One byte each, at most three, or any.
 use native.Mathlib.Omega.{arith}
 use borrow.Author.Needs.{needs}
-use Rattle.code_points.proofs.Texts.{singly-room, each-below, ascii-laid}
+use Rattle.code_points.proofs.Blocks.{singly-room, each-below, ascii-laid}
 use Rattle.code_points.proofs.lay_block.Statement.{statement}
 use Rattle.code_points.proofs.lay_block.Tie as tie
 

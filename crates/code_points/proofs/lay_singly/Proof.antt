@@ -2,7 +2,8 @@
 use Prim.Native.Nat.{_-_, _^_, _<_}
 use lib.ListN.{length}
 use native.Mathlib.Omega.{arith}
-use Rattle.code_points.proofs.Texts.{Texts, no-text, character-room, one-character, all-characters}
+use Rattle.code_point_blocks.proofs.Texts.{Texts, no-text, one-character, all-characters}
+use Rattle.code_points.proofs.Blocks.{character-room}
 use Rattle.code_points.proofs.lay_singly.Statement.{statement}
 use Rattle.code_points.proofs.lay_singly.Tie as tie
 

@@ -2,8 +2,9 @@
 use native.Mathlib.Omega.{arith}
 use Prim.Native.Nat.{_-_, _*_, _^_, _<_}
 use lib.ListN.{length}
-use Rattle.code_points.proofs.Parts.{parts-size}
-use Rattle.code_points.proofs.Texts.{Blocks, no-block, block-room, one-block, rest-room, last-characters, another-block}
+use Rattle.code_point_blocks.proofs.Parts.{parts-size}
+use Rattle.code_point_blocks.proofs.Texts.{last-characters}
+use Rattle.code_points.proofs.Blocks.{Blocks, no-block, block-room, one-block, rest-room, another-block}
 use Rattle.code_points.proofs.lay_text.Statement.{statement}
 use Rattle.code_points.proofs.lay_text.Tie as tie
 

@@ -1,8 +1,8 @@
 -- By ranges.
 use borrow.Author.Needs.{needs}
-use Rattle.code_points.proofs.Packed.{packed-picked}
-use Rattle.code_points.proofs.blocks.packed.Statement.{statement}
-use Rattle.code_points.proofs.blocks.packed.Tie as tie
+use Rattle.code_point_blocks.proofs.Packing.{packed-picked}
+use Rattle.code_point_blocks.proofs.packed.Statement.{statement}
+use Rattle.code_point_blocks.proofs.packed.Tie as tie
 
 pub packed-spec : {M : Type 1} → statement M
 packed-spec =

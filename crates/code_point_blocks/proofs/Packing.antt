@@ -17,7 +17,7 @@ use Rattle.numbers.specs.LittleEndian.{littleEndian}
 use Rattle.numbers.proofs.LittleEndian.{length-littleEndian}
 use Rattle.utf8.specs.Scalar.{scalar, sixBits, bytesOf}
 use Rattle.utf8.proofs.Scalar.{bytesOf-scalar, encoded-one, encoded-two, encoded-three}
-use Rattle.code_points.specs.Laying.{packed, wordBytes}
+use Rattle.code_point_blocks.specs.Laying.{packed, wordBytes}
 
 pub record Gathered (codes : List ℕ) (bits i : ℕ) : Type 0 where
   pub most : (k : ℕ) → k < i → getD codes k 0 ≤ bits

@@ -4,8 +4,8 @@ use mathlib.Core.Path.{refl}
 use lib.ListN.{length}
 use native.Mathlib.Omega.{arith}
 use Rattle.buffers.proofs.Splice.{Written, none-yet, one-more, all-written}
-use Rattle.code_points.proofs.blocks.narrow.Statement.{statement}
-use Rattle.code_points.proofs.blocks.narrow.Tie as tie
+use Rattle.code_point_blocks.proofs.narrow.Statement.{statement}
+use Rattle.code_point_blocks.proofs.narrow.Tie as tie
 
 abbrev Inv-loop : tie.InvT-loop
 Inv-loop codes out₀ at i₀ out i = Written codes out₀ at out i

@@ -7,7 +7,7 @@ ghost use Prim.Native.Nat.{_+_, _≤_};
 ghost use lib.ListN.{length, getD};
 ghost use Rattle.buffers.specs.Columns.{Filled};
 ghost use Rattle.buffers.specs.Splice.{splice};
-ghost use Rattle.code_points.specs.Laying.{BlockRoom, EachBelow, EachMost, packed, TextLaid, wordBytes};
+ghost use Rattle.code_point_blocks.specs.Laying.{BlockRoom, EachBelow, EachMost, packed, TextLaid, wordBytes};
 
 // A number that each of them is at most, and that is below each power of two that all are below.
 pub fn union(codes: &[u32]) -> u32

@@ -2,9 +2,9 @@
 use Prim.Native.Nat.{_-_}
 use lib.ListN.{length}
 use native.Mathlib.Omega.{arith}
-use Rattle.code_points.proofs.Packed.{Gathered, none-gathered, one-gathered}
-use Rattle.code_points.proofs.blocks.union.Statement.{statement}
-use Rattle.code_points.proofs.blocks.union.Tie as tie
+use Rattle.code_point_blocks.proofs.Packing.{Gathered, none-gathered, one-gathered}
+use Rattle.code_point_blocks.proofs.union.Statement.{statement}
+use Rattle.code_point_blocks.proofs.union.Tie as tie
 
 abbrev Inv-loop : tie.InvT-loop
 Inv-loop codes bits₀ i₀ bits i = Gathered codes bits i

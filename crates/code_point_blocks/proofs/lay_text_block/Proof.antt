@@ -2,9 +2,9 @@
 use native.Mathlib.Omega.{arith}
 use borrow.Author.Needs.{needs}
 use Prim.Native.Nat.{_-_}
-use Rattle.code_points.proofs.Texts.{Words, no-word, word-room, word-few, one-word, all-words}
-use Rattle.code_points.proofs.blocks.lay_text_block.Statement.{statement}
-use Rattle.code_points.proofs.blocks.lay_text_block.Tie as tie
+use Rattle.code_point_blocks.proofs.Texts.{Words, no-word, word-room, word-few, one-word, all-words}
+use Rattle.code_point_blocks.proofs.lay_text_block.Statement.{statement}
+use Rattle.code_point_blocks.proofs.lay_text_block.Tie as tie
 
 abbrev Inv-loop : tie.InvT-loop
 Inv-loop codes out₀ from until words at₀ i₀ out at i = Words codes out₀ from until out at i

@@ -1,9 +1,9 @@
 use borrow.Author.Needs.{needs}
-use Rattle.code_points.proofs.Packed.{word-stored}
-use Rattle.code_points.proofs.blocks.put_word.Statement.{statement}
-use Rattle.code_points.proofs.blocks.put_word.Tie as tie
-use Rattle.code_points.proofs.blocks.put_word.Reads as reads
-use Rattle.code_points.proofs.blocks.put_word.Lts as lts
+use Rattle.code_point_blocks.proofs.Packing.{word-stored}
+use Rattle.code_point_blocks.proofs.put_word.Statement.{statement}
+use Rattle.code_point_blocks.proofs.put_word.Tie as tie
+use Rattle.code_point_blocks.proofs.put_word.Reads as reads
+use Rattle.code_point_blocks.proofs.put_word.Lts as lts
 use Rattle.numbers.proofs.little_endian.put_u16_le.Reads as put-u16-le-reads
 
 -- src/blocks.rt:74:16

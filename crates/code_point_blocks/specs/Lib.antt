@@ -1,0 +1,3 @@
+-- Code points and their bytes.
+pub mod Codes
+pub mod Laying
