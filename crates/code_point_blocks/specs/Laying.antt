@@ -32,8 +32,8 @@ unfoldable pub packed : ℕ → ℕ
 packed c =
     cond (ltb c 0x80) (0x1000000 + c % 128)
     (cond (ltb c 0x800) (0x20080C0 + c / 64 % 32 + c % 64 * 256)
-    (0x38080E0 + c / 4096 % 16 + c / 64 % 64 * 256 + c % 64 * 65536))
+    (0x38080E0 + c / 4096 % 16 + c / 64 % 64 * 256 + c % 64 * 0x10000))
 
 -- the four bytes of a word
 unfoldable pub wordBytes : ℕ → List ℕ
-wordBytes w = littleEndian 2 (w % 65536) ++ littleEndian 2 (w / 65536)
+wordBytes w = littleEndian 2 (w % 0x10000) ++ littleEndian 2 (w / 0x10000)
