@@ -51,22 +51,22 @@ module _ (text literal : List ℕ) (wide : ℕ) where
       (sizes-share n (p + length literal) _ (omega (arith, s .some, f .from)) (searched-more s more refl))))
 
   -- where the margin is left, a block is within the result
-  block-left : {margin i : ℕ} → Margin (length text) (length literal) wide margin → 0 < length literal → i ≤ length text → margin ≤ length text - i → 144 ≤ sizes wide (matchesFrom text literal i)
+  block-left : {margin i : ℕ} → Margin (length text) (length literal) wide margin → 0 < length literal → i ≤ length text → margin ≤ length text - i → 80 ≤ sizes wide (matchesFrom text literal i)
   block-left {i = i} w some inside room =
       let enough = w .enough (length text - i) room (omega arith) in
       let long = sizes-share (suc (length text)) i _ (omega arith) (record { some = some; most = inside; next = refl }) in
-      let more : 144 < sizes wide (matchesFrom text literal i) = lt-of-mul-lt-mul-left (length literal) (omega (arith, enough, long, mul-comm 144 (length literal))) in
+      let more : 80 < sizes wide (matchesFrom text literal i) = lt-of-mul-lt-mul-left (length literal) (omega (arith, enough, long, mul-comm 80 (length literal))) in
       omega arith
 
 -- the margin that is reckoned
 pub no-margin : (size literal wide : ℕ) → Margin size literal wide (size + 1)
 no-margin size literal wide = record { enough = λ k h few. absurd (omega arith) }
 
-pub margin-share : (size literal wide : ℕ) {share : ℕ} → share ≡ min wide literal → 0 < share → Margin size literal wide (144 * literal / share + 1)
+pub margin-share : (size literal wide : ℕ) {share : ℕ} → share ≡ min wide literal → 0 < share → Margin size literal wide (80 * literal / share + 1)
 margin-share size literal wide {share} is some =
     record {
       enough = λ k h few. rw (← is)
-          (le-or-lt (share * k) (144 * literal)
+          (le-or-lt (share * k) (80 * literal)
           (λ small. absurd (omega (arith, le-div-iff-mul-le some .1 (rw (mul-comm share k) at small))))
           (λ more. more));
     }

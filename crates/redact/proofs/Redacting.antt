@@ -5,10 +5,8 @@ use mathlib.Core.Bool.{Bool, true, false, cond, not}
 use mathlib.Core.List.{List}
 use native.Mathlib.Omega.{arith}
 use lib.Dec.{leb}
-use lib.ListN.{length, length-replicate}
+use lib.ListN.{length}
 use borrow.Author.Tests.{not-true, not-false}
-use Rattle.buffers.specs.Splice.{overlay}
-use Rattle.buffers.proofs.Splice.{overlay-long}
 use Rattle.utf8.specs.Formed.{wellFormed}
 use Rattle.note.specs.declared.Refusal.{Refusal}
 use Rattle.note.specs.declared.Refusal.the-variants.{NoRoom}
@@ -29,12 +27,10 @@ use Rattle.find.specs.Matching.{foundPlaces}
 use Rattle.find.specs.Finding.{foundBytes}
 use Rattle.find.specs.Searching.{firstMatch}
 use Rattle.find.proofs.FoundPlaces.{found-read, found-covers}
-use Rattle.replace.specs.declared.Publication.{Publication}
 use Rattle.replace.specs.declared.Publication.the-variants.{Published, Refused}
-use Rattle.replace.specs.Replacing.{carried, laid, replaced, replaceFaults, publication}
+use Rattle.replace.specs.Replacing.{laid, replaced, replaceFaults, publication}
 use Rattle.replace.specs.Sizes.{sizes}
 use Rattle.replace.proofs.Sizes.{length-laid}
-use Rattle.replace.proofs.Faults.{Taken, published-size, taken}
 use Rattle.redact.specs.Redacting.{blanked, inputFaults, redactFaults, Redacted}
 use Rattle.redact.specs.Publishing.{PublishedCall}
 use Rattle.redact.specs.Blanks.{Fitting, FoundLaid}
@@ -176,38 +172,4 @@ published-call text literal content out₀ starts₀ ends₀ m out starts ends c
       text-is = call .text-is ∙ ap (λ (v : Verdict). after v (blanked text literal content .text) out₀) ok;
       starts-are = call .starts-are ∙ ap (λ (v : Verdict). after v (blanked text literal content .starts) starts₀) ok;
       ends-are = call .ends-are ∙ ap (λ (v : Verdict). after v (blanked text literal content .ends) ends₀) ok;
-    }
-
--- what it has published is within the limit, and stands in front of each buffer
-pub record Fits (m : ℕ) (out starts ends : List ℕ) : Type 0 where
-  pub within : m ≤ limit
-  pub text-fits : m ≤ length out
-  pub starts-fit : m ≤ length starts
-  pub ends-fit : m ≤ length ends
-
-pub front-long : (r d : List ℕ) {o : List ℕ} {n : ℕ} → length r ≡ n → o ≡ overlay r d → n ≤ length o
-front-long r d long e = rw (e, ← long) (overlay-long r d)
-
-pub published-fits : {text literal content out₀ starts₀ ends₀ : List ℕ} {r : Publication} {m : ℕ} {out starts ends : List ℕ} → Redacted limit text literal content out₀ starts₀ ends₀ r out starts ends → r ≡ Published m → Fits m out starts ends
-unfolding replaced
-published-fits {text} {literal} {content} {out₀} {starts₀} {ends₀} {r} {m} {out} {starts} {ends} known is =
-    let call : Redacted limit text literal content out₀ starts₀ ends₀ (Published m) out starts ends = rw is at known in
-    let replacing = published-call text literal content out₀ starts₀ ends₀ m out starts ends call in
-    let ok : call .says ≡ Accepted = says-published (call .says) m _ (call .answer) in
-    let t : Taken (starting text) (foundBytes text literal) = taken replacing in
-    let size : m ≡ length (blanked text literal content .text) = published-size replacing in
-    let room = result-room text literal content _ (sym (call .says-is) ∙ ok) in
-    let alike : length (laid (λ end. content) (placesOf (foundBytes text literal)) (starting text .normalized)) ≡ sizes (length content) (placesOf (foundBytes text literal)) =
-    length-laid (starting text .normalized) (starting text .normalized) (λ end. content) (length content) 0 (placesOf (foundBytes text literal)) refl (λ e. refl) (t .covered) in
-    record {
-      within = omega (arith, size, room);
-      text-fits = front-long _ out₀ (sym size) (call .text-is ∙ ap (λ (v : Verdict). after v (blanked text literal content .text) out₀) ok);
-      starts-fit = front-long _ starts₀
-          (length-laid (starting text .normalized) (starting text .starts) (carried (length content) (starting text .starts)) (length content) 0 (placesOf (foundBytes text literal)) (t .one-start) (λ e. simp length-replicate) (t .covered)
-          ∙ sym alike ∙ sym size)
-          (call .starts-are ∙ ap (λ (v : Verdict). after v (blanked text literal content .starts) starts₀) ok);
-      ends-fit = front-long _ ends₀
-          (length-laid (starting text .normalized) (starting text .ends) (carried (length content) (starting text .ends)) (length content) 0 (placesOf (foundBytes text literal)) (t .one-end) (λ e. simp length-replicate) (t .covered)
-          ∙ sym alike ∙ sym size)
-          (call .ends-are ∙ ap (λ (v : Verdict). after v (blanked text literal content .ends) ends₀) ok);
     }

@@ -82,8 +82,8 @@ fn result_fits(text: &[u8], literal: &[u8], first: usize, wide: usize, room: usi
     blanked_size(text, literal, first, wide) <= room
 }
 
-// How many bytes have to be left of a text of so many that more than 144 of the result are: a block, the content behind
-// it, and the block that this is laid by.
+// How many bytes have to be left of a text of so many that more than 80 of the result are: a block, and the 16 that a
+// content behind it is laid by.
 fn share_of(size: usize, literal: usize, wide: usize) -> usize
     requires { ⌜ size ≤ limit ⌝ }
     ensures { λ r. ⌜ Margin size literal wide r ⌝ }
@@ -95,7 +95,7 @@ fn share_of(size: usize, literal: usize, wide: usize) -> usize
     if share == 0 {
         return size + 1;
     }
-    144 * literal / share + 1
+    80 * literal / share + 1
 }
 
 // The same where it is sure soon enough, and in any case as many as are searched at once.
@@ -103,10 +103,13 @@ fn margin_of(share: usize, literal: usize) -> usize
     requires { ⌜ literal ≤ limit ⌝ }
     ensures { λ r. ⌜ (literal + 80 ≤ r) × (share ≤ 1024 → share ≤ r) ⌝ }
 {
-    if share <= 1024 {
-        return share + literal + 80;
+    if 1024 < share {
+        return literal + 80;
     }
-    literal + 80
+    if share < literal + 80 {
+        return literal + 80;
+    }
+    share
 }
 
 // Up to where blocks may be laid: no bound where the margin is enough, else the result's size.
@@ -115,7 +118,7 @@ fn bound_of(text: &[u8], literal: &[u8], first: usize, wide: usize, share: usize
     ensures { λ r. ⌜ (1024 < share → r ≤ sizes wide (foundPlaces (now (text .entry)) (now (literal .entry)))) ⌝ }
 {
     if share <= 1024 {
-        return LIMIT + 144;
+        return LIMIT + 80;
     }
     blanked_size(text, literal, first, wide)
 }
@@ -170,7 +173,7 @@ fn blank_found(
             out_ends,
         );
     }
-    let mut padded = [0u8; 80];
+    let mut padded = [0u8; 16];
     copy_bytes(content, &mut padded, 0);
     blank(
         text,

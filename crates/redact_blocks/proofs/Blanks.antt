@@ -198,8 +198,8 @@ module _ {text literal content : List ℕ} {i at : ℕ} {out starts ends : List 
         rw (sym to) at on
 
   -- a block is within the result
-  module _ {plain : Bool} {filler : List ℕ} {margin until : ℕ} (m : Bounded text plain literal content filler i at margin until) (left : margin ≤ length text - i₁) (below : at₁ + 144 ≤ until) where
-    pub block-within : at₁ + 144 ≤ at + sizes (length content) (matchesFrom text literal i)
+  module _ {plain : Bool} {filler : List ℕ} {margin until : ℕ} (m : Bounded text plain literal content filler i at margin until) (left : margin ≤ length text - i₁) (below : at₁ + 80 ≤ until) where
+    pub block-within : at₁ + 80 ≤ at + sizes (length content) (matchesFrom text literal i)
     block-within = m .enough i₁ at₁ (b .inside) left below blanked-size
 
     pub block-room : (3 ≤ length text → 3 ≤ i) → {first last : ℕ} → first ≡ getD literal 0 0 → last ≡ getD literal (length literal - 1) 0 → BlockRoom text plain literal first last i₁ out₁ starts₁ ends₁ at₁

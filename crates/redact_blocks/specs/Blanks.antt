@@ -55,7 +55,7 @@ pub record Blanked (text literal content : List ℕ) (i at : ℕ) (out starts en
       i at ends i₁ at₁ ends₁
 
 -- blocks are laid with a content in front of a filler: where so many bytes of the text are left as `margin`
--- says, and 144 elements end below `until`, the result has them
+-- says, and 80 elements end below `until`, the result has them
 pub record Bounded (text : List ℕ) (plain : Bool) (literal content filler : List ℕ) (i at margin until : ℕ)
     : Type 0 where
   pub plain-is : plain ≡ true → ascii text ≡ true
@@ -63,10 +63,10 @@ pub record Bounded (text : List ℕ) (plain : Bool) (literal content filler : Li
   pub filler-long : length content ≤ length filler
   pub window : length literal + 80 ≤ margin
   pub enough :
-      (j b : ℕ) → j ≤ length text → margin ≤ length text - j → b + 144 ≤ until
+      (j b : ℕ) → j ≤ length text → margin ≤ length text - j → b + 80 ≤ until
       → b + sizes (length content) (matchesFrom text literal j)
       ≡ at + sizes (length content) (matchesFrom text literal i)
-      → b + 144 ≤ at + sizes (length content) (matchesFrom text literal i)
+      → b + 80 ≤ at + sizes (length content) (matchesFrom text literal i)
 
 -- a literal's first bytes, up to 16, in front of 16 bytes
 pub record FrontOf (literal front : List ℕ) : Type 0 where

@@ -19,7 +19,8 @@ ghost use Prim.Native.Nat.{_≤_, _<_};
 ghost use lib.ListN.{length, take};
 ghost use Rattle.buffers.specs.Same.{same};
 ghost use Rattle.find.specs.Matching.{occursAt};
-ghost use Rattle.redact_blocks.specs.Blanks.{AllLaid, Blankable, Blanked, BlockRoom, Bounded, FrontAt, FrontOf, Passed};
+ghost use Rattle.redact_blocks.specs.Blanks.{AllLaid, Blankable, Blanked, BlockRoom, Bounded, Passed};
+ghost use Rattle.redact_blocks.specs.Blanks.{FrontAt, FrontOf};
 
 // How far a result is laid: the text's bytes before `i` are what it has before `at`.
 pub struct Reached {
@@ -132,7 +133,7 @@ fn lay_ahead(
     k
 }
 
-// In blocks from `from` on, while `margin` bytes of the text are left and 144 elements end below `until`; the result is
+// In blocks from `from` on, while `margin` bytes of the text are left and 80 elements end below `until`; the result is
 // laid before `base`. `gap` is how far `at` is ahead of `i`, and the text's length: one number goes on with each block.
 pub fn blank_blocks(
     text: &[u8],
@@ -163,7 +164,7 @@ pub fn blank_blocks(
     let mut gap = base + text.len() - from;
     while margin <= text.len() - i {
         let at = i + gap - text.len();
-        if until < at + 144 {
+        if until < at + 80 {
             return Reached { i, at };
         }
         let k = lay_ahead(
@@ -188,7 +189,7 @@ pub fn blank_blocks(
                     i,
                     filler,
                     content.len(),
-                    here + 80,
+                    here + 16,
                     out,
                     out_starts,
                     out_ends,

@@ -1,13 +1,12 @@
 -- Laws of `replaceFaults`: what an accepted call tells, and what the calls answer by the checks that were made.
 use Prim.Native.Nat.{ℕ, _+_, _≤_, _<_, min}
 use mathlib.Core.Path.{_≡_, _∙_, ap, refl, sym}
-use mathlib.Core.Bool.{Bool, true, false, cond, not}
+use mathlib.Core.Bool.{Bool, true, false, not}
 use mathlib.Core.List.{List}
 use native.Mathlib.Omega.{arith}
-use lib.Dec.{leb, ltb}
-use lib.ListN.{length, length-replicate}
-use borrow.Author.Tests.{not-true, not-false, le-leb, lt-leb, lt-ltb, le-ltb}
-use Rattle.buffers.proofs.Cases.{true-or-false, le-or-lt}
+use lib.ListN.{length}
+use borrow.Author.Tests.{not-true, not-false, le-leb, lt-leb}
+use Rattle.buffers.proofs.Cases.{true-or-false}
 use Rattle.utf8.specs.Formed.{wellFormed}
 use Rattle.note.specs.declared.Refusal.{Refusal}
 use Rattle.note.specs.declared.Refusal.the-variants.{BadMatches, NoRoom}
@@ -25,7 +24,7 @@ use Rattle.pattern.specs.Places.{coversFrom, covers, listFaults}
 use Rattle.pattern.proofs.Places.{covers-places, covers-length}
 use Rattle.replace.specs.declared.Publication.{Publication}
 use Rattle.replace.specs.declared.Publication.the-variants.{Published, Refused}
-use Rattle.replace.specs.Replacing.{laid, carried, replaced, replaceFaults, publication, Replacing}
+use Rattle.replace.specs.Replacing.{laid, replaced, replaceFaults, publication, Replacing}
 use Rattle.replace.specs.Sizes.{sizes}
 use Rattle.replace.specs.Laying.{Ready, AllLaid}
 use Rattle.replace.proofs.Sizes.{length-laid}

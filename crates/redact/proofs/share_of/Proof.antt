@@ -18,5 +18,5 @@ share-of-spec =
     (λ c. no-margin _ _ _)
     (λ c. search needs)
     (λ c. search needs)
-    (λ c. omega (arith, div-le-self (144 * c .before .before .before .args .literal) (c .before .least-of-two .result)))
+    (λ c. omega (arith, div-le-self (80 * c .before .before .before .args .literal) (c .before .least-of-two .result)))
     (λ c. margin-share _ _ _ (c .before .least-of-two .ensures) (omega arith)))

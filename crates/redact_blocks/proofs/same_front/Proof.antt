@@ -1,7 +1,6 @@
 -- Each turn compares one more byte, which counts below `few`.
 use Prim.Native.Nat.{_-_}
 use native.Mathlib.Omega.{arith}
-use borrow.Author.Needs.{needs}
 use Rattle.redact_blocks.proofs.Front.{Fronted, none-fronted, one-fronted, all-fronted}
 use Rattle.redact_blocks.proofs.same_front.Statement.{statement}
 use Rattle.redact_blocks.proofs.same_front.Tie as tie
