@@ -1,2 +1,3 @@
 -- Laws of the working forms.
+pub mod Straying
 pub mod Unedited

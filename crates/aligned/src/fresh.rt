@@ -1,10 +1,10 @@
 // The note that no edit has touched: its cleaned text is its transcript, each byte aligned to its character's range.
 use buffers::Offset;
 use utf8::continues;
-use validity::is_ascii;
 ghost use mathlib.Core.Path.{_≡_};
 ghost use Prim.Native.Nat.{_≤_};
 ghost use lib.ListN.{length};
+ghost use Rattle.validity.specs.Texts.{ascii};
 ghost use Rattle.note.specs.Notes.{limit};
 ghost use Rattle.aligned.specs.Unedited.{carries, ownBytes, unedited, untouched};
 
@@ -62,13 +62,14 @@ fn unedited(text: &[u8], starts: &[Offset], ends: &[Offset]) -> bool
     ok
 }
 
-// The same; of an ASCII text, in which each byte is a character, by its index alone.
-pub fn untouched(text: &[u8], starts: &[Offset], ends: &[Offset]) -> bool
+// The same; of an ASCII text, in which each byte is a character, by its index alone. Which it is was told before.
+pub fn untouched(text: &[u8], starts: &[Offset], ends: &[Offset], plain: bool) -> bool
+    requires { ⌜ plain ≡ ascii (now text) ⌝ }
     requires { ⌜ length (now text) ≤ limit ⌝ }
     requires { ⌜ (length (now starts) ≡ length (now text)) × (length (now ends) ≡ length (now text)) ⌝ }
     ensures { λ r. ⌜ r ≡ untouched (now (text .entry)) (now (starts .entry)) (now (ends .entry)) ⌝ }
 {
-    if is_ascii(text) {
+    if plain {
         return own_bytes(starts, ends);
     }
     unedited(text, starts, ends)

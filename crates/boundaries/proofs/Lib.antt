@@ -1,3 +1,4 @@
 -- Laws of the working forms.
 pub mod Monotone
 pub mod Spanning
+pub mod Zeros

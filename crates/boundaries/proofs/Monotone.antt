@@ -25,17 +25,6 @@ module _ (text starts ends : List ℕ) (size : ℕ) where
   unfolding monotone everyBelow
   monotone-none = refl
 
-  pub monotone-first : (ok : Bool) → ok ≡ (leb (getD starts 0 0) (getD ends 0 0) && leb (getD ends 0 0) size) → ok ≡ monotone text starts ends size 1
-  unfolding monotone everyBelow monotoneAt
-  monotone-first ok e = e
-
-  pub monotone-more : (i : ℕ) (ok r : Bool) → 1 ≤ i → ok ≡ monotone text starts ends size i → r ≡ follows (getD text i 0) (getD starts (i - 1) 0) (getD ends (i - 1) 0) (getD starts i 0) (getD ends i 0) size → (ok && r) ≡ monotone text starts ends size (i + 1)
-  unfolding monotone monotoneAt
-  monotone-more zero ok r low p q = absurd (omega arith)
-  monotone-more (suc i) ok r low p q =
-      let one : suc i - 1 ≡ i = omega arith in
-      rw (every-suc (suc i) (monotoneAt text starts ends size), p, q, one)
-
 module _ (original starts ends : List ℕ) where
   pub uncut-none : true ≡ uncutBelow original starts ends 0
   unfolding uncutBelow everyBelow
@@ -65,7 +54,7 @@ pub all-ascii : (original starts ends : List ℕ) (n : ℕ) → ascii original �
 unfolding uncutBelow
 all-ascii original starts ends n e = every-all n _ (λ i below. and-intro (uncut-ascii original _ e) (uncut-ascii original _ e))
 
-bool-ext : (a b : Bool) → (a ≡ true → b ≡ true) → (b ≡ true → a ≡ true) → a ≡ b
+pub bool-ext : (a b : Bool) → (a ≡ true → b ≡ true) → (b ≡ true → a ≡ true) → a ≡ b
 bool-ext true b f g = sym (f refl)
 bool-ext false b f g = true-or-false b (λ t. g t ∙ sym t) (λ t. sym t)
 

@@ -1,4 +1,4 @@
--- Laws of `widthOf`, `spansBelow` and `Inside`: an alignment that is one whole character cuts none.
+-- Laws of `widthOf`, `leadsBelow`, `spansBelow` and `Inside`: an alignment that is one whole character cuts none.
 use Prim.Native.Nat.{ℕ, zero, suc, _+_, _-_, _≤_, _<_}
 use mathlib.Core.Path.{_≡_, _∙_, ap, refl, sym}
 use mathlib.Core.Bool.{Bool, true, false, cond, _&&_, _||_, not}
@@ -8,6 +8,7 @@ use borrow.Author.Tests.{le-leb, lt-leb, lt-ltb, le-ltb, leb-true, eqb-true, not
 use native.Mathlib.Omega.{arith}
 use lib.Dec.{leb, ltb, eqb}
 use lib.ListN.{length, getD, length-take, length-drop}
+use lib.Bits.{bitOr, bitXor}
 use mir.Val.{boolByte}
 use Rattle.buffers.specs.Every.{everyBelow}
 use Rattle.buffers.specs.Splice.{part}
@@ -20,7 +21,8 @@ use Rattle.utf8.specs.Table.{within}
 use Rattle.utf8.specs.Formed.{announced, continues, boundary, wellFormed}
 use Rattle.utf8.proofs.Boundaries.{boundary-at, boundary-begins, char-at, CharAt}
 use Rattle.boundaries.specs.Monotone.{follows, monotoneAt, monotone, uncut, uncutBelow}
-use Rattle.boundaries.specs.Spanning.{widthOf, spansBelow, Inside}
+use Rattle.boundaries.specs.Spanning.{widthOf, leadsBelow, spansBelow, Inside}
+use Rattle.boundaries.proofs.Zeros.{or-none, xor-none}
 
 pub width-flags : (b : ℕ) (x : Bool) → x ≡ continues b → boolByte (not x) + boolByte (leb 0xC0 b) + boolByte (leb 0xE0 b) + boolByte (leb 0xF0 b) ≡ widthOf b
 unfolding widthOf continues within
@@ -60,39 +62,46 @@ width-leads : (b : ℕ) → not (eqb (widthOf b) 0) ≡ true → continues b ≡
 unfolding widthOf
 width-leads b some = true-or-false (continues b) (λ t. clash false (rw t at some) refl) (λ f. f)
 
-spans-uncut : (original : List ℕ) (s e : ℕ) {w : ℕ} → wellFormed original ≡ true → s < length original → w ≡ widthOf (getD original s 0) → (not (eqb w 0) && eqb (e - s) w) ≡ true → (uncut original s && uncut original e) ≡ true
+spans-uncut : (original : List ℕ) (s e : ℕ) {w : ℕ} → wellFormed original ≡ true → s < length original → w ≡ widthOf (getD original s 0) → not (eqb w 0) ≡ true → eqb (e - s) w ≡ true → (uncut original s && uncut original e) ≡ true
 unfolding uncut
-spans-uncut original s e {w} formed h is spans =
-    let some : not (eqb w 0) ≡ true = and-elim-left (not (eqb w 0)) (eqb (e - s) w) spans in
-    let long : e - s ≡ w = eqb-true (e - s) w (and-elim-right (not (eqb w 0)) (eqb (e - s) w) spans) in
+spans-uncut original s e {w} formed h is some spans =
+    let long : e - s ≡ w = eqb-true (e - s) w spans in
     let leads : continues (getD original s 0) ≡ false = width-leads _ (rw is at some) in
     let here = char-at original s formed (boundary-at original s (omega arith) leads) h in
     let wide : w ≡ announced (getD original s 0) = is ∙ width-announced _ leads (here .positive) in
     let end : s + announced (getD original s 0) ≡ e = omega (arith, here .positive) in
     and-intro (ap not leads) (ap not (boundary-begins original e (rw end at (here .ends))))
 
--- the loop over a block
+-- the loops over a block
+module _ (widths : List ℕ) where
+  pub leads-none : true ≡ leadsBelow widths 0
+  unfolding leadsBelow everyBelow
+  leads-none = refl
+
+  pub leads-more : (j : ℕ) {ok : Bool} → ok ≡ leadsBelow widths j → (ok && not (eqb (getD widths j 0) 0)) ≡ leadsBelow widths (j + 1)
+  unfolding leadsBelow
+  leads-more j is = rw (is, every-suc j (λ k. not (eqb (getD widths k 0) 0)))
+
 module _ (widths starts ends : List ℕ) where
-  pub spans-none : true ≡ spansBelow widths starts ends 0
+  pub spans-none : eqb 0 0 ≡ spansBelow widths starts ends 0
   unfolding spansBelow everyBelow
   spans-none = refl
 
-  pub spans-more : (j : ℕ) {ok : Bool} {r : ℕ} → ok ≡ spansBelow widths starts ends j → r ≡ getD ends j 0 - getD starts j 0 → (ok && (not (eqb (getD widths j 0) 0) && eqb r (getD widths j 0))) ≡ spansBelow widths starts ends (j + 1)
+  pub spans-more : (j apart : ℕ) {r : ℕ} → eqb apart 0 ≡ spansBelow widths starts ends j → r ≡ getD ends j 0 - getD starts j 0 → eqb (bitOr apart (bitXor r (getD widths j 0))) 0 ≡ spansBelow widths starts ends (j + 1)
   unfolding spansBelow
-  spans-more j is far = rw (is, far, every-suc j (λ k. not (eqb (getD widths k 0) 0) && eqb (getD ends k 0 - getD starts k 0) (getD widths k 0)))
+  spans-more j apart {r} is far =
+      rw (or-none apart (bitXor r (getD widths j 0)), xor-none r (getD widths j 0), is, far, every-suc j (λ k. eqb (getD ends k 0 - getD starts k 0) (getD widths k 0)))
 
-  pub spans-all : {j : ℕ} {ok : Bool} → ok ≡ spansBelow widths starts ends j → j ≡ length widths → ok ≡ spansBelow widths starts ends (length widths)
-  spans-all is full = rw full at is
-
-pub all-spans : {original starts bytes₀ bytes widths₀ widths : List ℕ} (ends : List ℕ) → Inside original starts → length starts ≡ 128 → length bytes₀ ≡ 128 → length widths₀ ≡ 128 → Filled (λ k. getD original (getD starts k 0) 0) bytes₀ 0 (length bytes₀) bytes → Filled (λ k. widthOf (getD bytes k 0)) widths₀ 0 (length widths₀) widths → spansBelow widths starts ends (length widths) ≡ true → uncutBelow original starts ends 128 ≡ true
-unfolding uncutBelow spansBelow
-all-spans {original} {starts} {bytes = bytes} {widths = widths} ends known long n m read wide spans =
+pub all-spans : {original starts bytes₀ bytes widths₀ widths : List ℕ} (ends : List ℕ) → Inside original starts → length starts ≡ 128 → length bytes₀ ≡ 128 → length widths₀ ≡ 128 → Filled (λ k. getD original (getD starts k 0) 0) bytes₀ 0 (length bytes₀) bytes → Filled (λ k. widthOf (getD bytes k 0)) widths₀ 0 (length widths₀) widths → leadsBelow widths (length widths) ≡ true → spansBelow widths starts ends (length widths) ≡ true → uncutBelow original starts ends 128 ≡ true
+unfolding uncutBelow leadsBelow spansBelow
+all-spans {original} {starts} {bytes = bytes} {widths = widths} ends known long n m read wide leads spans =
     let size : length widths ≡ 128 = wide .same ∙ m in
     every-all 128 _
     (λ k h.
     spans-uncut original (getD starts k 0) (getD ends k 0) (known .formed) (known .below k (omega arith))
     (wide .within k (omega arith) (omega arith) ∙ ap widthOf (read .within k (omega arith) (omega arith)))
-    (every-at (length widths) (λ (i : ℕ). not (eqb (getD widths i 0) 0) && eqb (getD ends i 0 - getD starts i 0) (getD widths i 0)) spans k (omega arith)))
+    (every-at (length widths) (λ (i : ℕ). not (eqb (getD widths i 0) 0)) leads k (omega arith))
+    (every-at (length widths) (λ (i : ℕ). eqb (getD ends i 0 - getD starts i 0) (getD widths i 0)) spans k (omega arith)))
 
 -- alignments in two parts
 pub uncut-parts : (o s e : List ℕ) (i n : ℕ) → uncutBelow o s e (i + n) ≡ (uncutBelow o s e i && uncutBelow o (part s i (i + n)) (part e i (i + n)) n)

@@ -12,9 +12,11 @@ use Rattle.utf8.specs.Formed.{continues, wellFormed}
 unfoldable pub widthOf : ℕ → ℕ
 widthOf b = cond (continues b) 0 (cond (ltb b 0xC0) 1 (cond (ltb b 0xE0) 2 (cond (ltb b 0xF0) 3 4)))
 
+unfoldable pub leadsBelow : List ℕ → ℕ → Bool
+leadsBelow widths n = everyBelow n (λ k. not (eqb (getD widths k 0) 0))
+
 unfoldable pub spansBelow : List ℕ → List ℕ → List ℕ → ℕ → Bool
-spansBelow widths starts ends n =
-    everyBelow n (λ k. not (eqb (getD widths k 0) 0) && eqb (getD ends k 0 - getD starts k 0) (getD widths k 0))
+spansBelow widths starts ends n = everyBelow n (λ k. eqb (getD ends k 0 - getD starts k 0) (getD widths k 0))
 
 -- the transcript is well-formed, and every start is inside it
 pub record Inside (original starts : List ℕ) : Type 0 where

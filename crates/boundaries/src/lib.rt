@@ -10,7 +10,7 @@ ghost use lib.ListN.{length, getD};
 ghost use Rattle.buffers.specs.Columns.{Filled};
 ghost use Rattle.utf8.specs.Formed.{wellFormed};
 ghost use Rattle.boundaries.specs.Monotone.{monotone, uncut, uncutBelow};
-ghost use Rattle.boundaries.specs.Spanning.{Inside, spansBelow, widthOf};
+ghost use Rattle.boundaries.specs.Spanning.{Inside, leadsBelow, spansBelow, widthOf};
 
 // Whether no character of the text is cut at `p`.
 fn uncut(original: &[u8], p: Offset) -> bool
@@ -38,7 +38,7 @@ fn all_uncut(original: &[u8], starts: &[Offset], ends: &[Offset]) -> bool
 }
 
 // How far `a` is above `b`, or 0.
-fn over(a: Offset, b: Offset) -> Offset
+pub fn over(a: Offset, b: Offset) -> Offset
     ensures { λ r. ⌜ r ≡ a - b ⌝ }
 {
     if b < a {
@@ -80,20 +80,32 @@ fn write_widths(bytes: &[u8], widths: &mut [u8])
     }
 }
 
-// Whether each alignment is as long as its width, and that is not 0.
+// Whether no width is 0.
+fn all_lead(widths: &[u8]) -> bool
+    ensures { λ r. ⌜ r ≡ leadsBelow (now (widths .entry)) (length (now (widths .entry))) ⌝ }
+{
+    let mut ok = true;
+    let mut j = 0;
+    while j < widths.len() {
+        ok = ok & (widths[j] != 0);
+        j += 1;
+    }
+    ok
+}
+
+// Whether each alignment is as long as its width.
 fn all_span(widths: &[u8], starts: &[Offset], ends: &[Offset]) -> bool
     requires { ⌜ (length (now widths) ≤ length (now starts)) × (length (now widths) ≤ length (now ends)) ⌝ }
     ensures { λ r. ⌜ r ≡ spansBelow (now (widths .entry)) (now (starts .entry)) (now (ends .entry))
         (length (now (widths .entry))) ⌝ }
 {
-    let mut ok = true;
+    let mut apart: Offset = 0;
     let mut j = 0;
     while j < widths.len() {
-        let width = widths[j] as Offset;
-        ok = ok & ((width != 0) & (over(ends[j], starts[j]) == width));
+        apart = apart | (over(ends[j], starts[j]) ^ widths[j] as Offset);
         j += 1;
     }
-    ok
+    apart == 0
 }
 
 // Whether each alignment of a block of 128 is one whole character. An inner function: the transcript was judged, and
@@ -108,6 +120,9 @@ fn one_each(original: &[u8], starts: &[Offset], ends: &[Offset]) -> bool
     read_at(original, starts, &mut bytes);
     let mut widths = [0u8; 128];
     write_widths(&bytes, &mut widths);
+    if !all_lead(&widths) {
+        return false;
+    }
     all_span(&widths, starts, ends)
 }
 

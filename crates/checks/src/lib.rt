@@ -6,11 +6,13 @@ use note::LIMIT;
 use note::Refusal;
 use note::Verdict;
 use note::answers::refused_if;
+use validity::is_ascii;
 use validity::well_formed;
 ghost use mathlib.Core.Path.{_≡_};
 ghost use mathlib.Core.Bool.{true, _&&_};
 ghost use Prim.Native.Nat.{min};
 ghost use Rattle.utf8.specs.Formed.{wellFormed};
+ghost use Rattle.validity.specs.Texts.{ascii};
 ghost use Rattle.note.specs.Notes.{lent, limit};
 ghost use Rattle.note.specs.Faults.{noteFaults, stringFaults, textFaults};
 ghost use Rattle.note.specs.Refusals.{least, verdict};
@@ -36,13 +38,25 @@ fn lengths_paired(normalized: usize, starts: usize, ends: usize) -> bool
     (starts == normalized) & (ends == normalized)
 }
 
-// Whether both texts are well-formed. Where they are the same, one is judged. An inner function: `same` was told of the
-// two texts before.
-fn texts_formed(original: &[u8], normalized: &[u8], same: bool) -> bool
+// Whether a text is well-formed, by whether it is ASCII, which was told before.
+fn formed(text: &[u8], plain: bool) -> bool
+    requires { ⌜ plain ≡ ascii (now text) ⌝ }
+    ensures { λ r. ⌜ r ≡ wellFormed (now (text .entry)) ⌝ }
+{
+    if plain {
+        return true;
+    }
+    well_formed(text)
+}
+
+// Whether both texts are well-formed. Where they are the same, one is judged. An inner function: `plain` was told of
+// the transcript, and `same` of the two texts.
+fn texts_formed(original: &[u8], normalized: &[u8], plain: bool, same: bool) -> bool
+    requires { ⌜ plain ≡ ascii (now original) ⌝ }
     requires { ⌜ (same ≡ true → now original ≡ now normalized) ⌝ }
     ensures { λ r. ⌜ r ≡ (wellFormed (now (original .entry)) && wellFormed (now (normalized .entry))) ⌝ }
 {
-    if !well_formed(original) {
+    if !formed(original, plain) {
         return false;
     }
     if same {
@@ -69,12 +83,13 @@ pub fn check_note(
     if !lengths_paired(normalized.len(), starts.len(), ends.len()) {
         return Verdict::Refused(Refusal::LengthMismatch);
     }
+    let plain = is_ascii(original);
     let same = same_bytes(original, normalized);
-    if !texts_formed(original, normalized, same) {
+    if !texts_formed(original, normalized, plain, same) {
         return Verdict::Refused(Refusal::IllFormed);
     }
     refused_if(
-        !aligned(original, normalized, starts, ends, same),
+        !aligned(original, normalized, starts, ends, plain, same),
         Refusal::Misaligned,
     )
 }

@@ -1,11 +1,17 @@
 -- An untouched note is aligned; of another, the alignments one beside the other, then the transcript's boundaries.
-use mathlib.Core.Path.{sym, _∙_}
+use mathlib.Core.Path.{sym, ap, _∙_}
 use borrow.Author.Needs.{needs}
 use borrow.Author.Tests.{not-false}
+use Rattle.validity.specs.Texts.{ascii}
 use Rattle.boundaries.proofs.Monotone.{not-monotone, monotone-ascii, monotone-uncut}
 use Rattle.aligned.proofs.Unedited.{untouched-aligned}
 use Rattle.aligned.proofs.aligned.Statement.{statement}
 use Rattle.aligned.proofs.aligned.Tie as tie
+
+untouched-requires : tie.Need-untouched-requires
+untouched-requires c κs =
+    let known = c .before .before .before .before .before .pre in
+    (known .kind ∙ ap ascii (known .alike (c .if1 .taken)), (known .normalized-short, (known .starts-paired, known .ends-paired)))
 
 returns : tie.Need-returns
 returns c =
@@ -14,12 +20,12 @@ returns c =
 
 returns-4 : tie.Need-returns-4
 returns-4 c =
-    let tested = c .before .before .before in
+    let tested = c .before .before in
     monotone-uncut _ _ _ _ (tested .before .monotone .ensures) (tested .if3 .left) (c .uncut-all .ensures) (tested .before .before .before .before .before .before .before .pre .starts-paired)
 
 uncut-all-requires : tie.Need-uncut-all-requires
 uncut-all-requires c κs =
-    let tested = c .before .before in
+    let tested = c .before in
     let known = tested .before .before .before .before .before .before .before .pre in
     ((known .original-formed, known .starts-paired), (known .ends-paired, sym (tested .before .monotone .ensures) ∙ not-false _ (tested .if3 .left)))
 
@@ -27,12 +33,13 @@ pub aligned-spec : {M : Type 1} → statement M
 aligned-spec =
     tie.close
     (tie.spec
-    (λ c κs. search needs)
+    untouched-requires
     returns
     (λ c. search needs)
     (λ c κs. search needs)
     (λ c. not-monotone _ _ _ _ (c .before .monotone .ensures) (c .if3 .taken))
-    (λ c κs. search needs)
-    (λ c. monotone-ascii _ _ _ _ (c .before .before .before .monotone .ensures) (c .before .before .if3 .left) (sym (c .before .is-ascii .ensures) ∙ c .if4 .taken))
+    (λ c.
+    let tested = c .before in
+    monotone-ascii _ _ _ _ (tested .before .monotone .ensures) (tested .if3 .left) (sym (tested .before .before .before .before .before .before .before .pre .kind) ∙ c .if4 .taken))
     uncut-all-requires
     returns-4)

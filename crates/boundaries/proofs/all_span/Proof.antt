@@ -2,17 +2,22 @@
 use Prim.Native.Nat.{_-_, _≤_}
 use mathlib.Core.Path.{_≡_}
 use native.Mathlib.Omega.{arith}
+use lib.Dec.{eqb}
 use lib.ListN.{length}
 use Rattle.boundaries.specs.Spanning.{spansBelow}
-use Rattle.boundaries.proofs.Spanning.{spans-none, spans-more, spans-all}
+use Rattle.boundaries.proofs.Monotone.{at-end}
+use Rattle.boundaries.proofs.Spanning.{spans-none, spans-more}
 use Rattle.boundaries.proofs.all_span.Statement.{statement}
 use Rattle.boundaries.proofs.all_span.Tie as tie
 
 abbrev Inv-loop : tie.InvT-loop
-Inv-loop widths starts ends ok₀ j₀ ok j = (j ≤ length widths) × (ok ≡ spansBelow widths starts ends j)
+Inv-loop widths starts ends apart₀ j₀ apart j = (j ≤ length widths) × (eqb apart 0 ≡ spansBelow widths starts ends j)
 
 abbrev μ-loop : tie.MeasureT-loop
-μ-loop widths starts ends ok₀ j₀ ok j = length widths - j
+μ-loop widths starts ends apart₀ j₀ apart j = length widths - j
+
+loop-again : tie.Need-loop-again Inv-loop μ-loop
+loop-again c = (omega arith, spans-more _ _ _ _ (c .before .before .before .before .before .loop .apart) (c .before .before .before .before .before .loop .inv .1) (c .before .over .ensures))
 
 pub all-span-spec : {M : Type 1} → statement M
 all-span-spec =
@@ -22,13 +27,13 @@ all-span-spec =
     μ-loop
     (λ c. (omega arith, spans-none _ _ _))
     (λ c. omega arith)
-    (λ c. omega (arith, c .shared-slice-known4 .given (c .before .before .loop .j)))
-    (λ c. omega arith)
     (λ c. omega arith)
     (λ c. omega arith)
     (λ c. omega arith)
     (λ c κs. omega arith)
     (λ c. omega arith)
+    (λ c. omega (arith, c .shared-slice-known6 .given (c .before .before .before .before .before .loop .j)))
     (λ c. omega arith)
-    (λ c. (omega arith, spans-more _ _ _ _ (c .before .before .before .before .before .loop .inv .1) (c .over .ensures)))
-    (λ c. spans-all _ _ _ {j = c .before .loop .j} (c .before .loop .inv .1) (omega arith)))
+    (λ c. omega arith)
+    loop-again
+    (λ c. at-end (spansBelow _ _ _) _ _ _ (c .before .loop .inv .0) (c .loop-test .left) (c .before .loop .inv .1)))

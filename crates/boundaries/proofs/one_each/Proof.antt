@@ -1,16 +1,20 @@
 -- The bytes at the starts, their widths, and that each alignment is as long as its width.
+use mathlib.Core.Bool.{false}
 use mathlib.Core.Path.{_∙_, refl, sym}
 use borrow.Author.Needs.{needs}
+use borrow.Author.Tests.{not-false}
+use Rattle.buffers.proofs.Cases.{clash}
 use Rattle.boundaries.proofs.Spanning.{all-spans}
 use Rattle.boundaries.proofs.one_each.Statement.{statement}
 use Rattle.boundaries.proofs.one_each.Tie as tie
 
-returns : tie.Need-returns
-returns c t =
-    let written = c .before .before .before in
+returns-2 : tie.Need-returns-2
+returns-2 c t =
+    let lead = c .before .before .before in
+    let written = lead .before .before .before in
     let read = written .before .before .before .before in
     let entry = read .before .before .before .before .before in
-    all-spans _ (entry .pre .1) (entry .pre .0 .0) refl refl (read .read-at .ensures) (written .write-widths .ensures) (sym (c .all-span .ensures) ∙ t)
+    all-spans _ (entry .pre .1) (entry .pre .0 .0) refl refl (read .read-at .ensures) (written .write-widths .ensures) (sym (lead .all-lead .ensures) ∙ not-false _ (c .before .before .if1 .left)) (sym (c .all-span .ensures) ∙ t)
 
 pub one-each-spec : {M : Type 1} → statement M
 one-each-spec =
@@ -23,4 +27,7 @@ one-each-spec =
     (λ c κs. search needs)
     (λ c. search needs)
     (λ c κs. search needs)
-    returns)
+    (λ c t. clash false t refl)
+    (λ c. search needs)
+    (λ c κs. search needs)
+    returns-2)

@@ -9,7 +9,7 @@ texts-formed-spec =
     tie.close
     (tie.spec
     (λ c κs. search needs)
-    (λ c. texts-ill-formed _ _ (c .before .well-formed .ensures) (c .if1 .taken))
-    (λ c. texts-same _ _ (c .before .before .well-formed .ensures) (c .before .if1 .left) (c .before .before .before .before .before .pre (c .if2 .taken)))
+    (λ c. texts-ill-formed _ _ (c .before .formed .ensures) (c .if1 .taken))
+    (λ c. texts-same _ _ (c .before .before .formed .ensures) (c .before .if1 .left) (c .before .before .before .before .before .pre .1 (c .if2 .taken)))
     (λ c κs. search needs)
-    (λ c. texts-both _ _ (c .before .before .before .well-formed .ensures) (c .before .before .if1 .left) (c .well-formed2 .ensures)))
+    (λ c. texts-both _ _ (c .before .before .before .formed .ensures) (c .before .before .if1 .left) (c .well-formed .ensures)))

@@ -10,7 +10,6 @@ untouched-spec =
     tie.close
     (tie.spec
     (λ c κs. search needs)
+    (λ c. untouched-ascii _ _ _ _ (sym (c .before .before .before .before .before .pre .0) ∙ c .before .if1 .taken) (c .own-bytes .ensures))
     (λ c κs. search needs)
-    (λ c. untouched-ascii _ _ _ _ (sym (c .before .before .is-ascii .ensures) ∙ c .before .if1 .taken) (c .own-bytes .ensures))
-    (λ c κs. search needs)
-    (λ c. untouched-other _ _ _ _ (sym (c .before .before .is-ascii .ensures) ∙ c .before .if1 .left) (c .unedited .ensures)))
+    (λ c. untouched-other _ _ _ _ (sym (c .before .before .before .before .before .pre .0) ∙ c .before .if1 .left) (c .unedited .ensures)))
