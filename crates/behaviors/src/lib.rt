@@ -7,8 +7,8 @@ ghost use mathlib.Core.Path.{_≡_};
 ghost use Rattle.note.specs.Notes.{limit};
 ghost use Rattle.behaviors.specs.Splits.{goes};
 ghost use Rattle.behaviors.specs.Joining.{joins, loses};
-ghost use Rattle.behaviors.specs.Runs.{Addable, given, joinedBy, joinTable, Listed, listPieces, onwardIf, sizesWith};
-ghost use Rattle.behaviors.specs.Runs.{stays};
+ghost use Rattle.behaviors.specs.Runs.{Addable, given, joinedBy, joinTable, Listed, listPieces};
+ghost use Rattle.behaviors.specs.Runs.{onwardIf, sizesWith, stays};
 
 // What becomes of the delimiters, the matched places.
 pub enum SplitDelimiterBehavior {

@@ -1,4 +1,4 @@
-// Where the pieces of a match list start and end (RULES 11), written into lent columns: each piece's start and end in one
+// Where the pieces of a match list start and end (RULES 11), written into lent columns: both ends of a piece in one
 // number first, so that a place is read and stored at once. Inner functions: the list and the room were judged before.
 use behaviors::EmptyPieces;
 use behaviors::SplitDelimiterBehavior;

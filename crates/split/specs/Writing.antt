@@ -90,7 +90,8 @@ pub record Countable (most : ℕ) (from to : List ℕ) : Type 0 where
   pub forward : (k : ℕ) → k < length from → getD from k 0 ≤ getD to k 0
   pub few : bytesBefore from to (length from) ≤ most
 
--- a piece that has some bytes, at most 16, of a text that has 16 from there on; a block from `at` on stays below `until`
+-- a piece that has some bytes, at most 16, of a text that has 16 from there on; a block from `at` on stays below
+-- `until`
 pub record BlockFits (from to size at until : ℕ) : Type 0 where
   pub some : from < to
   pub few : to - from ≤ 16

@@ -1,4 +1,4 @@
--- Columns of spans that become offsets, one piece after the other: none yet, one more, all of them.
+-- Columns of spans that become bytes, one piece after the other: none yet, one more, all of them.
 use Prim.Native.Nat.{ℕ, zero, suc, _+_, _-_, _≤_, _<_}
 use mathlib.Core.Path.{_≡_, _∙_, ap, refl, sym}
 use mathlib.Core.Bool.{true, _&&_}
@@ -17,12 +17,9 @@ use Rattle.spans.proofs.Packing.{store-one}
 use Rattle.char_offsets.specs.Positions.{indexOf}
 use Rattle.char_offsets.specs.Steps.{IndexKnown}
 use Rattle.convert.specs.declared.OffsetReferential.{OffsetReferential}
-use Rattle.splits.specs.declared.OffsetType.{OffsetType}
 use Rattle.splits.specs.declared.Bytes.{Bytes}
 use Rattle.splits.specs.declared.Cursor.{Cursor}
-use Rattle.splits.specs.declared.Offsets.{Offsets}
-use Rattle.splits.specs.SplitOffsets.{startNumber, endNumber}
-use Rattle.splits.specs.Steps.{fromByte, toByte, Piece, BytesAre, BothKnown, Stepped, inOrder, eachSpan, SpansReady, SpansConverted}
+use Rattle.splits.specs.Steps.{fromByte, toByte, Piece, BytesAre, BothKnown, inOrder, eachSpan, SpansReady, BytesWritten}
 
 -- the first of pieces in order
 pub record First (size at a b : ℕ) (from to : List ℕ) : Type 0 where
@@ -52,7 +49,7 @@ length-each number starts ends shift side sum size at (a ∷ from) (b ∷ to) e 
     ap suc (length-each number starts ends shift side (sum + (b - a)) size b from to (first-of size at a b from to e .rest))
 
 -- an element of what is not written yet
-unwritten : {whole rest d₀ : List ℕ} {k : ℕ} {d : List ℕ} → Laying whole rest d₀ k d → getD d k 0 ≡ getD d₀ k 0
+pub unwritten : {whole rest d₀ : List ℕ} {k : ℕ} {d : List ℕ} → Laying whole rest d₀ k d → getD d k 0 ≡ getD d₀ k 0
 unwritten {d₀ = d₀} {k = k} {d = d} l =
     let here : k + 0 ≡ k = omega arith in
     ap (λ (i : ℕ). getD d i 0) (sym here) ∙ sym (getD-drop k d 0 0) ∙ ap (λ (xs : List ℕ). getD xs 0 0) (l .beyond) ∙ getD-drop k d₀ 0 0 ∙ ap (λ (i : ℕ). getD d₀ i 0) here
@@ -63,55 +60,55 @@ getD-map f [] k h = absurd (omega arith)
 getD-map f (x ∷ xs) zero h = refl
 getD-map f (x ∷ xs) (suc k) h = getD-map f xs k (omega arith)
 
-abbrev each : (List ℕ → OffsetType → ℕ → ℕ → ℕ) → List ℕ → List ℕ → List ℕ → ℕ → OffsetReferential → OffsetType → ℕ → List ℕ → List ℕ → List ℕ
-each number original starts ends shift side unit sum from to = eachSpan (number original unit) starts ends shift side sum from to
-
 abbrev firsts : ℕ → List ℕ → List ℕ
 firsts count spans = map startIn (take count spans)
 
 abbrev lasts : ℕ → List ℕ → List ℕ
 lasts count spans = map endIn (take count spans)
 
--- what is written of the first `count` pieces, and what is known behind it
-pub record Converting (most : ℕ) (original starts ends : List ℕ) (shift : ℕ) (side : OffsetReferential) (unit : OffsetType) (count : ℕ) (spans₀ to₀ : List ℕ) (first last : Cursor) (sum k : ℕ) (from to : List ℕ) : Type 0 where
+-- what is written of the first `count` pieces
+pub record Converting (most : ℕ) (starts ends : List ℕ) (shift : ℕ) (side : OffsetReferential) (count : ℕ) (spans₀ to₀ : List ℕ) (sum k : ℕ) (from to : List ℕ) : Type 0 where
   pub at : ℕ
   pub behind : sum ≤ at
   pub few : k ≤ count
   pub ordered : inOrder (length starts) at (drop k (firsts count spans₀)) (drop k (lasts count spans₀)) ≡ true
-  pub known : BothKnown most original first last
-  pub starts-laid : Laying (each startNumber original starts ends shift side unit 0 (firsts count spans₀) (lasts count spans₀)) (each startNumber original starts ends shift side unit sum (drop k (firsts count spans₀)) (drop k (lasts count spans₀))) spans₀ k from
-  pub ends-laid : Laying (each endNumber original starts ends shift side unit 0 (firsts count spans₀) (lasts count spans₀)) (each endNumber original starts ends shift side unit sum (drop k (firsts count spans₀)) (drop k (lasts count spans₀))) to₀ k to
+  pub starts-laid : Laying (eachSpan (λ a e. a) starts ends shift side 0 (firsts count spans₀) (lasts count spans₀)) (eachSpan (λ a e. a) starts ends shift side sum (drop k (firsts count spans₀)) (drop k (lasts count spans₀))) spans₀ k from
+  pub ends-laid : Laying (eachSpan (λ a e. e) starts ends shift side 0 (firsts count spans₀) (lasts count spans₀)) (eachSpan (λ a e. e) starts ends shift side sum (drop k (firsts count spans₀)) (drop k (lasts count spans₀))) to₀ k to
 
-abbrev zero-cursor : Cursor
+abbrev pub zero-cursor : Cursor
 zero-cursor = record { at = 0; index = 0 }
 
 zero-known : {most : ℕ} {s : List ℕ} → length s ≤ most → IndexKnown most s 0 0
 unfolding indexOf
 zero-known short = record { short = short; inside = omega arith; so-far = refl }
 
-module _ {most : ℕ} {original starts ends : List ℕ} {shift count : ℕ} {spans₀ to₀ : List ℕ} (r : SpansReady most original starts ends shift count spans₀ to₀) where
+pub both-zero : {most : ℕ} {s : List ℕ} → length s ≤ most → BothKnown most s zero-cursor zero-cursor
+both-zero short = record { first-known = zero-known short; last-known = zero-known short }
+
+module _ {most : ℕ} {starts ends : List ℕ} {shift count : ℕ} {spans₀ to₀ : List ℕ} (r : SpansReady most starts ends shift count spans₀ to₀) where
   spans-long : length (take count spans₀) ≡ count
   spans-long = length-take-le count spans₀ (r .starts-room)
 
   column-long : (f : ℕ → ℕ) → length (map f (take count spans₀)) ≡ count
   column-long f = length-map (take count spans₀) f ∙ spans-long
 
-  pub none-converted : (side : OffsetReferential) (unit : OffsetType) → Converting most original starts ends shift side unit count spans₀ to₀ zero-cursor zero-cursor 0 0 spans₀ to₀
-  none-converted side unit =
-      let size : (number : ℕ → ℕ → ℕ) → length (eachSpan number starts ends shift side 0 (firsts count spans₀) (lasts count spans₀)) ≡ length (firsts count spans₀) = λ number. length-each number starts ends shift side 0 (length starts) 0 (firsts count spans₀) (lasts count spans₀) (r .ordered) in
+  pub spans-size : (number : ℕ → ℕ → ℕ) (side : OffsetReferential) → length (eachSpan number starts ends shift side 0 (firsts count spans₀) (lasts count spans₀)) ≡ count
+  spans-size number side = length-each number starts ends shift side 0 (length starts) 0 (firsts count spans₀) (lasts count spans₀) (r .ordered) ∙ column-long startIn
+
+  pub none-converted : (side : OffsetReferential) → Converting most starts ends shift side count spans₀ to₀ 0 0 spans₀ to₀
+  none-converted side =
       record {
         at = 0;
         behind = omega arith;
         few = omega arith;
         ordered = r .ordered;
-        known = record { first-known = zero-known (r .short); last-known = zero-known (r .short) };
-        starts-laid = none-laid _ spans₀ (omega (arith, size (startNumber original unit), column-long startIn, r .starts-room));
-        ends-laid = none-laid _ to₀ (omega (arith, size (endNumber original unit), column-long startIn, r .ends-room));
+        starts-laid = none-laid _ spans₀ (omega (arith, spans-size (λ a e. a) side, r .starts-room));
+        ends-laid = none-laid _ to₀ (omega (arith, spans-size (λ a e. e) side, r .ends-room));
       }
 
-  module _ {side : OffsetReferential} {unit : OffsetType} {first last : Cursor} {sum k : ℕ} {from to : List ℕ} (c : Converting most original starts ends shift side unit count spans₀ to₀ first last sum k from to) where
+  module _ {side : OffsetReferential} {sum k : ℕ} {from to : List ℕ} (c : Converting most starts ends shift side count spans₀ to₀ sum k from to) where
     -- where the loop is over
-    pub all-converted : count ≤ k → SpansConverted original starts ends shift side unit count spans₀ to₀ from to
+    pub all-converted : count ≤ k → BytesWritten starts ends shift side count spans₀ to₀ from to
     unfolding eachSpan
     all-converted done =
         let none : drop k (firsts count spans₀) ≡ [] = drop-of-length-le (firsts count spans₀) {i = k} (omega (arith, column-long startIn)) in
@@ -154,18 +151,17 @@ module _ {most : ℕ} {original starts ends : List ℕ} {shift count : ℕ} {spa
         unfolding eachSpan
         each-here number = rw (from-here, to-here)
 
-        pub one-converted : {bytes : Bytes} {o : Offsets} → BytesAre starts ends shift side sum a b bytes → Stepped most original unit (bytes .start) (bytes .end) o → Converting most original starts ends shift side unit count spans₀ to₀ (o .first) (o .last) (sum + (b - a)) (k + 1) (set from k (o .start)) (set to k (o .end))
-        one-converted {o = o} w s =
+        pub one-converted : {bytes : Bytes} → BytesAre starts ends shift side sum a b bytes → Converting most starts ends shift side count spans₀ to₀ (sum + (b - a)) (k + 1) (set from k (bytes .start)) (set to k (bytes .end))
+        one-converted {bytes} w =
             record {
               at = b;
               behind = omega (arith, c .behind, here .behind, here .some);
               few = omega arith;
               ordered = here .rest;
-              known = s .known;
               starts-laid =
-                  piece-laid _ (o .start ∷ []) _ spans₀ k from
-                  (rw (each-here (startNumber original unit), ← w .start-is, ← w .end-is, ← s .start-is) at (c .starts-laid)) (k + 1) (set from k (o .start)) refl (store-one from k (o .start) (in-columns .0));
+                  piece-laid _ (bytes .start ∷ []) _ spans₀ k from
+                  (rw (each-here (λ a e. a), ← w .start-is) at (c .starts-laid)) (k + 1) (set from k (bytes .start)) refl (store-one from k (bytes .start) (in-columns .0));
               ends-laid =
-                  piece-laid _ (o .end ∷ []) _ to₀ k to
-                  (rw (each-here (endNumber original unit), ← w .start-is, ← w .end-is, ← s .end-is) at (c .ends-laid)) (k + 1) (set to k (o .end)) refl (store-one to k (o .end) (in-columns .1));
+                  piece-laid _ (bytes .end ∷ []) _ to₀ k to
+                  (rw (each-here (λ a e. e), ← w .end-is) at (c .ends-laid)) (k + 1) (set to k (bytes .end)) refl (store-one to k (bytes .end) (in-columns .1));
             }

@@ -149,6 +149,9 @@ module _ (most : ℕ) (n : Note) (list : List ℕ) (behavior : SplitDelimiterBeh
         (pieces-ordered (n .normalized) 0 (splits behavior (placesOf list))
         (splits-cover (n .normalized) 0 behavior (placesOf list) (accepted-covers most n list behavior (min (length starts₀) (length ends₀)) accepted)))
 
+    pub original-short : length (n .original) ≤ most
+    original-short = accepted-lengths most n list behavior (min (length starts₀) (length ends₀)) accepted .original-short
+
     module _ {count : ℕ} {spans : List ℕ} (laid : PackedLaid ps starts₀ count spans) where
       from-is : map startIn (take count spans) ≡ startsOf ps
       from-is = rw (packed-front laid) (laid .starts-in)
@@ -156,11 +159,10 @@ module _ (most : ℕ) (n : Note) (list : List ℕ) (behavior : SplitDelimiterBeh
       to-is : map endIn (take count spans) ≡ endsOf ps
       to-is = rw (packed-front laid) (laid .ends-in)
 
-      pub spans-ready : SpansReady most (n .original) (n .starts) (n .ends) (n .original-shift) count spans ends₀
+      pub spans-ready : SpansReady most (n .starts) (n .ends) (n .original-shift) count spans ends₀
       spans-ready =
           let short = accepted-lengths most n list behavior (min (length starts₀) (length ends₀)) accepted in
           record {
-            short = short .original-short;
             low = short .shift-low;
             few = omega (arith, short .normalized-short, length-starts n sound);
             one-end = length-ends n sound ∙ sym (length-starts n sound);

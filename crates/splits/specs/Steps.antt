@@ -2,9 +2,9 @@
 use Prim.Native.Nat.{ℕ, _+_, _-_, _≤_, _<_}
 use mathlib.Core.Path.{_≡_}
 use mathlib.Core.Bool.{Bool, true, false, _&&_}
-use mathlib.Core.List.{List, [], _∷_, map}
+use mathlib.Core.List.{List, [], _∷_, _++_, map}
 use lib.Dec.{leb, ltb}
-use lib.ListN.{length, getD, take}
+use lib.ListN.{length, getD, take, replicate}
 use Rattle.buffers.specs.Splice.{overlay}
 use Rattle.validity.specs.Texts.{ascii}
 use Rattle.char_offsets.specs.Steps.{IndexKnown}
@@ -12,6 +12,7 @@ use Rattle.convert.specs.declared.OffsetReferential.{OffsetReferential}
 use Rattle.convert.specs.declared.OffsetReferential.the-variants.{Original, Normalized}
 use Rattle.spans.specs.Packing.{startIn, endIn}
 use Rattle.splits.specs.declared.OffsetType.{OffsetType}
+use Rattle.splits.specs.declared.OffsetType.the-variants.{Char}
 use Rattle.splits.specs.declared.Bytes.{Bytes}
 use Rattle.splits.specs.declared.Cursor.{Cursor}
 use Rattle.splits.specs.declared.Offsets.{Offsets}
@@ -49,15 +50,15 @@ pub record BothKnown (most : ℕ) (s : List ℕ) (first last : Cursor) : Type 0 
   pub first-known : Known most s first
   pub last-known : Known most s last
 
--- a flag that tells a text of bytes below 80
-pub record PlainIf (s : List ℕ) (plain : Bool) : Type 0 where
-  pub below : plain ≡ true → ascii s ≡ true
-
--- the numbers of two bytes, and the characters that are known then
-pub record Stepped (most : ℕ) (s : List ℕ) (unit : OffsetType) (a e : ℕ) (r : Offsets) : Type 0 where
-  pub start-is : r .start ≡ startNumber s unit a e
-  pub end-is : r .end ≡ endNumber s unit a e
+-- the numbers of two bytes in characters, and the characters that are known then
+pub record Stepped (most : ℕ) (s : List ℕ) (a e : ℕ) (r : Offsets) : Type 0 where
+  pub start-is : r .start ≡ startNumber s Char a e
+  pub end-is : r .end ≡ endNumber s Char a e
   pub known : BothKnown most s (r .first) (r .last)
+
+-- 16 ones and 16 zeros: from 16 - n on, n ones and then zeros
+abbrev pub nearFlags : List ℕ
+nearFlags = replicate 16 1 ++ replicate 16 0
 
 -- pieces inside a text of `size` bytes, each with a byte, one behind the other from `at` on
 unfoldable pub inOrder : ℕ → ℕ → List ℕ → List ℕ → Bool
@@ -76,8 +77,7 @@ eachSpan number starts ends shift side sum (a ∷ from) (b ∷ to) =
 
 -- the first `count` numbers of a column have the ends of such pieces, of a note within the limit; the other column has
 -- room for as many
-pub record SpansReady (most : ℕ) (original starts ends : List ℕ) (shift count : ℕ) (spans to : List ℕ) : Type 0 where
-  pub short : length original ≤ most
+pub record SpansReady (most : ℕ) (starts ends : List ℕ) (shift count : ℕ) (spans to : List ℕ) : Type 0 where
   pub low : shift ≤ most
   pub few : length starts ≤ most
   pub one-end : length ends ≡ length starts
@@ -85,7 +85,17 @@ pub record SpansReady (most : ℕ) (original starts ends : List ℕ) (shift coun
   pub ends-room : count ≤ length to
   pub ordered : inOrder (length starts) 0 (map startIn (take count spans)) (map endIn (take count spans)) ≡ true
 
--- and become their numbers
+-- and become their bytes
+pub record BytesWritten (starts ends : List ℕ) (shift : ℕ) (side : OffsetReferential)
+    (count : ℕ) (spans₀ to₀ from to : List ℕ) : Type 0 where
+  pub starts-are : from ≡ overlay
+      (eachSpan (λ a e. a) starts ends shift side 0
+      (map startIn (take count spans₀)) (map endIn (take count spans₀))) spans₀
+  pub ends-are : to ≡ overlay
+      (eachSpan (λ a e. e) starts ends shift side 0
+      (map startIn (take count spans₀)) (map endIn (take count spans₀))) to₀
+
+-- or their numbers in what was asked
 pub record SpansConverted (original starts ends : List ℕ) (shift : ℕ) (side : OffsetReferential) (unit : OffsetType)
     (count : ℕ) (spans₀ to₀ from to : List ℕ) : Type 0 where
   pub starts-are : from ≡ overlay
@@ -94,3 +104,27 @@ pub record SpansConverted (original starts ends : List ℕ) (shift : ℕ) (side 
   pub ends-are : to ≡ overlay
       (eachSpan (endNumber original unit) starts ends shift side 0
       (map startIn (take count spans₀)) (map endIn (take count spans₀))) to₀
+
+-- a number for each pair of two columns
+unfoldable pub eachPair : (ℕ → ℕ → ℕ) → List ℕ → List ℕ → List ℕ
+eachPair number [] to = []
+eachPair number (a ∷ from) [] = []
+eachPair number (a ∷ from) (e ∷ to) = number a e ∷ eachPair number from to
+
+-- the first `count` pairs of two columns, beside a text within the limit
+pub record PairsReady (most : ℕ) (s : List ℕ) (count : ℕ) (from to : List ℕ) : Type 0 where
+  pub short : length s ≤ most
+  pub starts-room : count ≤ length from
+  pub ends-room : count ≤ length to
+
+-- become characters; or their ends do
+pub record CharsCounted (s : List ℕ) (count : ℕ) (from₀ to₀ from to : List ℕ) : Type 0 where
+  pub starts-are : from ≡ overlay (eachPair (startNumber s Char) (take count from₀) (take count to₀)) from₀
+  pub ends-are : to ≡ overlay (eachPair (endNumber s Char) (take count from₀) (take count to₀)) to₀
+
+-- the end of a pair, where each byte is a character
+pub record PlainEnd (size a e r : ℕ) : Type 0 where
+  pub right : (s : List ℕ) → length s ≡ size → ascii s ≡ true → r ≡ endNumber s Char a e
+
+pub record EndsCounted (s : List ℕ) (count : ℕ) (from to₀ to : List ℕ) : Type 0 where
+  pub ends-are : to ≡ overlay (eachPair (endNumber s Char) (take count from) (take count to₀)) to₀

@@ -3,8 +3,8 @@ use behaviors::EmptyPieces;
 use behaviors::SplitDelimiterBehavior;
 use behaviors::measure;
 use buffers::Offset;
+use buffers::fill_bytes;
 use char_offsets::index_from;
-use char_offsets::index_near;
 use checks::check_note;
 use checks::least_of_two;
 use convert::OffsetReferential;
@@ -16,19 +16,23 @@ use pattern::most_places;
 use spans::span_end;
 use spans::span_start;
 use spans::write_packed;
+use utf8::continues;
 use validity::is_ascii;
 ghost use mathlib.Core.Path.{_≡_};
 ghost use mathlib.Core.Bool.{true};
-ghost use Prim.Native.Nat.{_<_};
+ghost use Prim.Native.Nat.{_+_, _≤_, _<_};
 ghost use lib.ListN.{length};
+ghost use Rattle.buffers.specs.Splice.{part};
+ghost use Rattle.utf8.specs.Letters.{leads};
 ghost use Rattle.validity.specs.Texts.{ascii};
 ghost use Rattle.note.specs.Notes.{lent, limit};
 ghost use Rattle.note.specs.Refusals.{verdict};
 ghost use Rattle.char_offsets.specs.Positions.{indexOf};
-ghost use Rattle.splits.specs.declared.OffsetType.the-variants.{Char};
+ghost use Rattle.char_offsets.specs.Steps.{Near};
 ghost use Rattle.splits.specs.SplitOffsets.{GetSplits, splitsFaults};
-ghost use Rattle.splits.specs.Steps.{BothKnown, BytesAre, Piece, PlainIf, SpansConverted};
-ghost use Rattle.splits.specs.Steps.{SpansReady, Stepped};
+ghost use Rattle.splits.specs.Steps.{BothKnown, BytesAre, BytesWritten, CharsCounted, EndsCounted, Known};
+ghost use Rattle.splits.specs.Steps.{nearFlags, PairsReady, Piece, PlainEnd, SpansConverted, SpansReady};
+ghost use Rattle.splits.specs.Steps.{Stepped};
 
 // What offsets count (Rust: `OffsetType`).
 pub enum OffsetType {
@@ -104,11 +108,52 @@ fn start_index(text: &[u8], first: Cursor, last: Cursor, from: usize) -> u32
     index_from(text, first.at, first.index, from)
 }
 
+// How many of the first `n` bytes from `from` on begin a character, of which there are at most 16: a block of 16 is
+// looked at, each byte with its flag, 1 for the first `n` and 0 behind them.
+fn first_leads(text: &[u8], flags: &[u8; 32], from: usize, n: usize) -> u8
+    requires { ⌜ Near (now text) from (from + n) × (now flags ≡ nearFlags) ⌝ }
+    ensures { λ r. ⌜ r ≡ leads (part (now (text .entry)) from (from + n)) ⌝ }
+{
+    let skipped = 16 - n;
+    let mut count: u8 = 0;
+    let mut j = 0;
+    while j < 16 {
+        let begins = !continues(text[from + j]);
+        count += begins as u8 & flags[skipped + j];
+        j += 1;
+    }
+    count
+}
+
+// The character of the byte `to`, from a byte that is most often at most 16 before it.
+fn index_behind(text: &[u8], flags: &[u8; 32], last: Cursor, to: usize) -> u32
+    requires { ⌜ Known limit (now text) last × (now flags ≡ nearFlags) ⌝ }
+    requires { ⌜ to < length (now text) ⌝ }
+    ensures { λ r. ⌜ r ≡ indexOf (now (text .entry)) to ⌝ }
+{
+    let at = last.at;
+    if at <= to {
+        if to - at <= 16 {
+            if at + 17 <= text.len() {
+                return last.index + first_leads(text, flags, at + 1, to - at) as u32;
+            }
+        }
+    }
+    index_from(text, at, last.index, to)
+}
+
 // Two bytes as characters of the text; the bytes themselves where the text has none at `start`. Starts and ends have a
 // byte each to go on from: along pieces neither goes back, so that a list takes one pass.
-fn in_chars(text: &[u8], first: Cursor, last: Cursor, start: u32, end: u32) -> Offsets
-    requires { ⌜ BothKnown limit (now text) first last ⌝ }
-    ensures { λ r. ⌜ Stepped limit (now (text .entry)) Char start end r ⌝ }
+fn in_chars(
+    text: &[u8],
+    flags: &[u8; 32],
+    first: Cursor,
+    last: Cursor,
+    start: u32,
+    end: u32,
+) -> Offsets
+    requires { ⌜ BothKnown limit (now text) first last × (now flags ≡ nearFlags) ⌝ }
+    ensures { λ r. ⌜ Stepped limit (now (text .entry)) start end r ⌝ }
 {
     let from = start as usize;
     let to = end as usize;
@@ -131,7 +176,7 @@ fn in_chars(text: &[u8], first: Cursor, last: Cursor, start: u32, end: u32) -> O
         };
     }
     let at = least_of_two(to, text.len() - 1);
-    let past = index_near(text, last.at, last.index, at);
+    let past = index_behind(text, flags, last, at);
     Offsets {
         start: index,
         end: past + (to - at) as u32,
@@ -140,67 +185,81 @@ fn in_chars(text: &[u8], first: Cursor, last: Cursor, start: u32, end: u32) -> O
     }
 }
 
-// Whether characters are asked of a text whose characters are its bytes.
-fn is_plain(text: &[u8], unit: OffsetType) -> bool
-    ensures { λ r. ⌜ PlainIf (now (text .entry)) r ⌝ }
+// The cleaned starts and ends of pieces, in front of the first column, become their bytes, in front of both.
+fn write_bytes(
+    starts: &[Offset],
+    ends: &[Offset],
+    original_shift: u32,
+    side: OffsetReferential,
+    count: usize,
+    out_starts: &mut [u32],
+    out_ends: &mut [u32],
+)
+    requires { ⌜ SpansReady limit (now starts) (now ends) «original_shift» count
+        (now «out_starts») (now «out_ends») ⌝ }
+    ensures { λ _. ⌜ BytesWritten (now (starts .entry)) (now (ends .entry)) «original_shift» side count
+        (now («out_starts» .entry)) (now («out_ends» .entry))
+        (now («out_starts» .exit)) (now («out_ends» .exit)) ⌝ }
 {
-    match unit {
-        OffsetType::Byte => false,
-        OffsetType::Char => is_ascii(text),
+    let mut sum: u32 = 0;
+    let mut k = 0;
+    while k < count {
+        let span = out_starts[k];
+        let from = span_start(span);
+        let to = span_end(span);
+        let bytes = piece_bytes(starts, ends, original_shift, side, sum, from, to);
+        out_starts[k] = bytes.start;
+        out_ends[k] = bytes.end;
+        sum += to - from;
+        k += 1;
     }
 }
 
-// Two bytes as characters of such a text, where nothing is counted.
-fn in_plain(text: &[u8], first: Cursor, last: Cursor, start: u32, end: u32) -> Offsets
-    requires { ⌜ BothKnown limit (now text) first last ⌝ }
+// The end of a pair of bytes in characters of an ASCII text of `size` bytes: only one past the text is another number.
+fn plain_end(size: u32, start: u32, end: u32) -> u32
+    requires { ⌜ size ≤ limit ⌝ }
+    ensures { λ r. ⌜ PlainEnd size start end r ⌝ }
+{
+    if start < size {
+        if size < end {
+            return start + 2;
+        }
+    }
+    end
+}
+
+// Pairs of bytes of an ASCII text become its characters, of which the starts are the bytes.
+fn write_plain(text: &[u8], count: usize, out_starts: &[u32], out_ends: &mut [u32])
+    requires { ⌜ PairsReady limit (now text) count (now «out_starts») (now «out_ends») ⌝ }
     requires { ⌜ ascii (now text) ≡ true ⌝ }
-    ensures { λ r. ⌜ Stepped limit (now (text .entry)) Char start end r ⌝ }
+    ensures { λ _. ⌜ EndsCounted (now (text .entry)) count (now («out_starts» .entry))
+        (now («out_ends» .entry)) (now («out_ends» .exit)) ⌝ }
 {
-    if (start as usize) < text.len() {
-        if text.len() < end as usize {
-            return Offsets {
-                start,
-                end: start + 2,
-                first,
-                last,
-            };
-        }
-    }
-    Offsets {
-        start,
-        end,
-        first,
-        last,
+    let mut k = 0;
+    while k < count {
+        out_ends[k] = plain_end(text.len() as u32, out_starts[k], out_ends[k]);
+        k += 1;
     }
 }
 
-// Two bytes in what was asked.
-fn in_unit(
-    text: &[u8],
-    unit: OffsetType,
-    plain: bool,
-    first: Cursor,
-    last: Cursor,
-    start: u32,
-    end: u32,
-) -> Offsets
-    requires { ⌜ BothKnown limit (now text) first last ⌝ }
-    requires { ⌜ PlainIf (now text) plain ⌝ }
-    ensures { λ r. ⌜ Stepped limit (now (text .entry)) unit start end r ⌝ }
+// Pairs of bytes become characters of the text.
+fn count_chars(text: &[u8], count: usize, out_starts: &mut [u32], out_ends: &mut [u32])
+    requires { ⌜ PairsReady limit (now text) count (now «out_starts») (now «out_ends») ⌝ }
+    ensures { λ _. ⌜ CharsCounted (now (text .entry)) count (now («out_starts» .entry)) (now («out_ends» .entry))
+        (now («out_starts» .exit)) (now («out_ends» .exit)) ⌝ }
 {
-    match unit {
-        OffsetType::Byte => Offsets {
-            start,
-            end,
-            first,
-            last,
-        },
-        OffsetType::Char => {
-            if plain {
-                return in_plain(text, first, last, start, end);
-            }
-            in_chars(text, first, last, start, end)
-        }
+    let mut flags = [0u8; 32];
+    fill_bytes(1, 16, &mut flags, 0);
+    let mut first = Cursor { at: 0, index: 0 };
+    let mut last = Cursor { at: 0, index: 0 };
+    let mut k = 0;
+    while k < count {
+        let offsets = in_chars(text, &flags, first, last, out_starts[k], out_ends[k]);
+        out_starts[k] = offsets.start;
+        out_ends[k] = offsets.end;
+        first = offsets.first;
+        last = offsets.last;
+        k += 1;
     }
 }
 
@@ -216,29 +275,31 @@ fn convert_spans(
     out_starts: &mut [u32],
     out_ends: &mut [u32],
 )
-    requires { ⌜ SpansReady limit (now original) (now starts) (now ends) «original_shift» count
+    requires { ⌜ SpansReady limit (now starts) (now ends) «original_shift» count
         (now «out_starts») (now «out_ends») ⌝ }
+    requires { ⌜ length (now original) ≤ limit ⌝ }
     ensures { λ _. ⌜ SpansConverted (now (original .entry)) (now (starts .entry)) (now (ends .entry)) «original_shift»
         side unit count (now («out_starts» .entry)) (now («out_ends» .entry))
         (now («out_starts» .exit)) (now («out_ends» .exit)) ⌝ }
 {
-    let plain = is_plain(original, unit);
-    let mut first = Cursor { at: 0, index: 0 };
-    let mut last = Cursor { at: 0, index: 0 };
-    let mut sum: u32 = 0;
-    let mut k = 0;
-    while k < count {
-        let span = out_starts[k];
-        let from = span_start(span);
-        let to = span_end(span);
-        let bytes = piece_bytes(starts, ends, original_shift, side, sum, from, to);
-        let offsets = in_unit(original, unit, plain, first, last, bytes.start, bytes.end);
-        out_starts[k] = offsets.start;
-        out_ends[k] = offsets.end;
-        first = offsets.first;
-        last = offsets.last;
-        sum += to - from;
-        k += 1;
+    write_bytes(
+        starts,
+        ends,
+        original_shift,
+        side,
+        count,
+        out_starts,
+        out_ends,
+    );
+    match unit {
+        OffsetType::Byte => {}
+        OffsetType::Char => {
+            if is_ascii(original) {
+                write_plain(original, count, out_starts, out_ends);
+            } else {
+                count_chars(original, count, out_starts, out_ends);
+            }
+        }
     }
 }
 

@@ -1,80 +1,38 @@
--- Each turn turns one more piece's span into its offsets.
-use Prim.Native.Nat.{_-_}
-use native.Mathlib.Omega.{arith}
+-- The bytes first; kept, or turned into characters.
+use mathlib.Core.Path.{_∙_, sym}
 use borrow.Author.Needs.{needs}
-use Rattle.note.specs.Notes.{limit}
-use Rattle.splits.proofs.Converting.{Converting, none-converted, piece-here, in-columns, one-converted, all-converted}
+use Rattle.splits.proofs.Pairs.{pairs-ready, bytes-kept, chars-put, plain-counted}
 use Rattle.splits.proofs.convert_spans.Statement.{statement}
 use Rattle.splits.proofs.convert_spans.Tie as tie
 
-abbrev Inv-loop : tie.InvT-loop
-Inv-loop original starts ends shift side unit count spans₀ to₀ plain first₀ last₀ sum₀ k₀ from to first last sum k =
-    Converting limit original starts ends shift side unit count spans₀ to₀ first last sum k from to
+write-plain-requires : tie.Need-write-plain-requires
+write-plain-requires c κs =
+    let entry = c .before .before .before .before .before .before .before .before .before .before .before .before .before .before .before .before .before .before in
+    (pairs-ready (entry .pre .0) (c .before .before .before .before .before .before .before .before .before .before .write-bytes .ensures) (entry .pre .1), sym (c .before .before .before .is-ascii .ensures) ∙ c .before .before .if1 .taken)
 
-abbrev μ-loop : tie.MeasureT-loop
-μ-loop original starts ends shift side unit count spans₀ to₀ plain first₀ last₀ sum₀ k₀ from to first last sum k = count - k
-
-piece-asked : tie.Need-piece-bytes-requires Inv-loop μ-loop
-piece-asked c κs =
-    let head = c .before .before .before .before in
-    piece-here (head .before .before .before .before .before .before .before .pre) (head .loop .inv) (c .before .before .before .loop-test .taken) (c .before .span-start .ensures) (c .span-end .ensures)
-
-write-from : tie.Need-slice-write-out-starts Inv-loop μ-loop
-write-from c = let head = c .before .before .before .before .before .before in in-columns (head .before .before .before .before .before .before .before .pre) (head .loop .inv) (c .before .before .before .before .before .loop-test .taken) .0
-
-write-to : tie.Need-slice-write-out-ends Inv-loop μ-loop
-write-to c = let head = c .before .before .before .before .before .before in in-columns (head .before .before .before .before .before .before .before .pre) (head .loop .inv) (c .before .before .before .before .before .loop-test .taken) .1
-
-mul-from : tie.Need-mul-out-starts Inv-loop μ-loop
-mul-from c =
-    let head = c .before .before .before .before .before .before in
-    omega (arith, head .before .before .before .before .before .before .before .good .1 .1 .1 .1 .1 .1 .1 .0, head .loop .inv .starts-laid .same, in-columns (head .before .before .before .before .before .before .before .pre) (head .loop .inv) (c .before .before .before .before .before .loop-test .taken) .0)
-
-mul-to : tie.Need-mul-out-ends Inv-loop μ-loop
-mul-to c =
-    let head = c .before .before .before .before .before .before in
-    omega (arith, head .before .before .before .before .before .before .before .good .1 .1 .1 .1 .1 .1 .1 .1 .0, head .loop .inv .ends-laid .same, in-columns (head .before .before .before .before .before .before .before .pre) (head .loop .inv) (c .before .before .before .before .before .loop-test .taken) .1)
-
-sub-sum : tie.Need-sub-sum Inv-loop μ-loop
-sub-sum c =
-    let head = c .before .before .before .before .before .before .before .before in
-    let piece = piece-here (head .before .before .before .before .before .before .before .pre) (head .loop .inv) (c .before .before .before .before .before .before .before .loop-test .taken) (c .before .before .before .before .before .span-start .ensures) (c .before .before .before .before .span-end .ensures) in
-    omega (arith, piece .some, piece .behind)
-
-add-sum : tie.Need-add-sum Inv-loop μ-loop
-add-sum c =
-    let head = c .before .before .before .before .before .before .before .before in
-    let piece = piece-here (head .before .before .before .before .before .before .before .pre) (head .loop .inv) (c .before .before .before .before .before .before .before .loop-test .taken) (c .before .before .before .before .before .span-start .ensures) (c .before .before .before .before .span-end .ensures) in
-    omega (arith, piece .some, piece .behind, piece .in-starts, piece .few)
-
-loop-again : tie.Need-loop-again Inv-loop μ-loop
-loop-again c =
-    let head = c .before .before .before .before .before .before .before .before in
-    one-converted (head .before .before .before .before .before .before .before .pre) (head .loop .inv) (c .before .before .before .before .before .before .before .loop-test .taken) (c .before .before .before .before .before .span-start .ensures) (c .before .before .before .before .span-end .ensures) (c .before .before .before .piece-bytes .ensures) (c .before .before .in-unit .ensures)
+returns-2 : tie.Need-returns-2
+returns-2 c =
+    let entry = c .before .before .before .before .before .before .before .before .before .before .before .before .before .before .before .before .before .before .before .before .before in
+    let bytes = c .before .before .before .before .before .before .before .before .before .before .before .before .before .write-bytes .ensures in
+    chars-put (entry .pre .0) bytes (c .before .before .before .before .before .before .before .enum-told2 .given .1)
+    (plain-counted (pairs-ready (entry .pre .0) bytes (entry .pre .1)) (sym (c .before .before .before .before .before .before .is-ascii .ensures) ∙ c .before .before .before .before .before .if1 .taken) (c .before .before .write-plain .ensures))
 
 pub convert-spans-spec : {M : Type 1} → statement M
 convert-spans-spec =
     tie.close
     (tie.spec
-    Inv-loop
-    μ-loop
+    (λ c κs. c .before .before .before .before .before .before .before .pre .0)
+    (λ c. search needs)
+    (λ c. search needs)
     (λ c κs. search needs)
-    (λ c. none-converted (c .before .before .before .before .before .before .pre) _ _)
-    (λ c. omega arith)
-    (λ c. let head = c .before .before in in-columns (head .before .before .before .before .before .before .before .pre) (head .loop .inv) (c .before .loop-test .taken) .0)
-    (λ c κs. search needs)
-    (λ c κs. search needs)
-    piece-asked
-    (λ c κs. (c .before .before .before .before .before .loop .inv .known, c .before .before .before .before .before .before .is-plain .ensures))
-    mul-from
-    write-from
-    mul-to
-    write-to
-    sub-sum
-    add-sum
-    (λ c. omega (arith, c .before .before .before .before .before .before .before .loop-test .taken, c .before .before .before .before .before .before .before .before .before .before .before .before .before .before .before .fits .count))
-    (λ c. omega arith)
-    loop-again
-    (λ c. c .before .loop .inv .starts-laid .same)
-    (λ c. c .before .loop .inv .ends-laid .same)
-    (λ c. all-converted (c .before .before .before .before .before .before .before .before .pre) (c .before .loop .inv) (c .loop-test .left)))
+    write-plain-requires
+    (λ c κs. let entry = c .before .before .before .before .before .before .before .before .before .before .before .before .before .before .before .before .before .before in pairs-ready (entry .pre .0) (c .before .before .before .before .before .before .before .before .before .before .write-bytes .ensures) (entry .pre .1))
+    (λ c. search needs)
+    (λ c. search needs)
+    (λ c. bytes-kept (c .before .before .before .before .before .before .before .before .before .before .before .before .before .before .pre .0) (c .before .before .before .before .before .before .write-bytes .ensures) _ (c .enum-told .given .1))
+    (λ c. search needs)
+    (λ c. search needs)
+    returns-2
+    (λ c. search needs)
+    (λ c. search needs)
+    (λ c. chars-put (c .before .before .before .before .before .before .before .before .before .before .before .before .before .before .before .before .before .before .before .before .before .before .before .pre .0) (c .before .before .before .before .before .before .before .before .before .before .before .before .before .before .before .write-bytes .ensures) (c .before .before .before .before .before .before .before .before .before .enum-told2 .given .1) (c .before .before .before .before .count-chars .ensures)))

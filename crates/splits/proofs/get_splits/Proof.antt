@@ -1,7 +1,7 @@
 -- A refusal comes before the first store; past it there is room for the pieces, whose spans become their offsets.
 use borrow.Author.Needs.{needs}
 use Rattle.note.specs.Notes.{limit}
-use Rattle.splits.proofs.PieceOffsets.{refused, spans-room, spans-ready, listed}
+use Rattle.splits.proofs.PieceOffsets.{refused, spans-room, original-short, spans-ready, listed}
 use Rattle.splits.proofs.get_splits.Statement.{statement}
 use Rattle.splits.proofs.get_splits.Tie as tie
 
@@ -15,7 +15,9 @@ ready : tie.Need-convert-spans-requires
 ready c κs =
     let told = c .before .before .before .before .before .before in
     let args = told .before .before .before .before .before .before .before .before .before .before .before .args in
-    spans-ready limit _ _ _ (args .side) (args .unit) (args .out-starts .now) (args .out-ends .now) (told .before .before .before .least-of-two .ensures) (told .before .before .check-splits .ensures) (told .enum-told .given .1) (c .before .before .before .before .write-packed .ensures)
+    let short = original-short limit _ _ _ (args .side) (args .unit) (args .out-starts .now) (args .out-ends .now) (told .before .before .before .least-of-two .ensures) (told .before .before .check-splits .ensures) (told .enum-told .given .1) in
+    let spans = spans-ready limit _ _ _ (args .side) (args .unit) (args .out-starts .now) (args .out-ends .now) (told .before .before .before .least-of-two .ensures) (told .before .before .check-splits .ensures) (told .enum-told .given .1) (c .before .before .before .before .write-packed .ensures) in
+    (spans, short)
 
 returns-2 : tie.Need-returns-2
 returns-2 c =

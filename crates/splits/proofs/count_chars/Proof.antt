@@ -1,0 +1,55 @@
+-- Each turn turns one more pair of bytes into characters.
+use Prim.Native.Nat.{_-_}
+use native.Mathlib.Omega.{arith}
+use borrow.Author.Needs.{needs}
+use Rattle.note.specs.Notes.{limit}
+use Rattle.splits.proofs.Numbered.{flags-made}
+use Rattle.splits.proofs.Pairs.{Counting, none-counted, in-both, one-counted, all-counted}
+use Rattle.splits.proofs.count_chars.Statement.{statement}
+use Rattle.splits.proofs.count_chars.Tie as tie
+
+abbrev Inv-loop : tie.InvT-loop
+Inv-loop text count from₀ to₀ flags first₀ last₀ k₀ from to first last k = Counting limit text count from₀ to₀ first last k from to
+
+abbrev μ-loop : tie.MeasureT-loop
+μ-loop text count from₀ to₀ flags first₀ last₀ k₀ from to first last k = count - k
+
+mul-starts : tie.Need-mul-out-starts Inv-loop μ-loop
+mul-starts c =
+    let head = c .before .before .before .before .before in
+    omega (arith, head .before .before .before .before .before .before .before .good .1 .1 .0, head .loop .inv .starts-on .same, in-both (head .before .before .before .before .before .before .before .pre) (head .loop .inv) (c .before .before .before .before .loop-test .taken) .0)
+
+mul-ends : tie.Need-mul-out-ends Inv-loop μ-loop
+mul-ends c =
+    let head = c .before .before .before .before .before in
+    omega (arith, head .before .before .before .before .before .before .before .good .1 .1 .1 .0, head .loop .inv .ends-on .same, in-both (head .before .before .before .before .before .before .before .pre) (head .loop .inv) (c .before .before .before .before .loop-test .taken) .1)
+
+loop-again : tie.Need-loop-again Inv-loop μ-loop
+loop-again c =
+    let head = c .before .before .before .before .before .before .before in
+    one-counted (head .before .before .before .before .before .before .before .pre) (head .loop .inv) (c .before .before .before .before .before .before .loop-test .taken) (c .before .before .in-chars .ensures)
+
+pub count-chars-spec : {M : Type 1} → statement M
+count-chars-spec =
+    tie.close
+    (tie.spec
+    Inv-loop
+    μ-loop
+    (λ c. search needs)
+    (λ c κs. search needs)
+    (λ c. none-counted (c .before .before .before .before .before .before .pre))
+    (λ c. omega arith)
+    (λ c. in-both (c .before .before .before .before .before .before .before .before .before .before .pre) (c .before .before .before .loop .inv) (c .before .before .loop-test .taken) .0)
+    (λ c. omega arith)
+    (λ c. in-both (c .before .before .before .before .before .before .before .before .before .before .before .pre) (c .before .before .before .before .loop .inv) (c .before .before .before .loop-test .taken) .1)
+    (λ c κs. (c .before .before .before .before .loop .inv .known, flags-made (c .before .before .before .before .before .before .fill-bytes .ensures)))
+    mul-starts
+    (λ c. in-both (c .before .before .before .before .before .before .before .before .before .before .before .before .pre) (c .before .before .before .before .before .loop .inv) (c .before .before .before .before .loop-test .taken) .0)
+    mul-ends
+    (λ c. in-both (c .before .before .before .before .before .before .before .before .before .before .before .before .pre) (c .before .before .before .before .before .loop .inv) (c .before .before .before .before .loop-test .taken) .1)
+    (λ c. omega (arith, c .before .before .before .before .before .before .loop-test .taken, c .before .before .before .before .before .before .before .before .before .before .before .before .before .before .fits .count))
+    (λ c. omega arith)
+    loop-again
+    (λ c. c .before .loop .inv .starts-on .same)
+    (λ c. c .before .loop .inv .ends-on .same)
+    (λ c. all-counted (c .before .before .before .before .before .before .before .before .pre) (c .before .loop .inv) (c .loop-test .left)))
