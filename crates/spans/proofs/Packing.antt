@@ -20,7 +20,7 @@ use Rattle.behaviors.specs.Splits.{splits, isPiece, remaining, pieces}
 use Rattle.behaviors.specs.Joining.{startsOf, endsOf}
 use Rattle.behaviors.specs.Runs.{listPieces, Listed}
 use Rattle.behaviors.proofs.Gathered.{splits-cover}
-use Rattle.spans.specs.Packing.{packed, startIn, endIn, packedOf, PackedRoom, PackedLaid, UnpackRoom, Unpacked, SpansRoom, SpansLaid}
+use Rattle.spans.specs.Packing.{base, packed, startIn, endIn, packedOf, PackedRoom, PackedLaid, UnpackRoom, Unpacked, SpansRoom, SpansLaid}
 
 -- a number stored
 pub store-one : (d : List ℕ) (at x : ℕ) → at < length d → set d at x ≡ splice d at (x ∷ [])
@@ -29,26 +29,26 @@ store-one d at x h =
     (rw (splice-nil d at, z) at (store-after d [] at x (omega arith)))
 
 -- the ends of a piece of a text that is not too long
-start-back : (p : Place) → p .start .0 < 65536 → startIn (packed p) ≡ p .start .0
+start-back : (p : Place) → p .start .0 < base → startIn (packed p) ≡ p .start .0
 unfolding startIn packed
 start-back p h = omega arith
 
-end-back : (p : Place) → p .start .0 < 65536 → endIn (packed p) ≡ p .end .0
+end-back : (p : Place) → p .start .0 < base → endIn (packed p) ≡ p .end .0
 unfolding endIn packed
 end-back p h = omega arith
 
-ends-back : (text : List ℕ) → length text < 65536 → (e : EmptyPieces) (at : ℕ) (qs : List Place) → coversFrom text at qs ≡ true → (map startIn (packedOf (remaining e qs)) ≡ startsOf (remaining e qs)) × (map endIn (packedOf (remaining e qs)) ≡ endsOf (remaining e qs))
+ends-back : (text : List ℕ) → length text < base → (e : EmptyPieces) (at : ℕ) (qs : List Place) → coversFrom text at qs ≡ true → (map startIn (packedOf (remaining e qs)) ≡ startsOf (remaining e qs)) × (map endIn (packedOf (remaining e qs)) ≡ endsOf (remaining e qs))
 unfolding remaining
 ends-back text short e at [] c = (refl, refl)
 ends-back text short e at (p ∷ qs) c =
     let span : Span text at p = covers-span text at p qs c in
-    let low : p .start .0 < 65536 = omega (arith, span .from, span .onward, span .inside) in
+    let low : p .start .0 < base = omega (arith, span .from, span .onward, span .inside) in
     let rest = ends-back text short e (p .end .0) qs (covers-rest text at p qs c) in
     true-or-false (isPiece e p)
     (λ t. rw (t, start-back p low, end-back p low, rest .0, rest .1) (refl, refl))
     (λ f. rw f rest)
 
-pub pieces-back : {most : ℕ} {list : List ℕ} → Listed most list → most < 65536 → (b : SplitDelimiterBehavior) (e : EmptyPieces) → (map startIn (packedOf (listPieces b e list)) ≡ startsOf (listPieces b e list)) × (map endIn (packedOf (listPieces b e list)) ≡ endsOf (listPieces b e list))
+pub pieces-back : {most : ℕ} {list : List ℕ} → Listed most list → most < base → (b : SplitDelimiterBehavior) (e : EmptyPieces) → (map startIn (packedOf (listPieces b e list)) ≡ startsOf (listPieces b e list)) × (map endIn (packedOf (listPieces b e list)) ≡ endsOf (listPieces b e list))
 unfolding pieces
 pieces-back {list = list} l low b e = ends-back (l .text) (omega (arith, l .short)) e 0 (splits b _) (splits-cover (l .text) 0 b _ (l .covered))
 
@@ -116,11 +116,11 @@ module _ {ps : List Place} {spans₀ spans : List ℕ} {r : ℕ} (l : PackedLaid
       }
 
 -- both ends fit into 16 bits
-pub start-small : (span : ℕ) {a : ℕ} → a ≡ startIn span → a < 65536
+pub start-small : (span : ℕ) {a : ℕ} → a ≡ startIn span → a < base
 unfolding startIn
 start-small span is = omega arith
 
-pub end-small : (span : ℕ) {z : ℕ} → z ≡ endIn span → span < 2 ^ 32 → z < 65536
+pub end-small : (span : ℕ) {z : ℕ} → z ≡ endIn span → span < 2 ^ 32 → z < base
 unfolding endIn
 end-small span is low = omega arith
 

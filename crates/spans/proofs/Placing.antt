@@ -21,7 +21,7 @@ use Rattle.behaviors.specs.Splits.{unremoved, splits, goes, remaining, pieces}
 use Rattle.behaviors.specs.Runs.{onward, stays, over, given, runsFrom, listPieces}
 use Rattle.behaviors.proofs.Gathered.{first-remains}
 use Rattle.behaviors.proofs.Runs.{Open, first-open, first-pieces, next-open}
-use Rattle.spans.specs.Packing.{packed, packedOf, RunRoom, RunLaid, PackedRoom, PackedLaid}
+use Rattle.spans.specs.Packing.{base, packed, packedOf, RunRoom, RunLaid, PackedRoom, PackedLaid}
 use Rattle.spans.proofs.Packing.{store-one, pieces-back}
 
 -- A RUN that is written, or passed over
@@ -30,9 +30,9 @@ module _ {most : ℕ} {met : Bool} {run : Place} {spans : List ℕ} {at : ℕ} (
   unfolding given
   run-room t = let a : at + 1 ≤ length spans = rw t at (r .room) in omega arith
 
-  pub run-laid : met ≡ true → RunLaid met run spans at (at + 1) (set spans at (run .start .0 + run .end .0 * 65536))
+  pub run-laid : met ≡ true → RunLaid met run spans at (at + 1) (set spans at (run .start .0 + run .end .0 * base))
   unfolding given unremoved packed
-  run-laid t = record { reach = rw t; spans-are = rw t (store-one spans at (run .start .0 + run .end .0 * 65536) (run-room t)) }
+  run-laid t = record { reach = rw t; spans-are = rw t (store-one spans at (run .start .0 + run .end .0 * base) (run-room t)) }
 
 pub run-passed : {met : Bool} {run : Place} {spans : List ℕ} {at : ℕ} → met ≡ false → RunLaid met run spans at at spans
 unfolding given
@@ -56,7 +56,7 @@ module _ {most : ℕ} {list : List ℕ} {b : SplitDelimiterBehavior} {e : EmptyP
   fits : length (packedOf (listPieces b e list)) ≤ length spans₀
   fits = rw (length-map (listPieces b e list) packed) (l .room)
 
-  pub all-packed : most < 65536 → {at : ℕ} {spans : List ℕ} → Laying (packedOf (listPieces b e list)) [] spans₀ at spans → PackedLaid (listPieces b e list) spans₀ at spans
+  pub all-packed : most < base → {at : ℕ} {spans : List ℕ} → Laying (packedOf (listPieces b e list)) [] spans₀ at spans → PackedLaid (listPieces b e list) spans₀ at spans
   all-packed low laid =
       let back = pieces-back (l .listed) low b e in
       record {
@@ -89,7 +89,7 @@ module _ {most : ℕ} {list : List ℕ} {e : EmptyPieces} {spans₀ : List ℕ} 
       }
 
   module _ {k at : ℕ} {spans : List ℕ} (j : Listing most list e spans₀ k at spans) where
-    pub all-listed : most < 65536 → length (placesOf list) ≤ k → PackedLaid (listPieces Isolated e list) spans₀ at spans
+    pub all-listed : most < base → length (placesOf list) ≤ k → PackedLaid (listPieces Isolated e list) spans₀ at spans
     unfolding remaining
     all-listed low done =
         let none : drop k (placesOf list) ≡ [] = drop-of-length-le (placesOf list) {i = k} done in
@@ -138,7 +138,7 @@ module _ {most : ℕ} {list : List ℕ} {b : SplitDelimiterBehavior} {e : EmptyP
         laid = rw (first-pieces (l .listed) is there b e) (none-laid _ _ (fits l));
       }
 
-  pub nothing-placed : most < 65536 → listPieces b e list ≡ [] → PackedLaid (listPieces b e list) spans₀ 0 spans₀
+  pub nothing-placed : most < base → listPieces b e list ≡ [] → PackedLaid (listPieces b e list) spans₀ 0 spans₀
   nothing-placed low none = all-packed l low (rw none (none-laid [] spans₀ (omega arith)))
 
 module _ {most : ℕ} {list : List ℕ} {b : SplitDelimiterBehavior} {e : EmptyPieces} {spans₀ : List ℕ} {run : Place} {i at : ℕ} {spans : List ℕ} (k : Placing most list b e spans₀ run i at spans) where
@@ -180,6 +180,6 @@ module _ {most : ℕ} {list : List ℕ} {b : SplitDelimiterBehavior} {e : EmptyP
           room = column-room (listPieces b e list) (given t run) [] (rw last-run at (k .laid));
         }
 
-    pub all-placed : PackedRoom most list b e spans₀ → most < 65536 → {at₁ : ℕ} {spans₁ : List ℕ} → RunLaid t run spans at at₁ spans₁ → PackedLaid (listPieces b e list) spans₀ at₁ spans₁
+    pub all-placed : PackedRoom most list b e spans₀ → most < base → {at₁ : ℕ} {spans₁ : List ℕ} → RunLaid t run spans at at₁ spans₁ → PackedLaid (listPieces b e list) spans₀ at₁ spans₁
     all-placed l low written =
         all-packed l low (column-next (listPieces b e list) (given t run) [] (rw last-run at (k .laid)) (written .reach) (written .spans-are))

@@ -5,6 +5,7 @@ use mathlib.Core.Bool.{Bool, true}
 use mathlib.Core.List.{List, map}
 use lib.ListN.{length}
 use Rattle.buffers.specs.Splice.{splice, overlay}
+use Rattle.note.specs.Notes.{limit}
 use Rattle.pattern.specs.declared.Place.{Place}
 use Rattle.pattern.specs.Entries.{whole}
 use Rattle.behaviors.specs.declared.SplitDelimiterBehavior.{SplitDelimiterBehavior}
@@ -12,15 +13,19 @@ use Rattle.behaviors.specs.declared.EmptyPieces.{EmptyPieces}
 use Rattle.behaviors.specs.Joining.{startsOf, endsOf}
 use Rattle.behaviors.specs.Runs.{given, listPieces, Listed}
 
+-- one more than any position of a text within the limit
+abbrev pub base : ℕ
+base = limit + 1
+
 -- the number of a piece, and its two ends in that number
 unfoldable pub packed : Place → ℕ
-packed p = p .start .0 + p .end .0 * 65536
+packed p = p .start .0 + p .end .0 * base
 
 unfoldable pub startIn : ℕ → ℕ
-startIn span = span % 65536
+startIn span = span % base
 
 unfoldable pub endIn : ℕ → ℕ
-endIn span = span / 65536
+endIn span = span / base
 
 abbrev pub packedOf : List Place → List ℕ
 packedOf ps = map packed ps

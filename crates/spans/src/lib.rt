@@ -8,6 +8,7 @@ use behaviors::joined;
 use behaviors::onward;
 use behaviors::stays;
 use buffers::Offset;
+use note::LIMIT;
 use pattern::Entry;
 use pattern::Place;
 use pattern::entry_at;
@@ -21,17 +22,20 @@ ghost use Rattle.behaviors.specs.Runs.{listPieces};
 ghost use Rattle.spans.specs.Packing.{endIn, packed, PackedLaid, PackedRoom, RunLaid, RunRoom};
 ghost use Rattle.spans.specs.Packing.{SpansLaid, SpansRoom, startIn, Unpacked, UnpackRoom};
 
+// One more than any position of a text within the limit.
+const BASE: u32 = LIMIT as u32 + 1;
+
 // The start of a piece, and its end, in the number that holds both.
 pub fn span_start(span: u32) -> u32
     ensures { λ r. ⌜ r ≡ startIn span ⌝ }
 {
-    span % 65536
+    span % BASE
 }
 
 pub fn span_end(span: u32) -> u32
     ensures { λ r. ⌜ r ≡ endIn span ⌝ }
 {
-    span / 65536
+    span / BASE
 }
 
 // A piece's number at `at`, where there is one; where the next piece stands.
@@ -42,7 +46,7 @@ fn write_run(met: bool, run: Place, spans: &mut [u32], at: usize) -> usize
     if met {
         let start = run.start;
         let end = run.end;
-        spans[at] = start.0 + end.0 * 65536;
+        spans[at] = start.0 + end.0 * BASE;
         return at + 1;
     }
     at
