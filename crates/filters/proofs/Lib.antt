@@ -2,6 +2,4 @@
 pub mod Kept
 pub mod Flagged
 pub mod Counted
-pub mod Chosen
-pub mod Whole
 pub mod Spanned

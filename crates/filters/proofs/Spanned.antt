@@ -33,9 +33,9 @@ use Rattle.edits.proofs.Head.{is-placed}
 use Rattle.edits.proofs.Shares.{starts-part, ends-part}
 use Rattle.edits.proofs.Sifted.{given-sifted, starved-sifted, column-sifted, codes-letters}
 use Rattle.filters.specs.Flags.{skips, begun, kept}
-use Rattle.filters.specs.Chosen.{chosen, FlagEach, KeptEnd, KeptRoom, KeptLaid, spans, OneValue, RangeReady}
+use Rattle.kept_letters.specs.Chosen.{chosen, FlagEach, KeptEnd, KeptRoom, KeptLaid, spans, OneValue, RangeReady}
 use Rattle.filters.proofs.Kept.{begun-starved, begun-given}
-use Rattle.filters.proofs.Chosen.{chosen-most, both-chosen}
+use Rattle.kept_letters.proofs.Chosen.{chosen-most, both-chosen}
 
 -- what an accepted note gives
 pub range-ready : (most : ℕ) (n : Note) (flags : List ℕ) {v : Verdict} → v ≡ verdict (noteFaults most n) → v ≡ Accepted → length flags ≡ letters (n .normalized) → RangeReady (n .normalized) (n .starts) (n .ends) flags

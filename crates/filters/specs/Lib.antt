@@ -1,3 +1,2 @@
 -- Filtering (RULES 8).
 pub mod Flags
-pub mod Chosen

@@ -1,13 +1,7 @@
 // Filtering (RULES 8; Rust: `filter`): a flag for each cleaned character, 0 drops it.
-mod bytewise;
-
 use buffers::Offset;
 use buffers::copy_bytes;
 use buffers::fill_offsets;
-use bytewise::all_kept;
-use bytewise::kept_end;
-use bytewise::lay_kept;
-use bytewise::spans;
 use checks::check_note;
 use checks::least_of_two;
 use checks::least_room;
@@ -19,6 +13,12 @@ use edit_steps::laying::keep;
 use edit_steps::walking::Extent;
 use edit_steps::walking::skip;
 use get_range::as_normalized;
+use kept_letters::all_kept;
+use kept_letters::before_four;
+use kept_letters::kept_end;
+use kept_letters::lay_kept;
+use kept_letters::lay_letters;
+use kept_letters::spans;
 use note::LIMIT;
 use note::OriginalByte;
 use note::Refusal;
@@ -40,7 +40,7 @@ ghost use Rattle.edit_steps.specs.Laying.{CommandsLaid, Editable, EditLaid};
 ghost use Rattle.transform.specs.Transforming.{editFaults, Rewritten};
 ghost use Rattle.edit_steps.specs.Walking.{measured};
 ghost use Rattle.edits.specs.Whole.{filterEdit, filterFaults};
-ghost use Rattle.filters.specs.Chosen.{RangeReady};
+ghost use Rattle.kept_letters.specs.Chosen.{RangeReady};
 ghost use Rattle.filters.specs.Flags.{begun, counts, FilterRoom, FlagLaid, FlagRoom, FlagsReady, FlagsRoom};
 ghost use Rattle.filters.specs.Flags.{kept, skips, wants};
 
@@ -329,7 +329,27 @@ fn filter_range(
             return Editing::Edited(text.len());
         }
         let end = kept_end(text, flags);
-        return Editing::Edited(lay_kept(text, starts, ends, flags, end, out, out_starts, out_ends));
+        let from = lay_letters(
+            text,
+            starts,
+            ends,
+            flags,
+            before_four(flags),
+            out,
+            out_starts,
+            out_ends,
+        );
+        return Editing::Edited(lay_kept(
+            text,
+            starts,
+            ends,
+            flags,
+            end,
+            from,
+            out,
+            out_starts,
+            out_ends,
+        ));
     }
     edit_flags(
         text,

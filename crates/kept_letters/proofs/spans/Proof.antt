@@ -1,8 +1,8 @@
 -- The test is the definition.
 use mathlib.Core.Path.{refl}
-use Rattle.filters.specs.Chosen.{spans}
-use Rattle.filters.proofs.bytewise.spans.Statement.{statement}
-use Rattle.filters.proofs.bytewise.spans.Tie as tie
+use Rattle.kept_letters.specs.Chosen.{spans}
+use Rattle.kept_letters.proofs.spans.Statement.{statement}
+use Rattle.kept_letters.proofs.spans.Tie as tie
 
 returns : tie.Need-returns
 unfolding spans

@@ -2,9 +2,9 @@
 use native.Mathlib.Omega.{arith}
 use Prim.Native.Nat.{_-_}
 use lib.ListN.{length}
-use Rattle.filters.proofs.Whole.{Keeping, none-keeping, one-keeping}
-use Rattle.filters.proofs.bytewise.all_kept.Statement.{statement}
-use Rattle.filters.proofs.bytewise.all_kept.Tie as tie
+use Rattle.kept_letters.proofs.Whole.{Keeping, none-keeping, one-keeping}
+use Rattle.kept_letters.proofs.all_kept.Statement.{statement}
+use Rattle.kept_letters.proofs.all_kept.Tie as tie
 
 abbrev Inv-loop : tie.InvT-loop
 Inv-loop flags ok₀ i₀ ok i = Keeping flags ok i

@@ -1,9 +1,9 @@
 -- Each turn goes back by a byte whose character is dropped.
-use Rattle.filters.proofs.Chosen.{Ending, none-ending, some-left, flag-there, back-low, one-back, all-back, kept-back}
+use Rattle.kept_letters.proofs.Chosen.{Ending, none-ending, some-left, flag-there, back-low, one-back, all-back, kept-back}
 use native.Mathlib.Omega.{arith}
 use borrow.Author.Needs.{needs}
-use Rattle.filters.proofs.bytewise.kept_end.Statement.{statement}
-use Rattle.filters.proofs.bytewise.kept_end.Tie as tie
+use Rattle.kept_letters.proofs.kept_end.Statement.{statement}
+use Rattle.kept_letters.proofs.kept_end.Tie as tie
 
 abbrev Inv-loop : tie.InvT-loop
 Inv-loop text flags q₀ i₀ q i = Ending text flags q i

@@ -18,7 +18,7 @@ use Rattle.utf8.specs.Formed.{announced, wellFormed, continues, boundary}
 use Rattle.utf8.specs.Scalar.{bytesOf}
 use Rattle.utf8.specs.Letters.{leadAt, leads}
 use Rattle.utf8.proofs.Boundaries.{char-at, boundary-begins, boundary-zero}
-use Rattle.utf8.proofs.Letters.{Counted, counted-le, lead-one, lead-zero, none-counted, flag-counted, leads-append, leads-take, leads-take-add, letters-leads}
+use Rattle.utf8.proofs.Letters.{Counted, counted-le, lead-one, lead-zero, flag-counted, leads-append, leads-take, leads-take-add, letters-leads}
 use Rattle.script.specs.Scripts.{sizeOf}
 use Rattle.code_point_blocks.specs.Codes.{textOf}
 use Rattle.letter_columns.specs.Spreading.{ofLetters, spread}
@@ -27,7 +27,8 @@ use Rattle.edits.specs.Characters.{codeAt, codesOf}
 use Rattle.edits.specs.Plain.{sifted}
 use Rattle.edits.proofs.Characters.{code-bytes, codes-none, codes-cons}
 use Rattle.edits.proofs.Sifted.{code-size, codes-letters}
-use Rattle.filters.specs.Chosen.{chosen, FlagEach, KeptEnd, ColumnReady, KeptRoom, KeptLaid, OneValue}
+use Rattle.kept_letters.specs.Counting.{KeptSoFar}
+use Rattle.kept_letters.specs.Chosen.{chosen, FlagEach, KeptEnd, ColumnReady, KeptRoom, KeptLaid, OneValue}
 
 store-one : (d : List ℕ) (at x : ℕ) → at < length d → set d at x ≡ splice d at (x ∷ [])
 store-one d at x h =
@@ -62,7 +63,7 @@ length-run : (k x : ℕ) → length (take (keeps k) (x ∷ [])) ≡ keeps k
 length-run k x = length-take-le (keeps k) (x ∷ []) (omega (arith, keeps-most k))
 
 -- as many of any column as there are bytes that are kept, and no more than the text has
-chosen-long : (flags : List ℕ) (i : ℕ) (s xs ys : List ℕ) → length xs ≡ length s → length ys ≡ length s → length (chosen flags i s xs) ≡ length (chosen flags i s ys)
+pub chosen-long : (flags : List ℕ) (i : ℕ) (s xs ys : List ℕ) → length xs ≡ length s → length ys ≡ length s → length (chosen flags i s xs) ≡ length (chosen flags i s ys)
 chosen-long flags i [] xs ys p q = rw (none flags i xs, none flags i ys)
 chosen-long flags i (b ∷ s) [] ys p q = absurd (omega arith)
 chosen-long flags i (b ∷ s) (x ∷ xs) [] p q = absurd (omega arith)
@@ -171,6 +172,9 @@ module _ {s flags : List ℕ} (f : FlagEach s flags) where
           before = λ some. rw (← k .counted .so-far) (ne-eqb (getD flags (i - 1) 0) 0 found);
         }
 
+pub rest-first : {s flags : List ℕ} (f : FlagEach s flags) {i q : ℕ} → Counted s i q → i ≡ 0 → q ≤ 0
+rest-first f {i} {q} c none = le-or-lt q 0 (λ z. z) (λ some. absurd (omega (arith, c .so-far, leads-low f q some (c .most))))
+
 -- THE LAYING: up to the end a kept byte is still to come
 module _ {s flags : List ℕ} (f : FlagEach s flags) {e : ℕ} (end : KeptEnd s flags e) (xs : List ℕ) (same : length xs ≡ length s) where
   step-long : (q : ℕ) → q < length s → length (chosen flags (leads (take q s)) (drop q s) (drop q xs)) ≡ keeps (getD flags (leads (take (q + 1) s) - 1) 0) + length (chosen flags (leads (take (q + 1) s)) (drop (q + 1) s) (drop (q + 1) xs))
@@ -194,9 +198,18 @@ module _ {s flags : List ℕ} (f : FlagEach s flags) {e : ℕ} (end : KeptEnd s 
   pub rest-none : {i q : ℕ} → Counted s i q → e ≤ q → q ≤ e → chosen flags i (drop q s) (drop q xs) ≡ []
   rest-none {i} {q} c past most = let is : q ≡ e = omega arith in rw (c .so-far, is) (end .behind xs same)
 
+  past-none : (k q : ℕ) → q ≡ e + k → q ≤ length s → length (chosen flags (leads (take q s)) (drop q s) (drop q xs)) ≤ 0
+  past-none zero q is most = let here : q ≡ e = omega arith in rw here (rw (end .behind xs same) (omega arith))
+  past-none (suc k) q is most =
+      let before : q - 1 + 1 ≡ q = omega arith in
+      omega (arith, past-none k (q - 1) (omega arith) (omega arith), rw before at (step-long (q - 1) (omega arith)))
+
+  pub rest-past : {i q : ℕ} → Counted s i q → e ≤ q → length (chosen flags i (drop q s) (drop q xs)) ≤ 0
+  rest-past {i} {q} c past = rw (c .so-far) (past-none (q - e) q (omega arith) (c .most))
+
 -- one column
 module _ {s xs flags d₀ : List ℕ} (ready : ColumnReady s xs flags d₀) where
-  long-chosen : length (chosen flags 0 s xs) ≡ length (chosen flags 0 s s)
+  pub long-chosen : length (chosen flags 0 s xs) ≡ length (chosen flags 0 s s)
   long-chosen = chosen-long flags 0 s xs s (ready .one-each) refl
 
   pub none-kept : Reaching (chosen flags 0 s xs) (chosen flags 0 s xs) d₀ 0 d₀
@@ -225,29 +238,12 @@ module _ {s xs flags d₀ : List ℕ} (ready : ColumnReady s xs flags d₀) wher
         (all-reached (rw done at l), omega (arith, size, ap length done, long-chosen))
 
 -- the three of them
-pub record KeptSoFar (s starts ends flags : List ℕ) (e : ℕ) (out₀ starts₀ ends₀ : List ℕ) (q i at : ℕ) (out starts₁ ends₁ : List ℕ) : Type 0 where
-  pub counted : Counted s i q
-  pub below : q ≤ e
-  pub text : Reaching (chosen flags 0 s s) (chosen flags i (drop q s) (drop q s)) out₀ at out
-  pub starts-so-far : Reaching (chosen flags 0 s starts) (chosen flags i (drop q s) (drop q starts)) starts₀ at starts₁
-  pub ends-so-far : Reaching (chosen flags 0 s ends) (chosen flags i (drop q s) (drop q ends)) ends₀ at ends₁
-
 module _ {s starts ends flags : List ℕ} {e : ℕ} {out₀ starts₀ ends₀ : List ℕ} (r : KeptRoom s starts ends flags e out₀ starts₀ ends₀) where
-  pub none-so-far : KeptSoFar s starts ends flags e out₀ starts₀ ends₀ 0 0 0 out₀ starts₀ ends₀
-  none-so-far =
-      record {
-        counted = none-counted;
-        below = omega arith;
-        text = none-kept (r .text-ready);
-        starts-so-far = none-kept (r .starts-ready);
-        ends-so-far = none-kept (r .ends-ready);
-      }
-
   module _ {q i at : ℕ} {out starts₁ ends₁ : List ℕ} (k : KeptSoFar s starts ends flags e out₀ starts₀ ends₀ q i at out starts₁ ends₁) where
     pub rooms : q < e → (at < length out) × ((at < length starts₁) × (at < length ends₁))
     rooms h = (
-      at-room (r .text-ready) (r .flagged) (r .kept) (k .counted) (k .text) h,
-      (at-room (r .starts-ready) (r .flagged) (r .kept) (k .counted) (k .starts-so-far) h, at-room (r .ends-ready) (r .flagged) (r .kept) (k .counted) (k .ends-so-far) h),
+      at-room (r .text-ready) (r .flagged) (r .kept) (k .laid .counted) (k .laid .text) h,
+      (at-room (r .starts-ready) (r .flagged) (r .kept) (k .laid .counted) (k .laid .starts-so-far) h, at-room (r .ends-ready) (r .flagged) (r .kept) (k .laid .counted) (k .laid .ends-so-far) h),
     )
 
     pub reads : q < e → (q < length s) × ((q < length starts) × (q < length ends))
@@ -255,26 +251,28 @@ module _ {s starts ends flags : List ℕ} {e : ℕ} {out₀ starts₀ ends₀ : 
         (omega (arith, r .kept .most), (omega (arith, r .kept .most, r .starts-ready .one-each), omega (arith, r .kept .most, r .ends-ready .one-each)))
 
     pub flag-index : {t : Bool} → q < e → t ≡ continues (getD s q 0) → (1 ≤ i + boolByte (not t)) × (i + boolByte (not t) ≤ length flags)
-    flag-index h is = (index-low (r .flagged) (k .counted) (reads h .0) is, index-high (r .flagged) (k .counted) (reads h .0) is)
+    flag-index h is = (index-low (r .flagged) (k .laid .counted) (reads h .0) is, index-high (r .flagged) (k .laid .counted) (reads h .0) is)
 
     pub one-so-far : {t : Bool} → q < e → t ≡ continues (getD s q 0) → KeptSoFar s starts ends flags e out₀ starts₀ ends₀ (q + 1) (i + boolByte (not t)) (at + keeps (getD flags (i + boolByte (not t) - 1) 0)) (set out at (getD s q 0)) (set starts₁ at (getD starts q 0)) (set ends₁ at (getD ends q 0))
     one-so-far h is =
         record {
-          counted = counted-next (r .flagged) (k .counted) (reads h .0) is;
           below = omega arith;
-          text = one-kept (r .text-ready) (r .flagged) (r .kept) (k .counted) (k .text) h is refl;
-          starts-so-far = one-kept (r .starts-ready) (r .flagged) (r .kept) (k .counted) (k .starts-so-far) h is refl;
-          ends-so-far = one-kept (r .ends-ready) (r .flagged) (r .kept) (k .counted) (k .ends-so-far) h is refl;
+          laid = record {
+            counted = counted-next (r .flagged) (k .laid .counted) (reads h .0) is;
+            text = one-kept (r .text-ready) (r .flagged) (r .kept) (k .laid .counted) (k .laid .text) h is refl;
+            starts-so-far = one-kept (r .starts-ready) (r .flagged) (r .kept) (k .laid .counted) (k .laid .starts-so-far) h is refl;
+            ends-so-far = one-kept (r .ends-ready) (r .flagged) (r .kept) (k .laid .counted) (k .laid .ends-so-far) h is refl;
+          };
         }
 
     pub all-so-far : e ≤ q → KeptLaid s starts ends flags out₀ starts₀ ends₀ at out starts₁ ends₁
     all-so-far past =
-        let text = all-kept (r .text-ready) (r .flagged) (r .kept) (k .counted) (k .text) past (k .below) in
+        let text = all-kept (r .text-ready) (r .flagged) (r .kept) (k .laid .counted) (k .laid .text) past (k .below) in
         record {
           reached = text .1;
           text-is = text .0;
-          starts-are = all-kept (r .starts-ready) (r .flagged) (r .kept) (k .counted) (k .starts-so-far) past (k .below) .0;
-          ends-are = all-kept (r .ends-ready) (r .flagged) (r .kept) (k .counted) (k .ends-so-far) past (k .below) .0;
+          starts-are = all-kept (r .starts-ready) (r .flagged) (r .kept) (k .laid .counted) (k .laid .starts-so-far) past (k .below) .0;
+          ends-are = all-kept (r .ends-ready) (r .flagged) (r .kept) (k .laid .counted) (k .laid .ends-so-far) past (k .below) .0;
         }
 
 -- CHARACTER BY CHARACTER

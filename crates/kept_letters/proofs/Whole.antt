@@ -15,8 +15,8 @@ use Rattle.utf8.specs.Letters.{leadAt, leads}
 use Rattle.utf8.proofs.Letters.{letters-leads, lead-le-one}
 use Rattle.edit_steps.specs.Laying.{Kept}
 use Rattle.edits.proofs.Head.{none-of}
-use Rattle.filters.specs.Chosen.{chosen, EachKept, FlagEach, KeptLaid}
-use Rattle.filters.proofs.Chosen.{leads-low}
+use Rattle.kept_letters.specs.Chosen.{chosen, EachKept, FlagEach, KeptLaid}
+use Rattle.kept_letters.proofs.Chosen.{leads-low}
 
 pub record Keeping (flags : List ℕ) (ok : Bool) (i : ℕ) : Type 0 where
   pub most : i ≤ length flags

@@ -1,0 +1,3 @@
+-- Letters that are kept.
+pub mod Chosen
+pub mod Counting
