@@ -63,7 +63,9 @@
  *   No call allocates or keeps anything from one call to the next. Calls may run on any threads at once, as long as
  *   none of them writes a buffer that another one is lent. The time is at most proportional to what is lent and
  *   written, except: finding (zulmyren_find_matches, zulmyren_redact) can at worst take text_len times literal_len;
- *   and in the two calls for lists (.._all) each range or pair can at worst go over the whole note or text again.
+ *   and in zulmyren_convert_all each range can at worst go over the whole note again. Of the stack
+ *   zulmyren_char_offsets_all takes some 70,000 bytes, whatever it is lent; every other call takes a few thousand at
+ *   most.
  */
 #ifndef ZULMYREN_H
 #define ZULMYREN_H
