@@ -1,4 +1,4 @@
-// The whole text filtered byte by byte: where a note has no head (RULES 8), kept characters keep their alignments.
+// The whole text filtered: where a note has no head (RULES 8), kept characters keep their alignments.
 // Each function here is an inner one: the text is well-formed, and has a flag for each character.
 use buffers::Offset;
 use buffers::copy_bytes;
@@ -167,9 +167,9 @@ pub fn lay_letters(
     }
 }
 
-// The kept characters from a byte on, with their alignments; how many bytes all are. Every byte is laid, and the next one
-// over it where it is not kept: no branch asks for a flag. Up to `end` a kept byte is still to come, so that none is laid past
-// the result.
+// The kept characters from a byte on, with their alignments; how many bytes all are. Every byte is laid, and the next
+// one over it where it is not kept: no branch asks for a flag. Up to `end` a kept byte is still to come, so that none
+// is laid past the result.
 pub fn lay_kept(
     text: &[u8],
     starts: &[Offset],
