@@ -14,10 +14,8 @@ use edit_steps::walking::Extent;
 use edit_steps::walking::skip;
 use get_range::as_normalized;
 use kept_letters::all_kept;
-use kept_letters::before_four;
 use kept_letters::kept_end;
-use kept_letters::lay_kept;
-use kept_letters::lay_letters;
+use kept_letters::lay_chosen;
 use kept_letters::spans;
 use note::LIMIT;
 use note::OriginalByte;
@@ -329,23 +327,12 @@ fn filter_range(
             return Editing::Edited(text.len());
         }
         let end = kept_end(text, flags);
-        let from = lay_letters(
-            text,
-            starts,
-            ends,
-            flags,
-            before_four(flags),
-            out,
-            out_starts,
-            out_ends,
-        );
-        return Editing::Edited(lay_kept(
+        return Editing::Edited(lay_chosen(
             text,
             starts,
             ends,
             flags,
             end,
-            from,
             out,
             out_starts,
             out_ends,

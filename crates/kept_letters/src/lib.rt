@@ -61,7 +61,7 @@ pub fn kept_end(text: &[u8], flags: &[u8]) -> usize
 }
 
 // As many flags as stand before the last four that keep their characters; 0 where fewer do.
-pub fn before_four(flags: &[u8]) -> usize
+fn before_four(flags: &[u8]) -> usize
     ensures { λ r. ⌜ BeforeFour (now (flags .entry)) r ⌝ }
 {
     let mut i = flags.len();
@@ -132,7 +132,7 @@ fn copy_four_offsets(src: &[Offset], i: usize, dst: &mut [Offset], at: usize)
 
 // The kept characters of the first `stop` flags: four bytes of each character are laid, and the next one over what is
 // too much or not kept. Four more characters are kept behind these, so that nothing is laid past the result.
-pub fn lay_letters(
+fn lay_letters(
     text: &[u8],
     starts: &[Offset],
     ends: &[Offset],
@@ -170,7 +170,7 @@ pub fn lay_letters(
 // The kept characters from a byte on, with their alignments; how many bytes all are. Every byte is laid, and the next
 // one over it where it is not kept: no branch asks for a flag. Up to `end` a kept byte is still to come, so that none
 // is laid past the result.
-pub fn lay_kept(
+fn lay_kept(
     text: &[u8],
     starts: &[Offset],
     ends: &[Offset],
@@ -202,4 +202,36 @@ pub fn lay_kept(
         q += 1;
     }
     at
+}
+
+// All kept characters with their alignments, of which the last ends at `end`; how many bytes they are.
+pub fn lay_chosen(
+    text: &[u8],
+    starts: &[Offset],
+    ends: &[Offset],
+    flags: &[u8],
+    end: usize,
+    out: &mut [u8],
+    out_starts: &mut [Offset],
+    out_ends: &mut [Offset],
+) -> usize
+    requires { ⌜ KeptRoom (now text) (now starts) (now ends) (now flags) end
+        (now out) (now «out_starts») (now «out_ends») ⌝ }
+    ensures { λ r. ⌜ KeptLaid (now (text .entry)) (now (starts .entry)) (now (ends .entry)) (now (flags .entry))
+        (now (out .entry)) (now («out_starts» .entry)) (now («out_ends» .entry))
+        r (now (out .exit)) (now («out_starts» .exit)) (now («out_ends» .exit)) ⌝ }
+{
+    let stop = before_four(flags);
+    let from = lay_letters(text, starts, ends, flags, stop, out, out_starts, out_ends);
+    lay_kept(
+        text,
+        starts,
+        ends,
+        flags,
+        end,
+        from,
+        out,
+        out_starts,
+        out_ends,
+    )
 }
