@@ -140,15 +140,6 @@ module _ {f g h : ℕ → ℕ} {n : ℕ} {a₀ b₀ c₀ a b c : List ℕ} {i : 
         third = filled-up h c₀ 0 i c _ (w .third) (omega arith) r;
       }
 
-  pub kept-filling : {y z : ℕ} → i < n → n ≤ length b₀ → n ≤ length c₀ → getD a₀ i 0 ≡ f i → y ≡ g i → z ≡ h i → Filling f g h n a₀ b₀ c₀ a (set b i y) (set c i z) (i + 1)
-  kept-filling more rb rc p q r =
-      record {
-        most = omega arith;
-        first = filled-kept f a₀ 0 i a (w .first) p;
-        second = filled-up g b₀ 0 i b _ (w .second) (omega arith) q;
-        third = filled-up h c₀ 0 i c _ (w .third) (omega arith) r;
-      }
-
   pub all-filling : n ≤ i → n ≤ length a₀ → n ≤ length b₀ → n ≤ length c₀ → (a ≡ overlay (column n f) a₀) × (b ≡ overlay (column n g) b₀) × (c ≡ overlay (column n h) c₀)
   all-filling past ra rb rc =
       let end : i ≡ n = omega (arith, w .most) in (

@@ -7,7 +7,7 @@ use native.Mathlib.Omega.{arith}
 use lib.ListN.{length, take, drop, replicate, length-append, length-take, length-drop, length-replicate, take-append-drop}
 use lib.Seq.{take-at, drop-at, drop-drop, take-take, take-append-add, length-take-le}
 use Rattle.buffers.specs.Splice.{part, splice, overlay}
-use Rattle.buffers.specs.Over.{Over, Source}
+use Rattle.buffers.specs.Over.{Over, Source, Reaching}
 use Rattle.buffers.proofs.Cases.{le-or-lt}
 use Rattle.buffers.proofs.Splice.{length-splice, length-part, length-front, part-append, part-front, replicate-front, splice-whole}
 
@@ -103,13 +103,7 @@ module _ {src : List ℕ} {from to : ℕ} {d₀ : List ℕ} {at until : ℕ} {d 
       rw (part-front src from to i past) at
       (over-front (to - from) (b .laid) (omega arith) (omega arith) (omega (arith, b .most)))
 
--- a result that is laid run by run: all but `rest` stands in d up to `at`; behind the whole of it d is d₀
-pub record Reaching (whole rest d₀ : List ℕ) (at : ℕ) (d : List ℕ) : Type 0 where
-  pub so-far : take at d ++ rest ≡ whole
-  pub beyond : drop (length whole) d ≡ drop (length whole) d₀
-  pub room : at + length rest ≤ length d
-  pub same : length d ≡ length d₀
-
+-- none yet, one more, all of it
 pub none-reached : (whole d₀ : List ℕ) → length whole ≤ length d₀ → Reaching whole whole d₀ 0 d₀
 none-reached whole d₀ h = record { so-far = refl; beyond = refl; room = omega arith; same = refl }
 

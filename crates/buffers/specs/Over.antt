@@ -16,3 +16,10 @@ pub record Source (src : List ℕ) (from to : ℕ) (d : List ℕ) (at until : �
   pub inside : to ≤ length src
   pub room : at + (to - from) ≤ length d
   pub until-room : until ≤ length d
+
+-- a result that is laid run by run: all but `rest` stands in d up to `at`; behind the whole of it d is d₀
+pub record Reaching (whole rest d₀ : List ℕ) (at : ℕ) (d : List ℕ) : Type 0 where
+  pub so-far : take at d ++ rest ≡ whole
+  pub beyond : drop (length whole) d ≡ drop (length whole) d₀
+  pub room : at + length rest ≤ length d
+  pub same : length d ≡ length d₀

@@ -11,7 +11,8 @@ use Rattle.buffers.specs.Splice.{part}
 use Rattle.buffers.proofs.Cases.{le-or-lt}
 use Rattle.utf8.specs.Formed.{continues}
 use Rattle.utf8.specs.Letters.{leads}
-use Rattle.utf8.proofs.Letters.{Counted, flag-counted, leads-le-length, leads-take-add}
+use Rattle.utf8.specs.Counting.{Counted}
+use Rattle.utf8.proofs.Letters.{flag-counted, leads-le-length, leads-take-add}
 use Rattle.char_counts.specs.Counts.{begun, Marked, countAt, LookedUp, CountsLent}
 
 pub begun-zero : (s : List ℕ) → begun s 0 ≡ 0

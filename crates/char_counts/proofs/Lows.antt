@@ -13,7 +13,8 @@ use Rattle.buffers.proofs.Cases.{le-or-lt}
 use Rattle.buffers.proofs.Splice.{length-part, part-index, part-append}
 use Rattle.utf8.specs.Formed.{continues}
 use Rattle.utf8.specs.Letters.{leads}
-use Rattle.utf8.proofs.Letters.{Counted, none-counted, flag-counted, all-counted, counted-le, leads-append, leads-le-length}
+use Rattle.utf8.specs.Counting.{Counted}
+use Rattle.utf8.proofs.Letters.{none-counted, flag-counted, all-counted, counted-le, leads-append, leads-le-length}
 use Rattle.char_counts.specs.Counts.{begun}
 use Rattle.char_counts.specs.Lows.{fourAt, sixteenAt, LowsTo, BlockReady, EachReady}
 use Rattle.char_counts.proofs.Counts.{begun-zero, begun-add, begun-next}

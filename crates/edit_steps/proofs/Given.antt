@@ -7,10 +7,10 @@ use native.Mathlib.Omega.{arith}
 use lib.ListN.{length, getD, take, drop, replicate, length-append, length-drop, length-replicate}
 use lib.Seq.{length-take-le}
 use Rattle.buffers.specs.Splice.{part, splice, overlay}
-use Rattle.buffers.specs.Over.{Over}
+use Rattle.buffers.specs.Over.{Over, Reaching}
 use Rattle.buffers.proofs.Cases.{true-or-false, clash}
 use Rattle.buffers.proofs.Splice.{length-splice, splice-splice, splice-overlay, length-part, part-end}
-use Rattle.buffers.proofs.Over.{Reaching, run-reached, all-reached, reaching-size, over-exact}
+use Rattle.buffers.proofs.Over.{run-reached, all-reached, reaching-size, over-exact}
 use Rattle.utf8.specs.Scalar.{bytesOf}
 use Rattle.utf8.proofs.Boundaries.{boundary-most}
 use Rattle.note.specs.Notes.{beforeEnd}

@@ -10,7 +10,7 @@ use borrow.Author.Tests.{eq-eqb, ne-eqb}
 use Rattle.buffers.specs.Splice.{part, splice}
 use Rattle.buffers.proofs.Cases.{true-or-false, clash}
 use Rattle.buffers.proofs.Splice.{splice-nil}
-use Rattle.buffers.proofs.Over.{Reaching}
+use Rattle.buffers.specs.Over.{Reaching}
 use Rattle.utf8.specs.Formed.{announced, wellFormed, boundary}
 use Rattle.utf8.specs.Scalar.{bytesOf}
 use Rattle.utf8.specs.Lengths.{CharLen}

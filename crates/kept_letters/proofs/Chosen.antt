@@ -13,12 +13,14 @@ use borrow.Author.Tests.{ne-eqb}
 use Rattle.buffers.specs.Splice.{part, splice, overlay}
 use Rattle.buffers.proofs.Cases.{le-or-lt, true-or-false}
 use Rattle.buffers.proofs.Splice.{part-append, splice-nil, store-before}
-use Rattle.buffers.proofs.Over.{Reaching, none-reached, over-exact, over-front, reaching-size, run-reached, all-reached}
+use Rattle.buffers.specs.Over.{Reaching}
+use Rattle.buffers.proofs.Over.{none-reached, over-exact, over-front, reaching-size, run-reached, all-reached}
 use Rattle.utf8.specs.Formed.{announced, wellFormed, continues, boundary}
 use Rattle.utf8.specs.Scalar.{bytesOf}
 use Rattle.utf8.specs.Letters.{leadAt, leads}
 use Rattle.utf8.proofs.Boundaries.{char-at, boundary-begins, boundary-zero}
-use Rattle.utf8.proofs.Letters.{Counted, counted-le, lead-one, lead-zero, flag-counted, leads-append, leads-take, leads-take-add, letters-leads}
+use Rattle.utf8.specs.Counting.{Counted}
+use Rattle.utf8.proofs.Letters.{counted-le, lead-one, lead-zero, flag-counted, leads-append, leads-take, leads-take-add, letters-leads}
 use Rattle.script.specs.Scripts.{sizeOf}
 use Rattle.code_point_blocks.specs.Codes.{textOf}
 use Rattle.letter_columns.specs.Spreading.{ofLetters, spread}

@@ -12,15 +12,16 @@ use lib.ListN.{length, getD, take, drop, drop-of-length-le, length-append, lengt
 use lib.Seq.{drop-cons}
 use borrow.Author.Tests.{eqb-true, ltb-true, eq-eqb, ne-eqb}
 use Rattle.buffers.specs.Splice.{part, splice, overlay}
-use Rattle.buffers.specs.Over.{Over}
+use Rattle.buffers.specs.Over.{Over, Reaching}
 use Rattle.buffers.proofs.Cases.{le-or-lt, true-or-false}
 use Rattle.buffers.proofs.Splice.{length-part, part-front}
-use Rattle.buffers.proofs.Over.{Reaching, over-exact, over-front, reaching-size, run-reached}
+use Rattle.buffers.proofs.Over.{over-exact, over-front, reaching-size, run-reached}
 use Rattle.utf8.specs.Formed.{announced, boundary}
 use Rattle.utf8.specs.Letters.{leads}
 use Rattle.utf8.proofs.Boundaries.{CharAt, char-at, boundary-zero}
 use Rattle.utf8.proofs.Formed.{announced-one, announced-none, announced-two, announced-three, announced-four, announced-past}
-use Rattle.utf8.proofs.Letters.{Counted, none-counted, leads-append, letters-leads}
+use Rattle.utf8.specs.Counting.{Counted}
+use Rattle.utf8.proofs.Letters.{none-counted, leads-append, letters-leads}
 use Rattle.letter_columns.proofs.Letters.{leads-at}
 use Rattle.kept_letters.specs.declared.Filtered.{Filtered}
 use Rattle.kept_letters.specs.Chosen.{chosen, FlagEach, ColumnReady, KeptRoom, KeptLaid}

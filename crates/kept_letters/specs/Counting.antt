@@ -5,9 +5,9 @@ use mathlib.Core.Bool.{true, cond}
 use mathlib.Core.List.{List, [], _∷_}
 use lib.Dec.{eqb}
 use lib.ListN.{length, drop}
-use Rattle.buffers.proofs.Over.{Reaching}
+use Rattle.buffers.specs.Over.{Reaching}
 use Rattle.utf8.specs.Formed.{boundary}
-use Rattle.utf8.proofs.Letters.{Counted}
+use Rattle.utf8.specs.Counting.{Counted}
 use Rattle.kept_letters.specs.declared.Filtered.{Filtered}
 use Rattle.kept_letters.specs.Chosen.{chosen, FlagEach, ColumnReady}
 

@@ -7,9 +7,9 @@ use native.Mathlib.Omega.{arith}
 use lib.ListN.{length, replicate, drop, length-append, length-replicate}
 use lib.Seq.{take-length}
 use Rattle.buffers.specs.Splice.{part, splice}
-use Rattle.buffers.specs.Over.{Over, Source}
+use Rattle.buffers.specs.Over.{Over, Source, Reaching}
 use Rattle.buffers.proofs.Splice.{length-part, part-front, splice-overlay, take-overlay}
-use Rattle.buffers.proofs.Over.{over-exact, over-front, through, Reaching, none-reached, run-reached, all-reached, reaching-size}
+use Rattle.buffers.proofs.Over.{over-exact, over-front, through, none-reached, run-reached, all-reached, reaching-size}
 use Rattle.note.specs.Notes.{beforeEnd}
 use Rattle.pattern.specs.declared.Place.{Place}
 use Rattle.pattern.specs.declared.Entry.{Entry}

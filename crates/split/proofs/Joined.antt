@@ -8,9 +8,9 @@ use lib.ListN.{length, getD, set, take, drop, length-append, drop-of-length-le}
 use lib.Seq.{drop-cons}
 use borrow.Author.Tests.{eq-eqb, ne-eqb}
 use Rattle.buffers.specs.Splice.{part, splice, overlay}
-use Rattle.buffers.specs.Over.{Over}
+use Rattle.buffers.specs.Over.{Over, Reaching}
 use Rattle.buffers.proofs.Splice.{length-part, part-index, part-front}
-use Rattle.buffers.proofs.Over.{over-exact, over-front, through, Reaching, none-reached, run-reached, all-reached}
+use Rattle.buffers.proofs.Over.{over-exact, over-front, through, none-reached, run-reached, all-reached}
 use Rattle.slice.specs.Slicing.{lowered}
 use Rattle.slice.specs.Writing.{Lowerable}
 use Rattle.slice.proofs.Lowered.{length-lowered, part-lowered}

@@ -13,6 +13,7 @@ use Rattle.buffers.specs.Splice.{part}
 use Rattle.utf8.specs.Table.{Bytes, within}
 use Rattle.utf8.specs.Formed.{asked, formed, continues}
 use Rattle.utf8.specs.Letters.{lettersFrom, letters, leadAt, leads, LettersLeads}
+use Rattle.utf8.specs.Counting.{Counted}
 use Rattle.utf8.proofs.Formed.{Later, none, asked-later, length-asked, lead-begins, later-continues, later-rest, formed-lead, formed-rest}
 
 pub lead-one : (b : ℕ) → continues b ≡ false → leadAt b ≡ 1
@@ -65,11 +66,6 @@ leads-drop s i h = rw (drop-cons s i 0 h, add-one i)
 -- one more stretch
 pub leads-take-add : (s : List ℕ) (i m : ℕ) → leads (take (i + m) s) ≡ leads (take i s) + leads (take m (drop i s))
 leads-take-add s i m = rw (take-add i m s) (leads-append (take i s) (take m (drop i s)))
-
--- a count that has come as far as i
-pub record Counted (s : List ℕ) (n i : ℕ) : Type 0 where
-  pub so-far : n ≡ leads (take i s)
-  pub most : i ≤ length s
 
 pub none-counted : {s : List ℕ} → Counted s 0 0
 unfolding leads

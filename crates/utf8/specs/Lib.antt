@@ -5,3 +5,4 @@ pub mod Lengths
 pub mod Scalar
 pub mod Encoding
 pub mod Letters
+pub mod Counting
