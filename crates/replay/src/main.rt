@@ -7,7 +7,6 @@ mod pairs;
 mod publishing;
 mod ranges;
 mod texts;
-mod told;
 
 use libc::STDOUT_FILENO;
 use replayed_pieces::printing::printed;

@@ -1,7 +1,7 @@
 // The calls on matches: finding, replacing, whether two notes are published alike, and blanking a literal.
-use crate::told::is_list;
 use buffers::Offset;
 use replayed_edits::told::is_published;
+use replayed_pieces::told::is_list;
 use stored_answers::columns::bytes;
 use stored_answers::columns::offsets;
 use stored_answers::columns::zeros;

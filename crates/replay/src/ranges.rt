@@ -1,16 +1,15 @@
 // The calls on a note and a range, or a list of ranges. A range: 1 where it is of the transcript, 0 of the cleaned
 // text; start, end.
-use crate::told::are_pairs;
-use crate::told::is_range;
 use buffers::Offset;
-use convert::Range;
+use convert::range_of;
 use get_range::part_of;
-use note::NormalizedByte;
-use note::OriginalByte;
+use replayed_pieces::told::are_pairs;
+use replayed_pieces::told::is_range;
 use stored_answers::fields::field;
 use stored_answers::fields::is_number;
 use stored_answers::fields::is_text;
 use stored_answers::fields::value;
+use zulmyren::ranges::side_of;
 use zulmyren::ranges::zulmyren_convert_all;
 use zulmyren::ranges::zulmyren_convert_offsets;
 use zulmyren::ranges::zulmyren_get_range;
@@ -62,29 +61,16 @@ pub fn get_range_original(case: &[u8], starts: &[Offset], ends: &[Offset]) -> bo
     is_range(case, 8, answer)
 }
 
-// The range at fields 2 to 4.
-fn range(case: &[u8]) -> Range {
-    let start = value(case, 3);
-    let end = value(case, 4);
-    if value(case, 2) == 1 {
-        Range::Original(OriginalByte(start), OriginalByte(end))
-    } else {
-        Range::Normalized(NormalizedByte(start), NormalizedByte(end))
-    }
-}
-
 // Two texts, a range; the refusal, the part that the reader hands back.
 pub fn part(case: &[u8]) -> bool {
     let original = field(case, 0);
     let normalized = field(case, 1);
-    let refusal = zulmyren_part_verdict(
-        original,
-        normalized,
-        value(case, 2) == 1,
-        value(case, 3),
-        value(case, 4),
-    );
-    is_number(case, 5, refusal) & is_text(case, 6, part_of(original, normalized, range(case)))
+    let of_original = value(case, 2) == 1;
+    let start = value(case, 3);
+    let end = value(case, 4);
+    let refusal = zulmyren_part_verdict(original, normalized, of_original, start, end);
+    let range = range_of(side_of(of_original), start, end);
+    is_number(case, 5, refusal) & is_text(case, 6, part_of(original, normalized, range))
 }
 
 // A note, the text that the ranges are of, their starts and ends, the lent numbers, starts and ends; the refusal, the

@@ -1,6 +1,6 @@
 // The calls on a text alone.
-use crate::told::are_pairs;
-use crate::told::is_range;
+use replayed_pieces::told::are_pairs;
+use replayed_pieces::told::is_range;
 use stored_answers::fields::field;
 use stored_answers::fields::is_number;
 use stored_answers::fields::value;

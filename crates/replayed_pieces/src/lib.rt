@@ -3,4 +3,4 @@
 pub mod pieces;
 pub mod printing;
 pub mod slices;
-mod told;
+pub mod told;

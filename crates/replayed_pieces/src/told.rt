@@ -1,15 +1,85 @@
-// Whether a call that cuts a note answers, and leaves in the lent buffers, what the fields from `index` on say.
+// Whether a call answers, and leaves in the lent buffers, what the fields from `index` on say.
 use buffers::Offset;
 use stored_answers::columns::are_numbers;
 use stored_answers::columns::are_offsets;
 use stored_answers::fields::is_number;
 use stored_answers::fields::is_size;
+use stored_answers::fields::is_text;
 use zulmyren::answers::Cut;
 use zulmyren::answers::Listed;
+use zulmyren::answers::Offsets;
 use zulmyren::answers::Slice;
 ghost use mathlib.Core.Path.{_≡_};
-ghost use Prim.Native.Nat.{_<_};
+ghost use Prim.Native.Nat.{_<_, _+_};
 ghost use Rattle.replayed_pieces.specs.Stored.{piecesStored, sliceStored, splitsStored};
+ghost use mathlib.Core.Bool.{_&&_};
+ghost use Rattle.buffers.specs.Same.{same};
+ghost use Rattle.note.specs.Notes.{limit};
+ghost use Rattle.stored_answers.specs.Framing.{fieldOf, isNumber};
+ghost use Rattle.stored_answers.specs.Differences.{offsetsOf, numbersOf};
+
+// The refusal, start, end.
+pub fn is_range(case: &[u8], index: usize, answer: Offsets) -> bool
+    requires { ⌜ index < 100 ⌝ }
+    ensures { λ r. ⌜ r ≡ (isNumber (fieldOf index (now (case .entry))) (answer .refusal)
+        && isNumber (fieldOf (index + 1) (now (case .entry))) (answer .start))
+        && isNumber (fieldOf (index + 2) (now (case .entry))) (answer .end) ⌝ }
+{
+    is_number(case, index, answer.refusal)
+        & is_number(case, index + 1, answer.start)
+        & is_number(case, index + 2, answer.end)
+}
+
+// The refusal, the list's size, the list.
+pub fn is_list(case: &[u8], index: usize, answer: Listed, list: &[u8]) -> bool
+    requires { ⌜ index < 100 ⌝ }
+    ensures { λ r. ⌜ r ≡ (isNumber (fieldOf index (now (case .entry))) (answer .refusal)
+        && isNumber (fieldOf (index + 1) (now (case .entry))) (answer .len))
+        && same (fieldOf (index + 2) (now (case .entry))) (now (list .entry)) ⌝ }
+{
+    is_number(case, index, answer.refusal)
+        & is_size(case, index + 1, answer.len)
+        & is_text(case, index + 2, list)
+}
+
+// The refusal, two columns.
+pub fn are_columns(
+    case: &[u8],
+    index: usize,
+    refusal: u32,
+    starts: &[Offset],
+    ends: &[Offset],
+) -> bool
+    requires { ⌜ index < 100 ⌝ }
+    ensures { λ r. ⌜ r ≡ (isNumber (fieldOf index (now (case .entry))) refusal
+        && same (now (starts .entry)) (offsetsOf limit (fieldOf (index + 1) (now (case .entry)))))
+        && same (now (ends .entry)) (offsetsOf limit (fieldOf (index + 2) (now (case .entry)))) ⌝ }
+{
+    is_number(case, index, refusal)
+        & are_offsets(case, index + 1, starts)
+        & are_offsets(case, index + 2, ends)
+}
+
+// The refusal, and a number, start and end for each pair of a list.
+pub fn are_pairs(
+    case: &[u8],
+    index: usize,
+    refusal: u32,
+    numbers: &[u8],
+    starts: &[u32],
+    ends: &[u32],
+) -> bool
+    requires { ⌜ index < 100 ⌝ }
+    ensures { λ r. ⌜ r ≡ ((isNumber (fieldOf index (now (case .entry))) refusal
+        && same (fieldOf (index + 1) (now (case .entry))) (now (numbers .entry)))
+        && same (now (starts .entry)) (numbersOf (fieldOf (index + 2) (now (case .entry)))))
+        && same (now (ends .entry)) (numbersOf (fieldOf (index + 3) (now (case .entry)))) ⌝ }
+{
+    is_number(case, index, refusal)
+        & is_text(case, index + 1, numbers)
+        & are_numbers(case, index + 2, starts)
+        & are_numbers(case, index + 3, ends)
+}
 
 // The refusal, the two ranges of a slice, its shift.
 pub fn is_slice(case: &[u8], index: usize, answer: Slice) -> bool

@@ -1,8 +1,8 @@
 -- Each field by itself.
 use borrow.Author.Needs.{needs}
 use Rattle.stored_answers.proofs.Framing.{both}
-use Rattle.replay.proofs.told.are_columns.Statement.{statement}
-use Rattle.replay.proofs.told.are_columns.Tie as tie
+use Rattle.replayed_pieces.proofs.told.are_columns.Statement.{statement}
+use Rattle.replayed_pieces.proofs.told.are_columns.Tie as tie
 
 returns : tie.Need-returns
 returns c = both (both (c .before .before .is-number .ensures) (c .before .are-offsets .ensures)) (c .are-offsets2 .ensures)

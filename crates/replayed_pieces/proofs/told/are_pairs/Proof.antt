@@ -1,8 +1,8 @@
 -- Each field by itself.
 use borrow.Author.Needs.{needs}
 use Rattle.stored_answers.proofs.Framing.{both}
-use Rattle.replay.proofs.told.are_pairs.Statement.{statement}
-use Rattle.replay.proofs.told.are_pairs.Tie as tie
+use Rattle.replayed_pieces.proofs.told.are_pairs.Statement.{statement}
+use Rattle.replayed_pieces.proofs.told.are_pairs.Tie as tie
 
 returns : tie.Need-returns
 returns c = both (both (both (c .before .before .before .is-number .ensures) (c .before .before .is-text .ensures)) (c .before .are-numbers .ensures)) (c .are-numbers2 .ensures)
