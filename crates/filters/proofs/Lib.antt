@@ -2,4 +2,5 @@
 pub mod Kept
 pub mod Flagged
 pub mod Counted
+pub mod Sifted
 pub mod Spanned

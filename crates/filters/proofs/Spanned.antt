@@ -8,7 +8,8 @@ use native.Mathlib.Omega.{arith}
 use lib.Dec.{leb, eqb}
 use lib.ListN.{length, drop, drop-of-length-le}
 use borrow.Author.Tests.{eqb-true, leb-true}
-use Rattle.buffers.specs.Splice.{overlay}
+use Rattle.buffers.specs.Splice.{part, splice, overlay}
+use Rattle.buffers.proofs.Splice.{part-end, splice-overlay}
 use Rattle.utf8.specs.Letters.{letters, leads}
 use Rattle.utf8.proofs.Letters.{letters-leads}
 use Rattle.utf8.proofs.Boundaries.{boundary-zero, boundary-length}
@@ -19,7 +20,7 @@ use Rattle.note.specs.Notes.{Note, lent, Sound}
 use Rattle.note.specs.Faults.{noteFaults}
 use Rattle.note.proofs.Faults.{accepted-sound}
 use Rattle.edit_steps.specs.Edits.{skipped, characters, carried, starved, Edit, placed, begins, relaid, edited, transformed}
-use Rattle.edit_steps.specs.Laying.{KeepRoom}
+use Rattle.edit_steps.specs.Laying.{KeepRoom, Kept}
 use Rattle.edit_steps.specs.Walking.{Standing}
 use Rattle.transform.specs.declared.Editing.the-variants.{Edited}
 use Rattle.transform.specs.Transforming.{editFaults, Rewritten}
@@ -32,10 +33,12 @@ use Rattle.edits.specs.Plain.{sifted}
 use Rattle.edits.proofs.Head.{is-placed}
 use Rattle.edits.proofs.Shares.{starts-part, ends-part}
 use Rattle.edits.proofs.Sifted.{given-sifted, starved-sifted, column-sifted, codes-letters}
-use Rattle.filters.specs.Flags.{skips, begun, kept}
-use Rattle.kept_letters.specs.Chosen.{chosen, FlagEach, KeptEnd, KeptRoom, KeptLaid, spans, OneValue, RangeReady}
+use Rattle.filters.specs.Flags.{skips, begun, kept, OneValue, RangeReady}
+use Rattle.kept_letters.specs.Chosen.{chosen, EachKept, FlagEach, KeptEnd, KeptRoom, KeptLaid, spans}
 use Rattle.filters.proofs.Kept.{begun-starved, begun-given}
-use Rattle.kept_letters.proofs.Chosen.{chosen-most, both-chosen}
+use Rattle.kept_letters.proofs.Chosen.{chosen-most}
+use Rattle.kept_letters.proofs.Whole.{all-chosen}
+use Rattle.filters.proofs.Sifted.{both-chosen}
 
 -- what an accepted note gives
 pub range-ready : (most : ℕ) (n : Note) (flags : List ℕ) {v : Verdict} → v ≡ verdict (noteFaults most n) → v ≡ Accepted → length flags ≡ letters (n .normalized) → RangeReady (n .normalized) (n .starts) (n .ends) flags
@@ -145,3 +148,18 @@ module _ {s starts ends flags : List ℕ} (r : RangeReady s starts ends flags) w
     pub spanned-made : {k : ℕ} {out starts₁ ends₁ : List ℕ} → KeptLaid s starts ends flags out₀ starts₀ ends₀ k out starts₁ ends₁ → Rewritten (verdict (editFaults most s (record { from = from; to = to; skip = skips flags; commands = kept s flags }) (least (length out₀) (length starts₀) (length ends₀)))) (transformed (lent [] s starts ends 0) (record { from = from; to = to; skip = skips flags; commands = kept s flags })) out₀ starts₀ ends₀ (Edited k) out starts₁ ends₁
     unfolding e
     spanned-made l = rw (first, last) (made l)
+
+-- a filter that keeps all copies all
+module _ {s flags : List ℕ} (f : FlagEach s flags) (each : EachKept flags) where
+  module _ {starts ends out₀ starts₀ ends₀ out starts₁ ends₁ : List ℕ} (one-start : length starts ≡ length s) (one-end : length ends ≡ length s) (k : Kept s starts ends 0 (length s) out₀ starts₀ ends₀ 0 out starts₁ ends₁) where
+    column-copied : (xs d₀ d : List ℕ) → length xs ≡ length s → d ≡ splice d₀ 0 (part xs 0 (length s)) → d ≡ overlay (chosen flags 0 s xs) d₀
+    column-copied xs d₀ d same is = is ∙ rw (← same, part-end xs 0) (splice-overlay d₀ xs) ∙ ap (λ (x : List ℕ). overlay x d₀) (sym (all-chosen f each xs same))
+
+    pub all-copied : KeptLaid s starts ends flags out₀ starts₀ ends₀ (length s) out starts₁ ends₁
+    all-copied =
+        record {
+          reached = ap length (sym (all-chosen f each s refl));
+          text-is = column-copied s out₀ out refl (k .text-is);
+          starts-are = column-copied starts starts₀ starts₁ one-start (k .starts-are);
+          ends-are = column-copied ends ends₀ ends₁ one-end (k .ends-are);
+        }

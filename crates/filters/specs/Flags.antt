@@ -6,11 +6,12 @@ use mathlib.Core.List.{List, []}
 use lib.Dec.{leb, eqb}
 use lib.ListN.{length, getD, replicate}
 use Rattle.buffers.specs.Splice.{part, splice}
+use Rattle.utf8.specs.Formed.{announced, boundary}
 use Rattle.utf8.specs.Letters.{letters}
 use Rattle.script.specs.declared.Command.{Command}
 use Rattle.edit_steps.specs.Edits.{skipped}
 use Rattle.edit_steps.specs.Walking.{Tabled}
-use Rattle.edit_steps.specs.Laying.{CommandsRoom, EditRoom}
+use Rattle.edit_steps.specs.Laying.{CommandsRoom, Editable, EditRoom}
 use Rattle.edits.specs.Characters.{codesOf}
 use Rattle.edits.specs.Whole.{droppedAhead, anyKept, keptCommands}
 
@@ -64,3 +65,15 @@ pub record FlagsRoom (s starts ends : List ℕ) (b from : ℕ) (flags table out 
 pub record FilterRoom (s starts ends : List ℕ) (a b : ℕ) (flags table out starts₀ ends₀ : List ℕ) : Type 0 where
   pub ready : FlagsReady s b a flags table
   pub rooms : EditRoom s starts ends a b (begun s b a flags) (kept s flags) table out starts₀ ends₀
+
+-- the bytes of each character carry one value of a column
+abbrev pub OneValue : List ℕ → List ℕ → Type 0
+OneValue s xs =
+    (q : ℕ) → boundary s q ≡ true → q < length s
+    → replicate (announced (getD s q 0)) (getD xs q 0) ≡ part xs q (q + announced (getD s q 0))
+
+pub record RangeReady (s starts ends flags : List ℕ) : Type 0 where
+  pub editable : Editable s starts ends
+  pub counted : length flags ≡ letters s
+  pub one-start : OneValue s starts
+  pub one-end : OneValue s ends

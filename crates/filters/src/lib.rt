@@ -38,9 +38,8 @@ ghost use Rattle.edit_steps.specs.Laying.{CommandsLaid, Editable, EditLaid};
 ghost use Rattle.transform.specs.Transforming.{editFaults, Rewritten};
 ghost use Rattle.edit_steps.specs.Walking.{measured};
 ghost use Rattle.edits.specs.Whole.{filterEdit, filterFaults};
-ghost use Rattle.kept_letters.specs.Chosen.{RangeReady};
 ghost use Rattle.filters.specs.Flags.{begun, counts, FilterRoom, FlagLaid, FlagRoom, FlagsReady, FlagsRoom};
-ghost use Rattle.filters.specs.Flags.{kept, skips, wants};
+ghost use Rattle.filters.specs.Flags.{kept, RangeReady, skips, wants};
 
 // Whether a flag keeps its character though none is left at the position.
 fn wants(flag: u8, to: usize, position: usize) -> bool

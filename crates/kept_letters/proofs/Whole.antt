@@ -6,16 +6,12 @@ use mathlib.Core.List.{List, [], _∷_}
 use mathlib.Mathlib.Data.Bool.Basic.{and-elim-left, and-elim-right}
 use native.Mathlib.Omega.{arith}
 use lib.Dec.{eqb}
-use lib.ListN.{length, getD}
+use lib.ListN.{length, getD, drop-of-length-le}
 use lib.Seq.{take-length}
-use Rattle.buffers.specs.Splice.{part, splice, overlay}
 use Rattle.buffers.proofs.Cases.{le-or-lt}
-use Rattle.buffers.proofs.Splice.{part-end, splice-overlay}
 use Rattle.utf8.specs.Letters.{leadAt, leads}
 use Rattle.utf8.proofs.Letters.{letters-leads, lead-le-one}
-use Rattle.edit_steps.specs.Laying.{Kept}
-use Rattle.edits.proofs.Head.{none-of}
-use Rattle.kept_letters.specs.Chosen.{chosen, EachKept, FlagEach, KeptLaid}
+use Rattle.kept_letters.specs.Chosen.{chosen, EachKept, FlagEach}
 use Rattle.kept_letters.proofs.Chosen.{leads-low}
 
 pub record Keeping (flags : List ℕ) (ok : Bool) (i : ℕ) : Type 0 where
@@ -54,20 +50,7 @@ module _ {s flags : List ℕ} (f : FlagEach s flags) (each : EachKept flags) whe
   all-chosen xs same =
       le-or-lt (length flags) 0
       (λ none.
-      let empty : s ≡ [] = none-of s (le-or-lt (length s) 0 (λ z. omega arith) (λ more. absurd (omega (arith, leads-low f (length s) more (omega arith), rw (take-length s) at (leads-low f (length s) more (omega arith)), f .counted, letters-leads s (f .formed))))) in
-      let nothing : xs ≡ [] = none-of xs (same ∙ ap length empty) in
+      let empty : s ≡ [] = drop-of-length-le s {i = 0} (le-or-lt (length s) 0 (λ z. z) (λ more. absurd (omega (arith, leads-low f (length s) more (omega arith), rw (take-length s) at (leads-low f (length s) more (omega arith)), f .counted, letters-leads s (f .formed))))) in
+      let nothing : xs ≡ [] = drop-of-length-le xs {i = 0} (omega (arith, same, ap length empty)) in
       rw (empty, nothing))
       (λ some. chosen-all flags each some 0 s xs same (omega (arith, f .counted, letters-leads s (f .formed))))
-
-  module _ {starts ends out₀ starts₀ ends₀ out starts₁ ends₁ : List ℕ} (one-start : length starts ≡ length s) (one-end : length ends ≡ length s) (k : Kept s starts ends 0 (length s) out₀ starts₀ ends₀ 0 out starts₁ ends₁) where
-    column-copied : (xs d₀ d : List ℕ) → length xs ≡ length s → d ≡ splice d₀ 0 (part xs 0 (length s)) → d ≡ overlay (chosen flags 0 s xs) d₀
-    column-copied xs d₀ d same is = is ∙ rw (← same, part-end xs 0) (splice-overlay d₀ xs) ∙ ap (λ (x : List ℕ). overlay x d₀) (sym (all-chosen xs same))
-
-    pub all-copied : KeptLaid s starts ends flags out₀ starts₀ ends₀ (length s) out starts₁ ends₁
-    all-copied =
-        record {
-          reached = ap length (sym (all-chosen s refl));
-          text-is = column-copied s out₀ out refl (k .text-is);
-          starts-are = column-copied starts starts₀ starts₁ one-start (k .starts-are);
-          ends-are = column-copied ends ends₀ ends₁ one-end (k .ends-are);
-        }

@@ -4,11 +4,10 @@ use mathlib.Core.Path.{_≡_}
 use mathlib.Core.Bool.{Bool, true, false, cond, _&&_}
 use mathlib.Core.List.{List, [], _∷_}
 use lib.Dec.{leb, eqb}
-use lib.ListN.{length, getD, take, drop, replicate}
-use Rattle.buffers.specs.Splice.{part, overlay}
-use Rattle.utf8.specs.Formed.{announced, wellFormed, boundary}
+use lib.ListN.{length, getD, take, drop}
+use Rattle.buffers.specs.Splice.{overlay}
+use Rattle.utf8.specs.Formed.{wellFormed}
 use Rattle.utf8.specs.Letters.{letters, leadAt, leads}
-use Rattle.edit_steps.specs.Laying.{Editable}
 
 -- what the bytes of kept characters have of a column, from a byte on before which i characters begin
 unfoldable pub chosen : List ℕ → ℕ → List ℕ → List ℕ → List ℕ
@@ -55,15 +54,3 @@ pub record KeptLaid (s starts ends flags out₀ starts₀ ends₀ : List ℕ) (r
 -- a range that is the whole text, and room for all of it
 unfoldable pub spans : ℕ → ℕ → ℕ → ℕ → ℕ → Bool
 spans most from to size room = eqb from 0 && eqb to size && leb size most && leb size room
-
--- the bytes of each character carry one value of a column
-abbrev pub OneValue : List ℕ → List ℕ → Type 0
-OneValue s xs =
-    (q : ℕ) → boundary s q ≡ true → q < length s
-    → replicate (announced (getD s q 0)) (getD xs q 0) ≡ part xs q (q + announced (getD s q 0))
-
-pub record RangeReady (s starts ends flags : List ℕ) : Type 0 where
-  pub editable : Editable s starts ends
-  pub counted : length flags ≡ letters s
-  pub one-start : OneValue s starts
-  pub one-end : OneValue s ends

@@ -1,8 +1,7 @@
 -- The whole text is copied, or its kept letters are laid; any other range goes flag by flag.
 use borrow.Author.Needs.{needs}
 use Rattle.note.specs.Notes.{limit}
-use Rattle.kept_letters.proofs.Whole.{all-copied}
-use Rattle.filters.proofs.Spanned.{flag-each, spanned-room, copied-room, spanned-made}
+use Rattle.filters.proofs.Spanned.{flag-each, spanned-room, copied-room, spanned-made, all-copied}
 use Rattle.filters.proofs.filter_range.Statement.{statement}
 use Rattle.filters.proofs.filter_range.Tie as tie
 
