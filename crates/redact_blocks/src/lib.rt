@@ -160,6 +160,7 @@ pub fn blank_blocks(
 {
     let first = literal[0];
     let last = literal[literal.len() - 1];
+    let wide = content.len();
     let mut i = from;
     let mut gap = base + text.len() - from;
     while margin <= text.len() - i {
@@ -184,18 +185,8 @@ pub fn blank_blocks(
             let here = at + k;
             if begins(text, literal, front, i) {
                 i += literal.len();
-                fill(
-                    text,
-                    i,
-                    filler,
-                    content.len(),
-                    here + 16,
-                    out,
-                    out_starts,
-                    out_ends,
-                    here,
-                );
-                gap = gap + content.len() - literal.len();
+                fill(text, i, filler, wide, out, out_starts, out_ends, here);
+                gap = gap + wide - literal.len();
             } else {
                 lay_byte(text, i, out, out_starts, out_ends, here);
                 i += 1;
@@ -204,6 +195,16 @@ pub fn blank_blocks(
     }
     let at = i + gap - text.len();
     Reached { i, at }
+}
+
+// A literal's first bytes, up to 16, in front of 16.
+fn front_of(literal: &[u8]) -> [u8; 16]
+    ensures { λ r. ⌜ FrontOf (now (literal .entry)) r ⌝ }
+{
+    let mut front = [0u8; 16];
+    let few = least_of_two(16, literal.len());
+    copy_bytes(&literal[0..few], &mut front, 0);
+    front
 }
 
 // All of the text: the first bytes one by one, since a block counts from the three before it, then blocks, then what is
@@ -238,9 +239,7 @@ pub fn blank(
         out_starts,
         out_ends,
     );
-    let mut front = [0u8; 16];
-    let few = least_of_two(16, literal.len());
-    copy_bytes(&literal[0..few], &mut front, 0);
+    let front = front_of(literal);
     let most = blank_blocks(
         text,
         plain,

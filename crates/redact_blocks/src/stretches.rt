@@ -80,28 +80,29 @@ pub fn lay_block(
     ends_block(text, i, out_ends, at);
 }
 
-// The content, which is what `filler` has in front, in the place of a match that ends at `end`.
+// The content, which is what `filler` has in front, in the place of a match that ends at `end`; up to 16 elements are
+// written.
 pub fn fill(
     text: &[u8],
     end: usize,
     filler: &[u8],
     wide: usize,
-    until: usize,
     out: &mut [u8],
     out_starts: &mut [Offset],
     out_ends: &mut [Offset],
     at: usize,
 )
-    requires { ⌜ FillerRoom (now text) end (now filler) wide until (now out) (now «out_starts») (now «out_ends») at ⌝ }
+    requires { ⌜ FillerRoom (now text) end (now filler) wide (at + 16)
+        (now out) (now «out_starts») (now «out_ends») at ⌝ }
     ensures { λ _. ⌜ FillerLaid (now (text .entry)) end (now (filler .entry)) wide
-        (now (out .entry)) (now («out_starts» .entry)) (now («out_ends» .entry)) at until
+        (now (out .entry)) (now («out_starts» .entry)) (now («out_ends» .entry)) at (at + 16)
         (now (out .exit)) (now («out_starts» .exit)) (now («out_ends» .exit)) ⌝ }
 {
     let first = char_start(text, end - 1) as Offset;
     let last = char_end(text, end - 1) as Offset;
-    lay_content(filler, wide, out, at, until);
-    fill_offsets_over(first, wide, out_starts, at, until);
-    fill_offsets_over(last, wide, out_ends, at, until);
+    lay_content(filler, wide, out, at, at + 16);
+    fill_offsets_over(first, wide, out_starts, at, at + 16);
+    fill_offsets_over(last, wide, out_ends, at, at + 16);
 }
 
 // The same of the content alone, by no block.
