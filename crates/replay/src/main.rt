@@ -4,7 +4,6 @@
 mod matches;
 mod notes;
 mod pairs;
-mod publishing;
 mod ranges;
 mod texts;
 

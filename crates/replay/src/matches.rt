@@ -1,6 +1,5 @@
-// The calls on matches: finding, replacing, whether two notes are published alike, and blanking a literal.
+// The calls on matches that publish nothing: finding, and whether two notes are published alike.
 use buffers::Offset;
-use replayed_edits::told::is_published;
 use replayed_pieces::told::is_list;
 use stored_answers::columns::bytes;
 use stored_answers::columns::offsets;
@@ -10,8 +9,6 @@ use stored_answers::fields::is_number;
 use stored_answers::fields::value;
 use zulmyren::matches::zulmyren_find_matches;
 use zulmyren::matches::zulmyren_published_alike;
-use zulmyren::matches::zulmyren_redact;
-use zulmyren::matches::zulmyren_replace;
 
 fn found(case: &[u8], out: &mut [u8]) -> bool {
     let answer = zulmyren_find_matches(field(case, 0), field(case, 1), out);
@@ -23,30 +20,6 @@ pub fn find_matches(case: &[u8]) -> bool {
     let mut out = io::large_buffer();
     let o = bytes(case, 2, &mut out);
     found(case, &mut out[..o])
-}
-
-// A note, a list, a content, the lent text, starts and ends; the refusal, the size, the text, starts and ends.
-pub fn replace(
-    case: &[u8],
-    starts: &[Offset],
-    ends: &[Offset],
-    out: &mut [u8],
-    out_starts: &mut [Offset],
-    out_ends: &mut [Offset],
-) -> bool {
-    let answer = zulmyren_replace(
-        field(case, 0),
-        field(case, 1),
-        starts,
-        ends,
-        value(case, 4),
-        field(case, 5),
-        field(case, 6),
-        out,
-        out_starts,
-        out_ends,
-    );
-    is_published(case, 10, answer, out, out_starts, out_ends)
 }
 
 fn compared(
@@ -80,22 +53,4 @@ pub fn published_alike(case: &[u8], starts: &[Offset], ends: &[Offset]) -> bool 
     let s = offsets(case, 7, &mut other_starts);
     let e = offsets(case, 8, &mut other_ends);
     compared(case, starts, ends, &other_starts[..s], &other_ends[..e])
-}
-
-// A text, a literal, a content, the lent text, starts and ends; the refusal, the size, the three buffers.
-pub fn redact(
-    case: &[u8],
-    out: &mut [u8],
-    out_starts: &mut [Offset],
-    out_ends: &mut [Offset],
-) -> bool {
-    let answer = zulmyren_redact(
-        field(case, 0),
-        field(case, 1),
-        field(case, 2),
-        out,
-        out_starts,
-        out_ends,
-    );
-    is_published(case, 6, answer, out, out_starts, out_ends)
 }

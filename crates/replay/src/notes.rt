@@ -1,11 +1,9 @@
 // The starting note, and the calls on a note, whose first fields are transcript, cleaned text, starts, ends, shift.
 use crate::matches::published_alike;
 use crate::pairs::on_pairs;
-use crate::publishing::on_publishing;
-use crate::ranges::convert_offsets;
-use crate::ranges::get_range;
-use crate::ranges::get_range_original;
+use crate::ranges::on_range;
 use buffers::Offset;
+use replayed_edits::publishing::on_publishing;
 use replayed_pieces::pieces::get_splits;
 use replayed_pieces::pieces::split;
 use replayed_pieces::slices::slice;
@@ -43,9 +41,7 @@ fn called(call: u8, case: &[u8], starts: &[Offset], ends: &[Offset]) -> bool {
     match call {
         3 => on_pairs(call, case, 1, starts, ends),
         5 => check_note(case, starts, ends),
-        6 => convert_offsets(case, starts, ends),
-        7 => get_range(case, starts, ends),
-        8 => get_range_original(case, starts, ends),
+        6 | 7 | 8 => on_range(call, case, starts, ends),
         9 => on_pairs(call, case, 6, starts, ends),
         10 => on_publishing(call, case, 7, starts, ends),
         11 => published_alike(case, starts, ends),

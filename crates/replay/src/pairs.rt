@@ -1,15 +1,18 @@
 // The calls on a list of pairs: its starts and ends, and the lent numbers, starts and ends, from fields `at` on.
-use crate::ranges::convert_all;
-use crate::texts::char_offsets_all;
 use buffers::Offset;
+use replayed_pieces::told::are_pairs;
 use stored_answers::columns::FEW;
 use stored_answers::columns::bytes;
 use stored_answers::columns::numbers;
+use stored_answers::fields::field;
+use stored_answers::fields::value;
+use zulmyren::ranges::zulmyren_convert_all;
+use zulmyren::texts::zulmyren_char_offsets_all;
 ghost use Prim.Native.Nat.{_<_};
 
 // A call that takes no columns leaves those of the note.
 pub fn on_pairs(call: u8, case: &[u8], at: usize, starts: &[Offset], ends: &[Offset]) -> bool
-    requires { ⌜ at < 100 ⌝ }
+    requires { ⌜ at < 90 ⌝ }
 {
     let mut from = [0; FEW];
     let mut to = [0; FEW];
@@ -18,7 +21,7 @@ pub fn on_pairs(call: u8, case: &[u8], at: usize, starts: &[Offset], ends: &[Off
     on_answers(call, case, at + 2, starts, ends, &from[..f], &to[..t])
 }
 
-// The answers to a list of pairs.
+// The lent numbers, starts and ends.
 fn on_answers(
     call: u8,
     case: &[u8],
@@ -28,7 +31,7 @@ fn on_answers(
     from: &[u32],
     to: &[u32],
 ) -> bool
-    requires { ⌜ at < 102 ⌝ }
+    requires { ⌜ at < 92 ⌝ }
 {
     let mut refusals = [0; FEW];
     let mut starts = [0; FEW];
@@ -39,6 +42,7 @@ fn on_answers(
     listed(
         call,
         case,
+        at + 3,
         note_starts,
         note_ends,
         from,
@@ -49,7 +53,37 @@ fn on_answers(
     )
 }
 
+// The refusal, the three buffers.
 fn listed(
+    call: u8,
+    case: &[u8],
+    at: usize,
+    note_starts: &[Offset],
+    note_ends: &[Offset],
+    from: &[u32],
+    to: &[u32],
+    numbers: &mut [u8],
+    starts: &mut [u32],
+    ends: &mut [u32],
+) -> bool
+    requires { ⌜ at < 100 ⌝ }
+{
+    let refusal = answered(
+        call,
+        case,
+        note_starts,
+        note_ends,
+        from,
+        to,
+        numbers,
+        starts,
+        ends,
+    );
+    are_pairs(case, at, refusal, numbers, starts, ends)
+}
+
+// `char_offsets_all`: a text; or `convert_all`: a note, and the text that the ranges are of.
+fn answered(
     call: u8,
     case: &[u8],
     note_starts: &[Offset],
@@ -59,19 +93,21 @@ fn listed(
     numbers: &mut [u8],
     starts: &mut [u32],
     ends: &mut [u32],
-) -> bool {
+) -> u32 {
     if call == 3 {
-        char_offsets_all(case, from, to, numbers, starts, ends)
-    } else {
-        convert_all(
-            case,
-            note_starts,
-            note_ends,
-            from,
-            to,
-            numbers,
-            starts,
-            ends,
-        )
+        return zulmyren_char_offsets_all(field(case, 0), from, to, numbers, starts, ends);
     }
+    zulmyren_convert_all(
+        field(case, 0),
+        field(case, 1),
+        note_starts,
+        note_ends,
+        value(case, 4),
+        value(case, 5) == 1,
+        from,
+        to,
+        numbers,
+        starts,
+        ends,
+    )
 }

@@ -1,2 +1,2 @@
--- What the replay of an edit says.
+-- What the replay of a call that publishes a note says.
 pub mod Replaying

@@ -1,15 +1,23 @@
--- The replay of an edit: the exported call's own contract is met by some answer and some buffers, and the result says
--- whether these are what the case stores. The contract leaves no choice of them.
+-- The replay of a call that publishes a note: the exported call's own contract is met by some answer and some buffers,
+-- and the result says whether these are what the case stores. The contract leaves no choice of them.
 use Prim.Native.Nat.{ℕ, _+_}
 use mathlib.Core.Path.{_≡_}
-use mathlib.Core.Bool.{Bool, _&&_}
+use mathlib.Core.Bool.{Bool, true, false, _&&_}
 use mathlib.Core.List.{List}
+use lib.Dec.{eqb}
 use Rattle.buffers.specs.Same.{same}
 use Rattle.note.specs.Notes.{limit}
+use Rattle.convert.specs.Converting.{rangeOf}
+use Rattle.replace.specs.Replacing.{Replacing}
+use Rattle.redact.specs.Redacting.{Redacted}
+use Rattle.transform.specs.Transforming.{wholeTranscript}
 use Rattle.stored_answers.specs.Framing.{fieldOf, isNumber}
-use Rattle.stored_answers.specs.Differences.{offsetsOf}
+use Rattle.stored_answers.specs.Differences.{numbersOf, offsetsOf}
+use Rattle.stored_answers.specs.Lending.{flagAt, noteAt, numberAt}
 use Rattle.zulmyren.specs.declared.answers.Count.{Count}
 use Rattle.zulmyren.specs.declared.answers.Lengths.{Lengths}
+use Rattle.zulmyren.specs.Calls.{Told, publishedOf, sideOf}
+use Rattle.zulmyren.specs.Edits.{AppendTold, ClearTold, FilterTold, MapTold, PrependTold, TransformTold}
 
 -- whether the fields from `index` on are a text and its columns
 abbrev pub publishedStored : List ℕ → ℕ → List ℕ → List ℕ → List ℕ → Bool
@@ -39,3 +47,70 @@ pub record Replayed {A : Type 0} (call : A → List ℕ → List ℕ → List �
   pub ends : List ℕ
   pub met : call answer text starts ends
   pub says : r ≡ stored answer text starts ends
+
+-- a call's contract: the three lent buffers before; the answer, and the three after
+abbrev pub Call : Type 1
+Call = List ℕ → List ℕ → List ℕ → Count → List ℕ → List ℕ → List ℕ → Type 0
+
+abbrev pub pickCall : Bool → Call → Call → Call
+pickCall true a b = a
+pickCall false a b = b
+
+-- the calls with what a case and the note's columns lend
+abbrev pub ReplaceCase : List ℕ → List ℕ → List ℕ → Call
+ReplaceCase case starts ends out₀ starts₀ ends₀ r out s e =
+    Told publishedOf
+    (λ v. Replacing limit (noteAt case starts ends) (fieldOf 5 case) (fieldOf 6 case) out₀ starts₀ ends₀ v out s e)
+    r
+
+abbrev pub RedactCase : List ℕ → Call
+RedactCase case out₀ starts₀ ends₀ r out s e =
+    Told publishedOf
+    (λ v. Redacted limit (fieldOf 0 case) (fieldOf 1 case) (fieldOf 2 case) out₀ starts₀ ends₀ v out s e)
+    r
+
+abbrev pub RangeCase : List ℕ → List ℕ → List ℕ → Call
+RangeCase case starts ends =
+    TransformTold (noteAt case starts ends)
+    (rangeOf (sideOf (flagAt case 5)) (numberAt case 6) (numberAt case 7))
+    (fieldOf 8 case) (numberAt case 9)
+
+abbrev pub ScriptCase : List ℕ → List ℕ → List ℕ → Call
+ScriptCase case starts ends =
+    TransformTold (noteAt case starts ends) (wholeTranscript (fieldOf 0 case)) (fieldOf 5 case) (numberAt case 6)
+
+abbrev pub MapCase : List ℕ → List ℕ → List ℕ → Call
+MapCase case starts ends = MapTold (noteAt case starts ends) (numbersOf (fieldOf 5 case))
+
+-- a call by its number: filter, append, and prepend for any other
+pub record WholeCase (call : ℕ) (case starts ends out₀ starts₀ ends₀ : List ℕ) (r : Count)
+    (out s e : List ℕ) : Type 0 where
+  pub met :
+      pickCall (eqb call 22) (FilterTold (noteAt case starts ends) (fieldOf 5 case))
+      (pickCall (eqb call 23) (AppendTold (noteAt case starts ends) (fieldOf 5 case))
+      (PrependTold (noteAt case starts ends) (fieldOf 5 case)))
+      out₀ starts₀ ends₀ r out s e
+
+-- and replace, redact, transform_range, transform, map
+pub record Answered (call : ℕ) (case starts ends out₀ starts₀ ends₀ : List ℕ) (r : Count)
+    (out s e : List ℕ) : Type 0 where
+  pub met :
+      pickCall (eqb call 10) (ReplaceCase case starts ends)
+      (pickCall (eqb call 14) (RedactCase case)
+      (pickCall (eqb call 19) (RangeCase case starts ends)
+      (pickCall (eqb call 20) (ScriptCase case starts ends)
+      (pickCall (eqb call 21) (MapCase case starts ends) (WholeCase call case starts ends)))))
+      out₀ starts₀ ends₀ r out s e
+
+abbrev pub pickType : Bool → Type 0 → Type 0 → Type 0
+pickType true a b = a
+pickType false a b = b
+
+-- the replay of a call by its number, or of clear, whose answer has two lengths; the lent buffers stand in the fields
+-- from `at` on, and what is stored of the answer behind them
+pub record Published (call : ℕ) (case : List ℕ) (at : ℕ) (starts ends out₀ starts₀ ends₀ : List ℕ)
+    (r : Bool) : Type 0 where
+  pub met :
+      pickType (eqb call 25)
+      (Replayed (ClearTold (noteAt case starts ends) out₀ starts₀ ends₀) (clearStored case 8) r)
+      (Replayed (Answered call case starts ends out₀ starts₀ ends₀) (editStored case (at + 3)) r)

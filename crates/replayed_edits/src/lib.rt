@@ -1,5 +1,6 @@
-// Stored answers of the seven edits, replayed on buffers that are filled already: a part of `replay` of its own, by
-// what it takes to prove.
-pub mod scripts;
-pub mod told;
-pub mod whole;
+// Stored answers of the calls that publish a note, replayed: a part of `replay` of its own, by what it takes to prove.
+mod matches;
+pub mod publishing;
+mod scripts;
+mod told;
+mod whole;

@@ -1,19 +1,13 @@
 // Edits by a script; the note's columns are read already, and the lent buffers filled.
-use crate::told::is_published;
 use buffers::Offset;
 use stored_answers::fields::field;
 use stored_answers::fields::value;
+use zulmyren::answers::Count;
 use zulmyren::editing::zulmyren_transform;
 use zulmyren::editing::zulmyren_transform_range;
-ghost use Rattle.convert.specs.Converting.{rangeOf};
-ghost use Rattle.stored_answers.specs.Framing.{fieldOf};
-ghost use Rattle.stored_answers.specs.Lending.{flagAt, noteAt, numberAt};
-ghost use Rattle.transform.specs.Transforming.{wholeTranscript};
-ghost use Rattle.zulmyren.specs.Calls.{sideOf};
-ghost use Rattle.zulmyren.specs.Edits.{TransformTold};
-ghost use Rattle.replayed_edits.specs.Replaying.{Replayed, editStored};
+ghost use Rattle.replayed_edits.specs.Replaying.{RangeCase, ScriptCase};
 
-// A note, a range, a script, an initial offset, the three lent buffers; the refusal, the size, the buffers.
+// A note, a range, a script, an initial offset.
 pub fn transform_range(
     case: &[u8],
     starts: &[Offset],
@@ -21,16 +15,12 @@ pub fn transform_range(
     out: &mut [u8],
     out_starts: &mut [Offset],
     out_ends: &mut [Offset],
-) -> bool
-    ensures { λ r. ⌜ Replayed
-        (TransformTold (noteAt (now (case .entry)) (now (starts .entry)) (now (ends .entry)))
-        (rangeOf (sideOf (flagAt (now (case .entry)) 5))
-        (numberAt (now (case .entry)) 6) (numberAt (now (case .entry)) 7))
-        (fieldOf 8 (now (case .entry))) (numberAt (now (case .entry)) 9)
-        (now (out .entry)) (now («out_starts» .entry)) (now («out_ends» .entry)))
-        (editStored (now (case .entry)) 13) r ⌝ }
+) -> Count
+    ensures { λ r. ⌜ RangeCase (now (case .entry)) (now (starts .entry)) (now (ends .entry))
+        (now (out .entry)) (now («out_starts» .entry)) (now («out_ends» .entry))
+        r (now (out .exit)) (now («out_starts» .exit)) (now («out_ends» .exit)) ⌝ }
 {
-    let answer = zulmyren_transform_range(
+    zulmyren_transform_range(
         field(case, 0),
         field(case, 1),
         starts,
@@ -44,11 +34,10 @@ pub fn transform_range(
         out,
         out_starts,
         out_ends,
-    );
-    is_published(case, 13, answer, out, out_starts, out_ends)
+    )
 }
 
-// A note, a script, an initial offset, the three lent buffers; the refusal, the size, the buffers.
+// A note, a script, an initial offset.
 pub fn transform(
     case: &[u8],
     starts: &[Offset],
@@ -56,15 +45,12 @@ pub fn transform(
     out: &mut [u8],
     out_starts: &mut [Offset],
     out_ends: &mut [Offset],
-) -> bool
-    ensures { λ r. ⌜ Replayed
-        (TransformTold (noteAt (now (case .entry)) (now (starts .entry)) (now (ends .entry)))
-        (wholeTranscript (fieldOf 0 (now (case .entry))))
-        (fieldOf 5 (now (case .entry))) (numberAt (now (case .entry)) 6)
-        (now (out .entry)) (now («out_starts» .entry)) (now («out_ends» .entry)))
-        (editStored (now (case .entry)) 10) r ⌝ }
+) -> Count
+    ensures { λ r. ⌜ ScriptCase (now (case .entry)) (now (starts .entry)) (now (ends .entry))
+        (now (out .entry)) (now («out_starts» .entry)) (now («out_ends» .entry))
+        r (now (out .exit)) (now («out_starts» .exit)) (now («out_ends» .exit)) ⌝ }
 {
-    let answer = zulmyren_transform(
+    zulmyren_transform(
         field(case, 0),
         field(case, 1),
         starts,
@@ -75,6 +61,5 @@ pub fn transform(
         out,
         out_starts,
         out_ends,
-    );
-    is_published(case, 10, answer, out, out_starts, out_ends)
+    )
 }

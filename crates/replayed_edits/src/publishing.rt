@@ -1,0 +1,89 @@
+// The calls that publish a note, by their numbers. The lent text, starts and ends stand in the fields from `at` on,
+// then the refusal, the size, the three buffers.
+use crate::matches::redact;
+use crate::matches::replace;
+use crate::scripts::transform;
+use crate::scripts::transform_range;
+use crate::told::is_published;
+use crate::whole::clear;
+use crate::whole::edit;
+use crate::whole::map;
+use buffers::Offset;
+use stored_answers::columns::bytes;
+use stored_answers::columns::offsets;
+use stored_answers::columns::zeros;
+use zulmyren::answers::Count;
+ghost use Prim.Native.Nat.{_+_, _<_};
+ghost use lib.ListN.{take};
+ghost use Rattle.note.specs.Notes.{limit};
+ghost use Rattle.stored_answers.specs.Differences.{offsetsOf};
+ghost use Rattle.stored_answers.specs.Framing.{fieldOf};
+ghost use Rattle.replayed_edits.specs.Replaying.{Answered, Published};
+
+fn answered(
+    call: u8,
+    case: &[u8],
+    starts: &[Offset],
+    ends: &[Offset],
+    out: &mut [u8],
+    out_starts: &mut [Offset],
+    out_ends: &mut [Offset],
+) -> Count
+    ensures { λ r. ⌜ Answered call (now (case .entry)) (now (starts .entry)) (now (ends .entry))
+        (now (out .entry)) (now («out_starts» .entry)) (now («out_ends» .entry))
+        r (now (out .exit)) (now («out_starts» .exit)) (now («out_ends» .exit)) ⌝ }
+{
+    match call {
+        10 => replace(case, starts, ends, out, out_starts, out_ends),
+        14 => redact(case, out, out_starts, out_ends),
+        19 => transform_range(case, starts, ends, out, out_starts, out_ends),
+        20 => transform(case, starts, ends, out, out_starts, out_ends),
+        21 => map(case, starts, ends, out, out_starts, out_ends),
+        _ => edit(call, case, starts, ends, out, out_starts, out_ends),
+    }
+}
+
+fn published(
+    call: u8,
+    case: &[u8],
+    at: usize,
+    starts: &[Offset],
+    ends: &[Offset],
+    out: &mut [u8],
+    out_starts: &mut [Offset],
+    out_ends: &mut [Offset],
+) -> bool
+    requires { ⌜ at < 80 ⌝ }
+    ensures { λ r. ⌜ Published call (now (case .entry)) at (now (starts .entry)) (now (ends .entry))
+        (now (out .entry)) (now («out_starts» .entry)) (now («out_ends» .entry)) r ⌝ }
+{
+    if call == 25 {
+        return clear(case, starts, ends, out, out_starts, out_ends);
+    }
+    let answer = answered(call, case, starts, ends, out, out_starts, out_ends);
+    is_published(case, at + 3, answer, out, out_starts, out_ends)
+}
+
+pub fn on_publishing(call: u8, case: &[u8], at: usize, starts: &[Offset], ends: &[Offset]) -> bool
+    requires { ⌜ at < 80 ⌝ }
+    ensures { λ r. ⌜ Published call (now (case .entry)) at (now (starts .entry)) (now (ends .entry))
+        (take (limit + 1) (fieldOf at (now (case .entry)))) (offsetsOf limit (fieldOf (at + 1) (now (case .entry))))
+        (offsetsOf limit (fieldOf (at + 2) (now (case .entry)))) r ⌝ }
+{
+    let mut out = io::large_buffer();
+    let mut out_starts = zeros();
+    let mut out_ends = zeros();
+    let o = bytes(case, at, &mut out);
+    let s = offsets(case, at + 1, &mut out_starts);
+    let e = offsets(case, at + 2, &mut out_ends);
+    published(
+        call,
+        case,
+        at,
+        starts,
+        ends,
+        &mut out[..o],
+        &mut out_starts[..s],
+        &mut out_ends[..e],
+    )
+}
