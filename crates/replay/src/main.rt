@@ -3,7 +3,6 @@
 // call has a file, a name in the file `calls` and an arm here.
 mod matches;
 mod notes;
-mod pairs;
 mod ranges;
 mod texts;
 

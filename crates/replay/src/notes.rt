@@ -1,9 +1,9 @@
 // The starting note, and the calls on a note, whose first fields are transcript, cleaned text, starts, ends, shift.
 use crate::matches::published_alike;
-use crate::pairs::on_pairs;
 use crate::ranges::on_range;
 use buffers::Offset;
 use replayed_edits::publishing::on_publishing;
+use replayed_pieces::pairs::on_pairs;
 use replayed_pieces::pieces::get_splits;
 use replayed_pieces::pieces::split;
 use replayed_pieces::slices::slice;

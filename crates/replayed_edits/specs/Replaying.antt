@@ -2,7 +2,7 @@
 -- and the result says whether these are what the case stores. The contract leaves no choice of them.
 use Prim.Native.Nat.{ℕ, _+_}
 use mathlib.Core.Path.{_≡_}
-use mathlib.Core.Bool.{Bool, true, false, _&&_}
+use mathlib.Core.Bool.{Bool, cond, _&&_}
 use mathlib.Core.List.{List}
 use lib.Dec.{eqb}
 use Rattle.buffers.specs.Same.{same}
@@ -52,10 +52,6 @@ pub record Replayed {A : Type 0} (call : A → List ℕ → List ℕ → List �
 abbrev pub Call : Type 1
 Call = List ℕ → List ℕ → List ℕ → Count → List ℕ → List ℕ → List ℕ → Type 0
 
-abbrev pub pickCall : Bool → Call → Call → Call
-pickCall true a b = a
-pickCall false a b = b
-
 -- the calls with what a case and the note's columns lend
 abbrev pub ReplaceCase : List ℕ → List ℕ → List ℕ → Call
 ReplaceCase case starts ends out₀ starts₀ ends₀ r out s e =
@@ -86,8 +82,8 @@ MapCase case starts ends = MapTold (noteAt case starts ends) (numbersOf (fieldOf
 pub record WholeCase (call : ℕ) (case starts ends out₀ starts₀ ends₀ : List ℕ) (r : Count)
     (out s e : List ℕ) : Type 0 where
   pub met :
-      pickCall (eqb call 22) (FilterTold (noteAt case starts ends) (fieldOf 5 case))
-      (pickCall (eqb call 23) (AppendTold (noteAt case starts ends) (fieldOf 5 case))
+      cond (eqb call 22) (FilterTold (noteAt case starts ends) (fieldOf 5 case))
+      (cond (eqb call 23) (AppendTold (noteAt case starts ends) (fieldOf 5 case))
       (PrependTold (noteAt case starts ends) (fieldOf 5 case)))
       out₀ starts₀ ends₀ r out s e
 
@@ -95,22 +91,18 @@ pub record WholeCase (call : ℕ) (case starts ends out₀ starts₀ ends₀ : L
 pub record Answered (call : ℕ) (case starts ends out₀ starts₀ ends₀ : List ℕ) (r : Count)
     (out s e : List ℕ) : Type 0 where
   pub met :
-      pickCall (eqb call 10) (ReplaceCase case starts ends)
-      (pickCall (eqb call 14) (RedactCase case)
-      (pickCall (eqb call 19) (RangeCase case starts ends)
-      (pickCall (eqb call 20) (ScriptCase case starts ends)
-      (pickCall (eqb call 21) (MapCase case starts ends) (WholeCase call case starts ends)))))
+      cond (eqb call 10) (ReplaceCase case starts ends)
+      (cond (eqb call 14) (RedactCase case)
+      (cond (eqb call 19) (RangeCase case starts ends)
+      (cond (eqb call 20) (ScriptCase case starts ends)
+      (cond (eqb call 21) (MapCase case starts ends) (WholeCase call case starts ends)))))
       out₀ starts₀ ends₀ r out s e
-
-abbrev pub pickType : Bool → Type 0 → Type 0 → Type 0
-pickType true a b = a
-pickType false a b = b
 
 -- the replay of a call by its number, or of clear, whose answer has two lengths; the lent buffers stand in the fields
 -- from `at` on, and what is stored of the answer behind them
 pub record Published (call : ℕ) (case : List ℕ) (at : ℕ) (starts ends out₀ starts₀ ends₀ : List ℕ)
     (r : Bool) : Type 0 where
   pub met :
-      pickType (eqb call 25)
+      cond (eqb call 25)
       (Replayed (ClearTold (noteAt case starts ends) out₀ starts₀ ends₀) (clearStored case 8) r)
       (Replayed (Answered call case starts ends out₀ starts₀ ends₀) (editStored case (at + 3)) r)

@@ -4,11 +4,15 @@ use mathlib.Core.Path.{_≡_, _∙_, ap}
 use mathlib.Core.Bool.{Bool, _&&_}
 use mathlib.Core.List.{List}
 use lib.Dec.{eqb}
+use borrow.Author.Tests.{ne-eqb}
 use lib.ListN.{take}
 use Rattle.buffers.specs.Same.{same}
 use Rattle.buffers.specs.Splice.{Laid}
 use Rattle.note.specs.Notes.{lent, limit}
+use Rattle.note.specs.Refusals.{answerOf}
+use Rattle.char_offsets.specs.Positions.{CharOffsetsList}
 use Rattle.convert.specs.Converting.{rangeOf}
+use Rattle.convert_list.specs.ConvertList.{ConvertedList}
 use Rattle.slice.specs.Slicing.{Slicing}
 use Rattle.split.specs.Splitting.{Columns, Splitting, columns}
 use Rattle.splits.specs.SplitOffsets.{GetSplits}
@@ -22,8 +26,8 @@ use Rattle.zulmyren.specs.declared.answers.Cut.{Cut}
 use Rattle.zulmyren.specs.declared.answers.Listed.{Listed}
 use Rattle.zulmyren.specs.declared.answers.Slice.{Slice}
 use Rattle.zulmyren.specs.Calls.{Told, sliceNumbers, cutNumbers, splitsNumbers, sideOf, behaviorOf, emptyOf, unitOf}
-use Rattle.replayed_pieces.specs.Stored.{sliceStored, piecesStored, splitsStored}
-use Rattle.replayed_pieces.specs.Replaying.{SliceReplayed, SplitReplayed, SplitsReplayed}
+use Rattle.replayed_pieces.specs.Stored.{pairsStored, sliceStored, piecesStored, splitsStored}
+use Rattle.replayed_pieces.specs.Replaying.{PairsReplayed, PairsTold, SliceReplayed, SplitReplayed, SplitsReplayed}
 
 -- what was read of the note
 module _ {case starts ends original normalized : List ℕ} {shift : ℕ} (o : original ≡ fieldOf 0 case) (n : normalized ≡ fieldOf 1 case) (k : shift ≡ numberAt case 4) where
@@ -57,7 +61,25 @@ module _ {case starts ends original normalized : List ℕ} {shift : ℕ} (o : or
           says = t;
         }
 
+-- a call on a list of pairs
+module _ {call : ℕ} {case starts ends from to n₀ s₀ e₀ : List ℕ} {a : ℕ} {n s e : List ℕ} where
+  pub chars-told : {text : List ℕ} → call ≡ 3 → text ≡ fieldOf 0 case → Told answerOf (λ v. CharOffsetsList limit text from to n₀ s₀ e₀ v n s e) a → PairsTold call case starts ends from to n₀ s₀ e₀ a n s e
+  chars-told is t call = record { met = rw is (coe 0 1 (i. Told answerOf (λ v. CharOffsetsList limit (t i) from to n₀ s₀ e₀ v n s e) a) call) }
+
+  pub ranges-told : {original normalized : List ℕ} {shift side : ℕ} → (call ≡ 3 → ⊥) → original ≡ fieldOf 0 case → normalized ≡ fieldOf 1 case → shift ≡ numberAt case 4 → side ≡ numberAt case 5 → Told answerOf (λ v. ConvertedList limit (lent original normalized starts ends shift) (sideOf (eqb side 1)) from to n₀ s₀ e₀ v n s e) a → PairsTold call case starts ends from to n₀ s₀ e₀ a n s e
+  ranges-told not o t k f met = record { met = rw (ne-eqb call 3 not) (coe 0 1 (i. Told answerOf (λ v. ConvertedList limit (lent (o i) (t i) starts ends (k i)) (sideOf (eqb (f i) 1)) from to n₀ s₀ e₀ v n s e) a) met) }
+
+  pub pairs-replayed : {index : ℕ} {r : Bool} → PairsTold call case starts ends from to n₀ s₀ e₀ a n s e → r ≡ pairsStored case index a n s e → PairsReplayed call case index starts ends from to n₀ s₀ e₀ r
+  pairs-replayed met told = record { answer = a; numbers = n; out-starts = s; out-ends = e; met = met; says = told }
+
 -- lent buffers by what they hold
+module _ {call : ℕ} {case : List ℕ} {index : ℕ} {starts ends : List ℕ} {r : Bool} where
+  pub answers-lent : {from to n₀ s₀ e₀ n s e : List ℕ} → n₀ ≡ n → s₀ ≡ s → e₀ ≡ e → PairsReplayed call case index starts ends from to n₀ s₀ e₀ r → PairsReplayed call case index starts ends from to n s e r
+  answers-lent {from} {to} o p q w = coe 0 1 (i. PairsReplayed call case index starts ends from to (o i) (p i) (q i) r) w
+
+  pub pairs-lent : {from₀ to₀ from to n s e : List ℕ} → from₀ ≡ from → to₀ ≡ to → PairsReplayed call case index starts ends from₀ to₀ n s e r → PairsReplayed call case index starts ends from to n s e r
+  pairs-lent {n = n} {s = s} {e = e} p q w = coe 0 1 (i. PairsReplayed call case index starts ends (p i) (q i) n s e r) w
+
 pub slice-lent : {case starts ends s₀ e₀ s e : List ℕ} {r : Bool} → s₀ ≡ s → e₀ ≡ e → SliceReplayed case starts ends s₀ e₀ r → SliceReplayed case starts ends s e r
 slice-lent {case} {starts} {ends} {r = r} p q w = coe 0 1 (i. SliceReplayed case starts ends (p i) (q i) r) w
 

@@ -2,11 +2,15 @@
 -- whether these are what the case stores. The contract leaves no choice of them.
 use Prim.Native.Nat.{ℕ}
 use mathlib.Core.Path.{_≡_}
-use mathlib.Core.Bool.{Bool, _&&_}
+use mathlib.Core.Bool.{Bool, cond, _&&_}
 use mathlib.Core.List.{List}
+use lib.Dec.{eqb}
 use Rattle.buffers.specs.Same.{same}
 use Rattle.note.specs.Notes.{limit}
+use Rattle.note.specs.Refusals.{answerOf}
+use Rattle.char_offsets.specs.Positions.{CharOffsetsList}
 use Rattle.convert.specs.Converting.{rangeOf}
+use Rattle.convert_list.specs.ConvertList.{ConvertedList}
 use Rattle.slice.specs.Slicing.{Slicing}
 use Rattle.split.specs.Splitting.{Columns, Splitting}
 use Rattle.splits.specs.SplitOffsets.{GetSplits}
@@ -17,7 +21,7 @@ use Rattle.zulmyren.specs.declared.answers.Cut.{Cut}
 use Rattle.zulmyren.specs.declared.answers.Listed.{Listed}
 use Rattle.zulmyren.specs.declared.answers.Slice.{Slice}
 use Rattle.zulmyren.specs.Calls.{Told, sliceNumbers, cutNumbers, splitsNumbers, sideOf, behaviorOf, emptyOf, unitOf}
-use Rattle.replayed_pieces.specs.Stored.{sliceStored, piecesStored, splitsStored}
+use Rattle.replayed_pieces.specs.Stored.{pairsStored, sliceStored, piecesStored, splitsStored}
 
 -- slicing; the note's columns, and those lent for the slice
 pub record SliceReplayed (case starts ends lentStarts lentEnds : List ℕ) (r : Bool) : Type 0 where
@@ -60,3 +64,26 @@ pub record SplitsReplayed (case starts ends lentStarts lentEnds : List ℕ) (r :
       lentStarts lentEnds v out-starts out-ends)
       answer
   pub says : r ≡ splitsStored case 11 answer out-starts out-ends
+
+-- a call on a list of pairs by its number: char_offsets_all, and convert_all for any other; the three lent buffers
+-- before, the refusal, and the three after
+pub record PairsTold (call : ℕ) (case starts ends from to numbers₀ starts₀ ends₀ : List ℕ) (r : ℕ)
+    (numbers s e : List ℕ) : Type 0 where
+  pub met :
+      cond (eqb call 3)
+      (Told answerOf
+      (λ v. CharOffsetsList limit (fieldOf 0 case) from to numbers₀ starts₀ ends₀ v numbers s e)
+      r)
+      (Told answerOf
+      (λ v. ConvertedList limit (noteAt case starts ends) (sideOf (flagAt case 5)) from to
+      numbers₀ starts₀ ends₀ v numbers s e)
+      r)
+
+pub record PairsReplayed (call : ℕ) (case : List ℕ) (index : ℕ) (starts ends from to : List ℕ)
+    (numbers₀ starts₀ ends₀ : List ℕ) (r : Bool) : Type 0 where
+  pub answer : ℕ
+  pub numbers : List ℕ
+  pub out-starts : List ℕ
+  pub out-ends : List ℕ
+  pub met : PairsTold call case starts ends from to numbers₀ starts₀ ends₀ answer numbers out-starts out-ends
+  pub says : r ≡ pairsStored case index answer numbers out-starts out-ends

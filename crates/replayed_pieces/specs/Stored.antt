@@ -1,4 +1,4 @@
--- Whether a case stores what a call that cuts a note told, in its fields from `index` on.
+-- Whether a case stores what a call that cuts a note, or one on a list of pairs, told, in its fields from `index` on.
 use Prim.Native.Nat.{ℕ, _+_}
 use mathlib.Core.Bool.{Bool, _&&_}
 use mathlib.Core.List.{List}
@@ -10,6 +10,14 @@ use Rattle.stored_answers.specs.Differences.{offsetsOf, numbersOf}
 use Rattle.zulmyren.specs.declared.answers.Cut.{Cut}
 use Rattle.zulmyren.specs.declared.answers.Listed.{Listed}
 use Rattle.zulmyren.specs.declared.answers.Slice.{Slice}
+
+-- the refusal, and a number, start and end for each pair of a list
+abbrev pub pairsStored : List ℕ → ℕ → ℕ → List ℕ → List ℕ → List ℕ → Bool
+pairsStored case index refusal numbers starts ends =
+    ((isNumber (fieldOf index case) refusal
+    && same (fieldOf (index + 1) case) numbers)
+    && same starts (numbersOf (fieldOf (index + 2) case)))
+    && same ends (numbersOf (fieldOf (index + 3) case))
 
 -- the refusal, the two ranges of a slice, its shift
 abbrev pub sliceStored : List ℕ → ℕ → Slice → Bool

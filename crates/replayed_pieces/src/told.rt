@@ -11,12 +11,12 @@ use zulmyren::answers::Offsets;
 use zulmyren::answers::Slice;
 ghost use mathlib.Core.Path.{_≡_};
 ghost use Prim.Native.Nat.{_<_, _+_};
-ghost use Rattle.replayed_pieces.specs.Stored.{piecesStored, sliceStored, splitsStored};
+ghost use Rattle.replayed_pieces.specs.Stored.{pairsStored, piecesStored, sliceStored, splitsStored};
 ghost use mathlib.Core.Bool.{_&&_};
 ghost use Rattle.buffers.specs.Same.{same};
 ghost use Rattle.note.specs.Notes.{limit};
 ghost use Rattle.stored_answers.specs.Framing.{fieldOf, isNumber};
-ghost use Rattle.stored_answers.specs.Differences.{offsetsOf, numbersOf};
+ghost use Rattle.stored_answers.specs.Differences.{offsetsOf};
 
 // The refusal, start, end.
 pub fn is_range(case: &[u8], index: usize, answer: Offsets) -> bool
@@ -70,10 +70,8 @@ pub fn are_pairs(
     ends: &[u32],
 ) -> bool
     requires { ⌜ index < 100 ⌝ }
-    ensures { λ r. ⌜ r ≡ ((isNumber (fieldOf index (now (case .entry))) refusal
-        && same (fieldOf (index + 1) (now (case .entry))) (now (numbers .entry)))
-        && same (now (starts .entry)) (numbersOf (fieldOf (index + 2) (now (case .entry)))))
-        && same (now (ends .entry)) (numbersOf (fieldOf (index + 3) (now (case .entry)))) ⌝ }
+    ensures { λ r. ⌜ r ≡ pairsStored (now (case .entry)) index refusal
+        (now (numbers .entry)) (now (starts .entry)) (now (ends .entry)) ⌝ }
 {
     is_number(case, index, refusal)
         & is_text(case, index + 1, numbers)
