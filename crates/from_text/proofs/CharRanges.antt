@@ -1,14 +1,15 @@
 -- How the range of a byte's character is carried from byte to byte: its start forwards, its end backwards.
 use Prim.Native.Nat.{ℕ, zero, suc, _+_, _-_, _≤_, _<_}
-use mathlib.Core.Path.{_≡_, _∙_, refl, sym}
+use mathlib.Core.Path.{_≡_, _∙_, ap, refl, sym}
 use mathlib.Core.Bool.{true, false}
 use mathlib.Core.List.{List}
 use native.Mathlib.Omega.{arith}
 use lib.ListN.{length, getD, set}
+use Rattle.buffers.specs.Splice.{overlay}
 use Rattle.buffers.specs.Columns.{Filled}
-use Rattle.buffers.proofs.Columns.{none-filled, filled-up, filled-down}
+use Rattle.buffers.proofs.Columns.{none-filled, filled-up, filled-down, filled-as, filled-after, filled-before, all-filled}
 use Rattle.utf8.specs.Formed.{wellFormed, continues}
-use Rattle.note.specs.Starting.{charStart, charEnd}
+use Rattle.note.specs.Starting.{charStart, charEnd, starting}
 use Rattle.note.proofs.Starting.{Ranged, ranged, charStart-continues, charEnd-continues, charEnd-begins}
 
 -- the starts of the first i bytes stand in d, and `start` is the last of them
@@ -106,3 +107,19 @@ module _ {s d₀ d : List ℕ} {end i : ℕ} (w : EndsFrom s d₀ d end i) (some
 
   pub end-goes-on : continues (getD s (i - 1) 0) ≡ true → EndsFrom s d₀ (set d (i - 1) end) end (i - 1)
   end-goes-on more = one-end end (λ again. w .carried some ∙ end-carried s (i - 1) more again)
+
+-- a block that stands where its bytes do
+pub block-here : (f : ℕ → ℕ) (d₀ : List ℕ) (i n : ℕ) (d : List ℕ) → Filled (λ k. f (i + (k - i))) d₀ i n d → Filled f d₀ i n d
+block-here f d₀ i n d w =
+    filled-as _ f d₀ i n d w (λ k from to. let here : i + (k - i) ≡ k = omega arith in ap f here)
+
+-- the blocks from the text's end down to i, and the starts before i; the blocks up to i, and the ends from there on
+pub all-starts : (s d₀ d d₁ : List ℕ) (i : ℕ) → length s ≤ length d₀ → Filled (charStart s) d₀ i (length s) d → Filled (charStart s) d 0 i d₁ → d₁ ≡ overlay (starting s .starts) d₀
+unfolding starting
+all-starts s d₀ d d₁ i room w rest =
+    all-filled (charStart s) d₀ (length s) d₁ (filled-before (charStart s) d₀ 0 i (length s) d d₁ w rest) room
+
+pub all-ends : (s d₀ d d₁ : List ℕ) (i : ℕ) → length s ≤ length d₀ → Filled (charEnd s) d₀ 0 i d → Filled (charEnd s) d i (length s) d₁ → d₁ ≡ overlay (starting s .ends) d₀
+unfolding starting
+all-ends s d₀ d d₁ i room w rest =
+    all-filled (charEnd s) d₀ (length s) d₁ (filled-after (charEnd s) d₀ 0 i (length s) d d₁ w rest) room

@@ -1,4 +1,3 @@
 -- Laws of the starting note's columns as they are written.
 pub mod CharRanges
-pub mod ContinuationRun
 pub mod Started

@@ -11,7 +11,7 @@ use lib.Seq.{take-length}
 use Rattle.buffers.specs.Splice.{part, splice, overlay}
 use Rattle.buffers.proofs.Cases.{le-or-lt}
 use Rattle.buffers.proofs.Splice.{length-splice, splice-overlay}
-use Rattle.validity.specs.Texts.{ascii}
+use Rattle.validity_blocks.specs.Extremes.{largest}
 use Rattle.note.specs.Notes.{limit}
 use Rattle.note.specs.Starting.{starting}
 use Rattle.find.specs.Matching.{FirstMatch, matchesFrom, foundPlaces}
@@ -129,11 +129,11 @@ module _ {text literal content : List ℕ} {first : ℕ} {out starts ends : List
   pub literal-short : length literal ≤ limit
   literal-short = omega (arith, first-there from-start .most, match-inside from-start (le-or-lt (length text) first (λ h. absurd (met (omega (arith, first-there from-start .most)))) (λ h. h)), f .short)
 
-  module _ {plain : Bool} {share margin until : ℕ} (known : plain ≡ ascii text) (w : Margin (length text) (length literal) (length content) share) (wide : (length literal + 80 ≤ margin) × (share ≤ 1024 → share ≤ margin)) (below : 1024 < share → until ≤ sizes (length content) (foundPlaces text literal)) where
-    bounded : (filler : List ℕ) → part filler 0 (length content) ≡ content → length content ≤ length filler → Bounded text plain literal content filler 0 0 margin until
+  module _ {most : ℕ} {share margin until : ℕ} (known : most ≡ largest text) (w : Margin (length text) (length literal) (length content) share) (wide : (length literal + 80 ≤ margin) × (share ≤ 1024 → share ≤ margin)) (below : 1024 < share → until ≤ sizes (length content) (foundPlaces text literal)) where
+    bounded : (filler : List ℕ) → part filler 0 (length content) ≡ content → length content ≤ length filler → Bounded text most literal content filler 0 0 margin until
     bounded filler front long =
         record {
-          plain-is = λ e. sym known ∙ e;
+          most-is = known;
           filler-is = front;
           filler-long = long;
           window = wide .0;
@@ -142,10 +142,10 @@ module _ {text literal content : List ℕ} {first : ℕ} {out starts ends : List
               (λ late. omega (arith, below late, found-sizes));
         }
 
-    pub bounded-alone : Bounded text plain literal content content 0 0 margin until
+    pub bounded-alone : Bounded text most literal content content 0 0 margin until
     bounded-alone = bounded content (content-alone content) (omega arith)
 
-    pub bounded-padded : (zeros : List ℕ) {padded : List ℕ} → length content ≤ length zeros → padded ≡ splice zeros 0 content → Bounded text plain literal content padded 0 0 margin until
+    pub bounded-padded : (zeros : List ℕ) {padded : List ℕ} → length content ≤ length zeros → padded ≡ splice zeros 0 content → Bounded text most literal content padded 0 0 margin until
     bounded-padded zeros {padded} room is = bounded padded (content-padded content zeros is) (omega (arith, ap length is ∙ length-splice zeros 0 content (omega arith)))
 
   pub all-found : {r : ℕ} {out₁ starts₁ ends₁ : List ℕ} → AllLaid text literal content out starts ends r out₁ starts₁ ends₁ → FoundLaid text literal content out starts ends r out₁ starts₁ ends₁

@@ -18,7 +18,7 @@ use note::Verdict;
 use note::answers::earlier;
 use redact_blocks::blank;
 use replace::Publication;
-use validity::is_ascii;
+use validity_blocks::extremes::largest;
 ghost use mathlib.Core.Path.{_≡_};
 ghost use Prim.Native.Nat.{_+_, _≤_, _<_, min};
 ghost use lib.Dec.{leb};
@@ -155,14 +155,14 @@ fn blank_found(
         lay_whole(text, out, out_starts, out_ends);
         return first;
     }
-    let plain = is_ascii(text);
+    let most = largest(text);
     let share = share_of(text.len(), literal.len(), content.len());
     let margin = margin_of(share, literal.len());
     let until = bound_of(text, literal, first, content.len(), share);
     if 16 < content.len() {
         return blank(
             text,
-            plain,
+            most,
             literal,
             content,
             content,
@@ -177,7 +177,7 @@ fn blank_found(
     copy_bytes(content, &mut padded, 0);
     blank(
         text,
-        plain,
+        most,
         literal,
         content,
         &padded,

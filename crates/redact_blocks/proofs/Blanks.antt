@@ -198,14 +198,14 @@ module _ {text literal content : List ℕ} {i at : ℕ} {out starts ends : List 
         rw (sym to) at on
 
   -- a block is within the result
-  module _ {plain : Bool} {filler : List ℕ} {margin until : ℕ} (m : Bounded text plain literal content filler i at margin until) (left : margin ≤ length text - i₁) (below : at₁ + 80 ≤ until) where
+  module _ {most : ℕ} {filler : List ℕ} {margin until : ℕ} (m : Bounded text most literal content filler i at margin until) (left : margin ≤ length text - i₁) (below : at₁ + 80 ≤ until) where
     pub block-within : at₁ + 80 ≤ at + sizes (length content) (matchesFrom text literal i)
     block-within = m .enough i₁ at₁ (b .inside) left below blanked-size
 
-    pub block-room : (3 ≤ length text → 3 ≤ i) → {first last : ℕ} → first ≡ getD literal 0 0 → last ≡ getD literal (length literal - 1) 0 → BlockRoom text plain literal first last i₁ out₁ starts₁ ends₁ at₁
+    pub block-room : (3 ≤ length text → 3 ≤ i) → {first last : ℕ} → first ≡ getD literal 0 0 → last ≡ getD literal (length literal - 1) 0 → BlockRoom text most literal first last i₁ out₁ starts₁ ends₁ at₁
     block-room low f l =
         record {
-          plain-is = m .plain-is;
+          most-is = m .most-is;
           some = r .some;
           first-is = f;
           last-is = l;
@@ -259,10 +259,10 @@ module _ {text literal content : List ℕ} {i at : ℕ} {out starts ends : List 
         ends-room = omega (arith, blanked-size r b, r .ends-room, b .ends-on .same);
       }
 
-  pub bounded-on : {plain : Bool} {filler : List ℕ} {margin until : ℕ} → Bounded text plain literal content filler i at margin until → Bounded text plain literal content filler i₁ at₁ margin until
+  pub bounded-on : {most : ℕ} {filler : List ℕ} {margin until : ℕ} → Bounded text most literal content filler i at margin until → Bounded text most literal content filler i₁ at₁ margin until
   bounded-on m =
       record {
-        plain-is = m .plain-is;
+        most-is = m .most-is;
         filler-is = m .filler-is;
         filler-long = m .filler-long;
         window = m .window;

@@ -16,10 +16,10 @@ use Rattle.buffers.proofs.Over.{over-exact, over-front}
 use borrow.Author.Tests.{lt-leb}
 use Rattle.utf8.specs.Table.{within}
 use Rattle.utf8.specs.Formed.{wellFormed, continues}
-use Rattle.validity.specs.Texts.{ascii}
-use Rattle.validity.proofs.Ascii.{ascii-at}
-use Rattle.from_text.specs.ContinuationRun.{continuationRun}
-use Rattle.from_text.proofs.ContinuationRun.{end-ahead}
+use Rattle.validity_blocks.specs.Extremes.{largest}
+use Rattle.validity_blocks.proofs.Largest.{largest-at}
+use Rattle.column_blocks.specs.ContinuationRun.{continuationRun}
+use Rattle.column_blocks.proofs.ContinuationRun.{end-ahead}
 use Rattle.note.specs.Notes.{limit}
 use Rattle.note.proofs.Starting.{Ranged, ranged, charStart-begins}
 use Rattle.note.specs.Starting.{charStart, charEnd, starting}
@@ -96,14 +96,11 @@ module _ {text : List ℕ} {i : ℕ} {out starts ends : List ℕ} {at : ℕ} whe
         ends-over = filled-over (length text) (charEnd text) i 64 ends at 0 e (r .inside) (omega (arith, r .ends-room));
       }
 
--- of a text known to be ASCII the numbers count up
-module _ (s : List ℕ) (e : ascii s ≡ true) where
+-- of a text of bytes below 80 the numbers count up
+module _ (s : List ℕ) (e : largest s < 0x80) where
   no-continues : (k : ℕ) → continues (getD s k 0) ≡ false
   unfolding continues within
-  no-continues k =
-      le-or-lt (length s) k
-      (λ past. let none : getD s k 0 ≡ 0 = List·getD-eq-default s 0 past in rw none)
-      (λ below. rw (lt-leb 0x80 (getD s k 0) (ascii-at s e k below)))
+  no-continues k = rw (lt-leb 0x80 (getD s k 0) (omega (arith, largest-at s k)))
 
   plain-end : (k : ℕ) → wellFormed s ≡ true → k < length s → charEnd s k ≡ k + 1
   unfolding continuationRun

@@ -1,12 +1,12 @@
 -- What the functions that blank every match are told and say.
 use Prim.Native.Nat.{ℕ, _+_, _-_, _≤_, _<_, min}
 use mathlib.Core.Path.{_≡_}
-use mathlib.Core.Bool.{Bool, true}
+use mathlib.Core.Bool.{true}
 use mathlib.Core.List.{List, _++_}
 use lib.ListN.{length, getD, take, drop}
 use Rattle.buffers.specs.Splice.{part, overlay}
 use Rattle.utf8.specs.Formed.{wellFormed}
-use Rattle.validity.specs.Texts.{ascii}
+use Rattle.validity_blocks.specs.Extremes.{largest}
 use Rattle.note.specs.Notes.{limit}
 use Rattle.note.specs.Starting.{starting}
 use Rattle.find.specs.Matching.{matchesFrom}
@@ -56,9 +56,9 @@ pub record Blanked (text literal content : List ℕ) (i at : ℕ) (out starts en
 
 -- blocks are laid with a content in front of a filler: where so many bytes of the text are left as `margin`
 -- says, and 80 elements end below `until`, the result has them
-pub record Bounded (text : List ℕ) (plain : Bool) (literal content filler : List ℕ) (i at margin until : ℕ)
+pub record Bounded (text : List ℕ) (most : ℕ) (literal content filler : List ℕ) (i at margin until : ℕ)
     : Type 0 where
-  pub plain-is : plain ≡ true → ascii text ≡ true
+  pub most-is : most ≡ largest text
   pub filler-is : part filler 0 (length content) ≡ content
   pub filler-long : length content ≤ length filler
   pub window : length literal + 80 ≤ margin
@@ -81,9 +81,9 @@ pub record FrontAt (text literal front : List ℕ) (p : ℕ) : Type 0 where
   pub inside : p + length literal ≤ length text
 
 -- a block of 64 from i on, with the bytes that it is searched and counted by
-pub record BlockRoom (text : List ℕ) (plain : Bool) (literal : List ℕ) (first last i : ℕ) (out starts ends : List ℕ)
+pub record BlockRoom (text : List ℕ) (most : ℕ) (literal : List ℕ) (first last i : ℕ) (out starts ends : List ℕ)
     (at : ℕ) : Type 0 where
-  pub plain-is : plain ≡ true → ascii text ≡ true
+  pub most-is : most ≡ largest text
   pub some : 0 < length literal
   pub first-is : first ≡ getD literal 0 0
   pub last-is : last ≡ getD literal (length literal - 1) 0

@@ -108,7 +108,7 @@ fn begins(text: &[u8], literal: &[u8], front: &[u8], p: usize) -> bool
 // first: the next block waits for it alone.
 fn lay_ahead(
     text: &[u8],
-    plain: bool,
+    most: u8,
     literal: &[u8],
     first: u8,
     last: u8,
@@ -118,7 +118,7 @@ fn lay_ahead(
     out_ends: &mut [Offset],
     at: usize,
 ) -> usize
-    requires { ⌜ BlockRoom (now text) plain (now literal) first last i
+    requires { ⌜ BlockRoom (now text) most (now literal) first last i
         (now out) (now «out_starts») (now «out_ends») at ⌝ }
     ensures { λ r. ⌜ Passed (now (text .entry)) (now (literal .entry)) i
         (now (out .entry)) (now («out_starts» .entry)) (now («out_ends» .entry)) at r
@@ -129,7 +129,7 @@ fn lay_ahead(
     if k == 0 {
         return 0;
     }
-    lay_block(text, plain, i, out, out_starts, out_ends, at);
+    lay_block(text, most, i, out, out_starts, out_ends, at);
     k
 }
 
@@ -137,7 +137,7 @@ fn lay_ahead(
 // laid before `base`. `gap` is how far `at` is ahead of `i`, and the text's length: one number goes on with each block.
 pub fn blank_blocks(
     text: &[u8],
-    plain: bool,
+    most: u8,
     literal: &[u8],
     front: &[u8],
     content: &[u8],
@@ -152,7 +152,7 @@ pub fn blank_blocks(
 ) -> Reached
     requires { ⌜ Blankable (now text) (now literal) (now content) from base
         (now out) (now «out_starts») (now «out_ends»)
-        × Bounded (now text) plain (now literal) (now content) (now filler) from base margin until
+        × Bounded (now text) most (now literal) (now content) (now filler) from base margin until
         × (3 ≤ length (now text) → 3 ≤ from) × FrontOf (now literal) (now front) ⌝ }
     ensures { λ r. ⌜ Blanked (now (text .entry)) (now (literal .entry)) (now (content .entry)) from base
         (now (out .entry)) (now («out_starts» .entry)) (now («out_ends» .entry)) (r .i) (r .at)
@@ -170,7 +170,7 @@ pub fn blank_blocks(
         }
         let k = lay_ahead(
             text,
-            plain,
+            most,
             literal,
             first,
             last,
@@ -211,7 +211,7 @@ fn front_of(literal: &[u8]) -> [u8; 16]
 // left; how many bytes there are then.
 pub fn blank(
     text: &[u8],
-    plain: bool,
+    most: u8,
     literal: &[u8],
     content: &[u8],
     filler: &[u8],
@@ -222,7 +222,7 @@ pub fn blank(
     out_ends: &mut [Offset],
 ) -> usize
     requires { ⌜ Blankable (now text) (now literal) (now content) 0 0 (now out) (now «out_starts») (now «out_ends»)
-        × Bounded (now text) plain (now literal) (now content) (now filler) 0 0 margin until ⌝ }
+        × Bounded (now text) most (now literal) (now content) (now filler) 0 0 margin until ⌝ }
     ensures { λ r. ⌜ AllLaid (now (text .entry)) (now (literal .entry)) (now (content .entry))
         (now (out .entry)) (now («out_starts» .entry)) (now («out_ends» .entry))
         r (now (out .exit)) (now («out_starts» .exit)) (now («out_ends» .exit)) ⌝ }
@@ -240,9 +240,9 @@ pub fn blank(
         out_ends,
     );
     let front = front_of(literal);
-    let most = blank_blocks(
+    let laid = blank_blocks(
         text,
-        plain,
+        most,
         literal,
         &front,
         content,
@@ -259,8 +259,8 @@ pub fn blank(
         text,
         literal,
         content,
-        most.i,
-        most.at,
+        laid.i,
+        laid.at,
         text.len(),
         out,
         out_starts,

@@ -6,17 +6,18 @@ use buffers::blocks::copy_bytes_block;
 use buffers::blocks::fill_offsets_over;
 use buffers::copy_bytes;
 use buffers::fill_offsets;
+use column_blocks::pairs;
+use column_blocks::plain::count_up;
+use column_blocks::runs;
 use from_text::columns::char_end;
 use from_text::columns::char_start;
-use from_text::columns::ends_block;
-use from_text::columns::starts_block;
 use replace::laying::lay_content;
 ghost use mathlib.Core.Path.{_≡_};
 ghost use mathlib.Core.Bool.{true};
 ghost use Prim.Native.Nat.{_+_, _-_, _≤_};
 ghost use lib.ListN.{length};
 ghost use Rattle.buffers.specs.Columns.{Filled};
-ghost use Rattle.validity.specs.Texts.{ascii};
+ghost use Rattle.validity_blocks.specs.Extremes.{largest};
 ghost use Rattle.note.specs.Notes.{limit};
 ghost use Rattle.redact_blocks.specs.Keeping.{FillerLaid, FillerRoom, Stretch, StretchRoom};
 
@@ -41,22 +42,11 @@ pub fn lay_byte(
     out_ends[at] = end as Offset;
 }
 
-// 64 numbers from `first` on.
-fn count_up(first: Offset, out: &mut [Offset], at: usize)
-    requires { ⌜ (at + 64 ≤ length (now out)) × (first + 63 ≤ limit) ⌝ }
-    ensures { λ _. ⌜ Filled (λ k. first + (k - at)) (now (out .entry)) at (at + 64) (now (out .exit)) ⌝ }
-{
-    let mut k = 0;
-    while k < 64 {
-        out[at + k] = first + k as Offset;
-        k += 1;
-    }
-}
-
-// The 64 bytes from `i` on with their alignments; `plain` where the text is known to be ASCII.
+// The 64 bytes from `i` on with their alignments. `most` is the text's largest byte: it tells how long its characters
+// are at most.
 pub fn lay_block(
     text: &[u8],
-    plain: bool,
+    most: u8,
     i: usize,
     out: &mut [u8],
     out_starts: &mut [Offset],
@@ -65,19 +55,24 @@ pub fn lay_block(
 )
     requires { ⌜ StretchRoom (now text) i (i + 64) (now out) (now «out_starts») (now «out_ends») at
         × ((3 ≤ i) × (i + 67 ≤ length (now text))) ⌝ }
-    requires { ⌜ (plain ≡ true → ascii (now text) ≡ true) ⌝ }
+    requires { ⌜ most ≡ largest (now text) ⌝ }
     ensures { λ _. ⌜ Stretch (now (text .entry)) i (i + 64)
         (now (out .entry)) (now («out_starts» .entry)) (now («out_ends» .entry)) at 0
         (now (out .exit)) (now («out_starts» .exit)) (now («out_ends» .exit)) ⌝ }
 {
     copy_bytes_block(text, i, out, at);
-    if plain {
+    if most < 0x80 {
         count_up(i as Offset, out_starts, at);
         count_up(i as Offset + 1, out_ends, at);
         return;
     }
-    starts_block(text, i, out_starts, at);
-    ends_block(text, i, out_ends, at);
+    if most < 0xF0 {
+        pairs::starts_block(text, i, out_starts, at);
+        pairs::ends_block(text, i, out_ends, at);
+        return;
+    }
+    runs::starts_block(text, i, out_starts, at);
+    runs::ends_block(text, i, out_ends, at);
 }
 
 // The content, which is what `filler` has in front, in the place of a match that ends at `end`; up to 16 elements are

@@ -9,13 +9,13 @@ blank-requires : tie.Need-blank-requires
 blank-requires c κs =
     let f = c .before .before .before .before .before .before .before .before .before .before .before .before .before .before .before .pre in
     let met = c .before .before .before .before .before .before .before .before .if1 .left in
-    (blankable f met, bounded-alone f met (c .before .before .before .before .before .before .before .is-ascii .ensures) (c .before .before .before .before .before .before .share-of .ensures) (c .before .before .before .before .before .margin-of .ensures) (c .before .before .before .before .bound-of .ensures))
+    (blankable f met, bounded-alone f met (c .before .before .before .before .before .before .before .largest .ensures) (c .before .before .before .before .before .before .share-of .ensures) (c .before .before .before .before .before .margin-of .ensures) (c .before .before .before .before .bound-of .ensures))
 
 blank-requires-2 : tie.Need-blank-requires-2
 blank-requires-2 c κs =
     let f = c .before .before .before .before .before .before .before .before .before .before .before .before .before .before .before .before .before .before .before .pre in
     let met = c .before .before .before .before .before .before .before .before .before .before .before .before .if1 .left in
-    (blankable f met, bounded-padded f met (c .before .before .before .before .before .before .before .before .before .before .before .is-ascii .ensures) (c .before .before .before .before .before .before .before .before .before .before .share-of .ensures) (c .before .before .before .before .before .before .before .before .before .margin-of .ensures) (c .before .before .before .before .before .before .before .before .bound-of .ensures) _ (omega arith) (c .before .before .before .before .before .copy-bytes .ensures))
+    (blankable f met, bounded-padded f met (c .before .before .before .before .before .before .before .before .before .before .before .largest .ensures) (c .before .before .before .before .before .before .before .before .before .before .share-of .ensures) (c .before .before .before .before .before .before .before .before .before .margin-of .ensures) (c .before .before .before .before .before .before .before .before .bound-of .ensures) _ (omega arith) (c .before .before .before .before .before .copy-bytes .ensures))
 
 pub blank-found-spec : {M : Type 1} → statement M
 blank-found-spec =

@@ -9,11 +9,11 @@ use Rattle.redact_blocks.proofs.blank_blocks.Statement.{statement}
 use Rattle.redact_blocks.proofs.blank_blocks.Tie as tie
 
 abbrev Inv-loop : tie.InvT-loop
-Inv-loop text plain literal front content filler margin until from base out₀ out-starts₀ out-ends₀ first last wide i₀ gap₀ out out-starts out-ends i gap =
+Inv-loop text most literal front content filler margin until from base out₀ out-starts₀ out-ends₀ first last wide i₀ gap₀ out out-starts out-ends i gap =
     (length text ≤ i + gap) × Blanked text literal content from base out₀ out-starts₀ out-ends₀ i (i + gap - length text) out out-starts out-ends
 
 abbrev μ-loop : tie.MeasureT-loop
-μ-loop text plain literal front content filler margin until from base out₀ out-starts₀ out-ends₀ first last wide i₀ gap₀ out out-starts out-ends i gap = length text - i
+μ-loop text most literal front content filler margin until from base out₀ out-starts₀ out-ends₀ first last wide i₀ gap₀ out out-starts out-ends i gap = length text - i
 
 -- the places that others are told by: the entry, the turn's beginning, and where its block is laid
 abbrev Turn : Type 0

@@ -34,7 +34,7 @@ lay-ahead-spec =
     (λ c. omega arith)
     (λ c κs. search needs)
     (λ c. passed-none (omega (arith, c .before .before .before .before .before .before .before .before .before .pre .high)))
-    (λ c κs. ((c .before .before .before .before .before .before .before .before .before .before .before .before .pre .room, (c .before .before .before .before .before .before .before .before .before .before .before .before .pre .low, omega (arith, c .before .before .before .before .before .before .before .before .before .before .before .before .pre .high, c .before .before .before .before .before .before .before .before .before .before .before .before .pre .some))), c .before .before .before .before .before .before .before .before .before .before .before .before .pre .plain-is))
+    (λ c κs. ((c .before .before .before .before .before .before .before .before .before .before .before .before .pre .room, (c .before .before .before .before .before .before .before .before .before .before .before .before .pre .low, omega (arith, c .before .before .before .before .before .before .before .before .before .before .before .before .pre .high, c .before .before .before .before .before .before .before .before .before .before .before .before .pre .some))), c .before .before .before .before .before .before .before .before .before .before .before .before .pre .most-is))
     (λ c. search needs)
     (λ c. search needs)
     (λ c. search needs)

@@ -5,9 +5,9 @@ use lib.ListN.{length}
 use borrow.Author.Needs.{needs}
 use Rattle.buffers.specs.Columns.{Filled}
 use Rattle.buffers.proofs.Columns.{none-filled, filled-up, filled-at}
-use Rattle.from_text.specs.ContinuationRun.{runAt}
-use Rattle.from_text.proofs.columns.count_runs.Statement.{statement}
-use Rattle.from_text.proofs.columns.count_runs.Tie as tie
+use Rattle.column_blocks.specs.ContinuationRun.{runAt}
+use Rattle.column_blocks.proofs.runs.count_runs.Statement.{statement}
+use Rattle.column_blocks.proofs.runs.count_runs.Tie as tie
 
 abbrev Inv-loop : tie.InvT-loop
 Inv-loop text a b c counts₀ j₀ counts j = (j ≤ length counts₀) × Filled (runAt text a b c) counts₀ 0 j counts

@@ -3,9 +3,9 @@ use Prim.Native.Nat.{_-_}
 use mathlib.Core.Path.{refl}
 use native.Mathlib.Omega.{arith}
 use borrow.Author.Needs.{needs}
-use Rattle.from_text.proofs.ContinuationRun.{counts-small, block-starts}
-use Rattle.from_text.proofs.columns.starts_block.Statement.{statement}
-use Rattle.from_text.proofs.columns.starts_block.Tie as tie
+use Rattle.column_blocks.proofs.ContinuationRun.{counts-small, block-starts}
+use Rattle.column_blocks.proofs.runs.starts_block.Statement.{statement}
+use Rattle.column_blocks.proofs.runs.starts_block.Tie as tie
 
 step-back-requires : tie.Need-step-back-requires
 step-back-requires c κs =

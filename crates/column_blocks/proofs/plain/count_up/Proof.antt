@@ -4,8 +4,8 @@ use mathlib.Core.Path.{refl}
 use native.Mathlib.Omega.{arith}
 use Rattle.buffers.specs.Columns.{Filled}
 use Rattle.buffers.proofs.Columns.{none-filled, filled-up, filled-at}
-use Rattle.redact_blocks.proofs.stretches.count_up.Statement.{statement}
-use Rattle.redact_blocks.proofs.stretches.count_up.Tie as tie
+use Rattle.column_blocks.proofs.plain.count_up.Statement.{statement}
+use Rattle.column_blocks.proofs.plain.count_up.Tie as tie
 
 abbrev Inv-loop : tie.InvT-loop
 Inv-loop first out₀ at k₀ out k = (k ≤ 64) × Filled (λ m. first + (m - at)) out₀ at (at + k) out

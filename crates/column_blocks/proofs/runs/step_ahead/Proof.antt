@@ -4,9 +4,9 @@ use native.Mathlib.Omega.{arith}
 use lib.ListN.{length, getD}
 use Rattle.buffers.specs.Columns.{Filled}
 use Rattle.buffers.proofs.Columns.{none-filled, filled-up, filled-at}
-use Rattle.from_text.proofs.ContinuationRun.{ahead-at}
-use Rattle.from_text.proofs.columns.step_ahead.Statement.{statement}
-use Rattle.from_text.proofs.columns.step_ahead.Tie as tie
+use Rattle.column_blocks.proofs.ContinuationRun.{ahead-at}
+use Rattle.column_blocks.proofs.runs.step_ahead.Statement.{statement}
+use Rattle.column_blocks.proofs.runs.step_ahead.Tie as tie
 
 abbrev Inv-loop : tie.InvT-loop
 Inv-loop i counts ends₀ at k₀ ends k = (k ≤ length counts) × Filled (λ m. i + (m - at) + 1 + getD counts (m - at) 0) ends₀ at (at + k) ends

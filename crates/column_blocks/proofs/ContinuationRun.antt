@@ -1,21 +1,20 @@
 -- A byte's range counted from the bytes beside it, and the columns that are written by such counts.
 use Prim.Native.Nat.{ℕ, zero, suc, _+_, _-_, _≤_, _<_}
-use mathlib.Core.Path.{_≡_, ap, refl}
+use mathlib.Core.Path.{_≡_, refl}
 use mathlib.Core.Bool.{Bool, true, false, cond, _&&_}
 use mathlib.Core.List.{List}
 use native.Mathlib.Omega.{arith}
 use mir.Val.{boolByte}
 use lib.ListN.{length, getD, List·getD-eq-default}
-use Rattle.buffers.specs.Splice.{overlay}
 use Rattle.buffers.specs.Columns.{Filled}
 use Rattle.buffers.proofs.Cases.{le-or-lt, true-or-false}
-use Rattle.buffers.proofs.Columns.{filled-at, filled-as, filled-after, filled-before, all-filled}
+use Rattle.buffers.proofs.Columns.{filled-at, filled-as}
 use Rattle.utf8.specs.Formed.{wellFormed, continues}
 use Rattle.utf8.proofs.Boundaries.{boundary-begins}
 use Rattle.utf8.proofs.Formed.{announced-small}
-use Rattle.note.specs.Starting.{charStart, charEnd, starting}
+use Rattle.note.specs.Starting.{charStart, charEnd}
 use Rattle.note.proofs.Starting.{Ranged, ranged}
-use Rattle.from_text.specs.ContinuationRun.{continuationRun, runAt}
+use Rattle.column_blocks.specs.ContinuationRun.{continuationRun, runAt}
 
 -- the count by flags, as the code adds them up
 pub flag-small : (x : Bool) → boolByte x ≤ 1
@@ -66,43 +65,51 @@ unfolding charEnd
 four s i = omega (arith, announced-small (getD s (charStart s i) 0))
 
 module _ (s : List ℕ) (i : ℕ) (p : wellFormed s ≡ true) (h : i < length s) where
-  -- a byte's start is as far back as bytes up to it continue a character
+  r : Ranged s i
+  r = ranged s i p h
+
+  begins : (k : ℕ) → k ≡ charStart s i → continues (getD s k 0) ≡ false
+  begins k e = rw e (boundary-begins s (charStart s i) (r .begins))
+
+  ends : (k : ℕ) → k ≡ charEnd s i → continues (getD s k 0) ≡ false
+  ends k e = rw e (boundary-begins s (charEnd s i) (r .ends))
+
+  -- a byte's start is as far back as bytes up to it continue a character; c is the third of them, or tells the same
+  pub back-by : (c : ℕ) → 1 ≤ i → (i - charStart s i ≤ 3) → (2 < i - charStart s i → continues c ≡ true) → (i - charStart s i ≡ 2 → continues c ≡ false) → charStart s i + continuationRun (getD s i 0) (getD s (i - 1) 0) c ≡ i
+  back-by c low few third not-third =
+      let count : continuationRun (getD s i 0) (getD s (i - 1) 0) c ≡ i - charStart s i = run-is _ _ _ (i - charStart s i)
+      (record {
+        most = few;
+        first = λ n. r .rest i (omega (arith, r .from, r .past)) (r .past);
+        second = λ n. r .rest (i - 1) (omega (arith, r .from, r .past)) (omega (arith, r .from, r .past));
+        third = third;
+        not-first = λ n. begins i (omega (arith, r .from, r .past));
+        not-second = λ n. begins (i - 1) (omega (arith, r .from, r .past));
+        not-third = not-third;
+      }) in
+      omega (arith, r .from, r .past)
+
   pub start-back : 2 ≤ i → charStart s i + continuationRun (getD s i 0) (getD s (i - 1) 0) (getD s (i - 2) 0) ≡ i
   start-back low =
-      let r : Ranged s i = ranged s i p h in
-      let begins : (k : ℕ) → k ≡ charStart s i → continues (getD s k 0) ≡ false =
-      λ k e. rw e (boundary-begins s (charStart s i) (r .begins)) in
-      let count : continuationRun (getD s i 0) (getD s (i - 1) 0) (getD s (i - 2) 0) ≡ i - charStart s i =
-      run-is _ _ _ (i - charStart s i)
-      (record {
-        most = omega (arith, four s i);
-        first = λ n. r .rest i (omega arith) (r .past);
-        second = λ n. r .rest (i - 1) (omega arith) (omega arith);
-        third = λ n. r .rest (i - 2) (omega arith) (omega arith);
-        not-first = λ n. begins i (omega arith);
-        not-second = λ n. begins (i - 1) (omega arith);
-        not-third = λ n. begins (i - 2) (omega arith);
-      }) in
-      omega arith
+      back-by (getD s (i - 2) 0) (omega (arith, r .from, r .past)) (omega (arith, four s i, r .past)) (λ n. r .rest (i - 2) (omega (arith, r .from, r .past)) (omega (arith, r .from, r .past))) (λ n. begins (i - 2) (omega (arith, r .from, r .past)))
 
   -- and its end as far ahead as bytes after it do
-  pub end-ahead : charEnd s i ≡ i + 1 + continuationRun (getD s (i + 1) 0) (getD s (i + 2) 0) (getD s (i + 3) 0)
-  end-ahead =
-      let r : Ranged s i = ranged s i p h in
-      let ends : (k : ℕ) → k ≡ charEnd s i → continues (getD s k 0) ≡ false =
-      λ k e. rw e (boundary-begins s (charEnd s i) (r .ends)) in
-      let count : continuationRun (getD s (i + 1) 0) (getD s (i + 2) 0) (getD s (i + 3) 0) ≡ charEnd s i - (i + 1) =
-      run-is _ _ _ (charEnd s i - (i + 1))
+  pub ahead-by : (c : ℕ) → (charEnd s i - (i + 1) ≤ 3) → (2 < charEnd s i - (i + 1) → continues c ≡ true) → (charEnd s i - (i + 1) ≡ 2 → continues c ≡ false) → charEnd s i ≡ i + 1 + continuationRun (getD s (i + 1) 0) (getD s (i + 2) 0) c
+  ahead-by c few third not-third =
+      let count : continuationRun (getD s (i + 1) 0) (getD s (i + 2) 0) c ≡ charEnd s i - (i + 1) = run-is _ _ _ (charEnd s i - (i + 1))
       (record {
-        most = omega (arith, four s i);
-        first = λ n. r .rest (i + 1) (omega arith) (omega arith);
-        second = λ n. r .rest (i + 2) (omega arith) (omega arith);
-        third = λ n. r .rest (i + 3) (omega arith) (omega arith);
-        not-first = λ n. ends (i + 1) (omega arith);
-        not-second = λ n. ends (i + 2) (omega arith);
-        not-third = λ n. ends (i + 3) (omega arith);
+        most = few;
+        first = λ n. r .rest (i + 1) (omega (arith, r .from, r .past)) (omega (arith, r .from, r .past));
+        second = λ n. r .rest (i + 2) (omega (arith, r .from, r .past)) (omega (arith, r .from, r .past));
+        third = third;
+        not-first = λ n. ends (i + 1) (omega (arith, r .from, r .past));
+        not-second = λ n. ends (i + 2) (omega (arith, r .from, r .past));
+        not-third = not-third;
       }) in
-      omega arith
+      omega (arith, r .from, r .past)
+
+  pub end-ahead : charEnd s i ≡ i + 1 + continuationRun (getD s (i + 1) 0) (getD s (i + 2) 0) (getD s (i + 3) 0)
+  end-ahead = ahead-by (getD s (i + 3) 0) (omega (arith, four s i, r .from)) (λ n. r .rest (i + 3) (omega (arith, r .from, r .past)) (omega (arith, r .from, r .past))) (λ n. ends (i + 3) (omega (arith, r .from, r .past)))
 
 -- one number of a column, by the count at its index less `at`
 pub back-at : (counts : List ℕ) (i at k : ℕ) → i + k - getD counts k 0 ≡ i + (at + k - at) - getD counts (at + k - at) 0
@@ -136,19 +143,3 @@ block-ends s i n z counts d₀ d at p room long w made =
     (λ k from to.
     let count = counted s (i + 1) (i + 2) (i + 3) z counts w (k - at) (i + (k - at) + 1) (i + (k - at) + 2) (i + (k - at) + 3) (omega arith) (omega arith) (omega arith) (omega arith) in
     omega (arith, count, end-ahead s (i + (k - at)) p (omega arith)))
-
--- a block that stands where its bytes do
-pub block-here : (f : ℕ → ℕ) (d₀ : List ℕ) (i n : ℕ) (d : List ℕ) → Filled (λ k. f (i + (k - i))) d₀ i n d → Filled f d₀ i n d
-block-here f d₀ i n d w =
-    filled-as _ f d₀ i n d w (λ k from to. let here : i + (k - i) ≡ k = omega arith in ap f here)
-
--- the blocks from the text's end down to i, and the starts before i; the blocks up to i, and the ends from there on
-pub all-starts : (s d₀ d d₁ : List ℕ) (i : ℕ) → length s ≤ length d₀ → Filled (charStart s) d₀ i (length s) d → Filled (charStart s) d 0 i d₁ → d₁ ≡ overlay (starting s .starts) d₀
-unfolding starting
-all-starts s d₀ d d₁ i room w rest =
-    all-filled (charStart s) d₀ (length s) d₁ (filled-before (charStart s) d₀ 0 i (length s) d d₁ w rest) room
-
-pub all-ends : (s d₀ d d₁ : List ℕ) (i : ℕ) → length s ≤ length d₀ → Filled (charEnd s) d₀ 0 i d → Filled (charEnd s) d i (length s) d₁ → d₁ ≡ overlay (starting s .ends) d₀
-unfolding starting
-all-ends s d₀ d d₁ i room w rest =
-    all-filled (charEnd s) d₀ (length s) d₁ (filled-after (charEnd s) d₀ 0 i (length s) d d₁ w rest) room

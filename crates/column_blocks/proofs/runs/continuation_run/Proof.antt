@@ -2,9 +2,9 @@
 use mathlib.Core.Bool.{_&&_}
 use native.Mathlib.Omega.{arith}
 use borrow.Author.Needs.{needs}
-use Rattle.from_text.proofs.ContinuationRun.{flag-small, run-flags}
-use Rattle.from_text.proofs.columns.continuation_run.Statement.{statement}
-use Rattle.from_text.proofs.columns.continuation_run.Tie as tie
+use Rattle.column_blocks.proofs.ContinuationRun.{flag-small, run-flags}
+use Rattle.column_blocks.proofs.runs.continuation_run.Statement.{statement}
+use Rattle.column_blocks.proofs.runs.continuation_run.Tie as tie
 
 add-result : tie.Need-add-result
 add-result c = omega (arith, flag-small (c .before .before .continues .result), flag-small (c .before .before .continues .result && c .before .continues2 .result))

@@ -3,9 +3,9 @@ use Prim.Native.Nat.{_+_}
 use mathlib.Core.Path.{refl}
 use native.Mathlib.Omega.{arith}
 use borrow.Author.Needs.{needs}
-use Rattle.from_text.proofs.ContinuationRun.{counts-small, block-ends}
-use Rattle.from_text.proofs.columns.ends_block.Statement.{statement}
-use Rattle.from_text.proofs.columns.ends_block.Tie as tie
+use Rattle.column_blocks.proofs.ContinuationRun.{counts-small, block-ends}
+use Rattle.column_blocks.proofs.runs.ends_block.Statement.{statement}
+use Rattle.column_blocks.proofs.runs.ends_block.Tie as tie
 
 step-ahead-requires : tie.Need-step-ahead-requires
 step-ahead-requires c κs =

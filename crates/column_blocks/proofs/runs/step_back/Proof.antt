@@ -4,9 +4,9 @@ use native.Mathlib.Omega.{arith}
 use lib.ListN.{length, getD}
 use Rattle.buffers.specs.Columns.{Filled}
 use Rattle.buffers.proofs.Columns.{none-filled, filled-up, filled-at}
-use Rattle.from_text.proofs.ContinuationRun.{back-at}
-use Rattle.from_text.proofs.columns.step_back.Statement.{statement}
-use Rattle.from_text.proofs.columns.step_back.Tie as tie
+use Rattle.column_blocks.proofs.ContinuationRun.{back-at}
+use Rattle.column_blocks.proofs.runs.step_back.Statement.{statement}
+use Rattle.column_blocks.proofs.runs.step_back.Tie as tie
 
 abbrev Inv-loop : tie.InvT-loop
 Inv-loop i counts starts₀ at k₀ starts k = (k ≤ length counts) × Filled (λ m. i + (m - at) - getD counts (m - at) 0) starts₀ at (at + k) starts

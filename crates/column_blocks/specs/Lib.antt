@@ -1,0 +1,2 @@
+-- The working form of the starting note's columns.
+pub mod ContinuationRun
