@@ -4,8 +4,21 @@ use Rattle.letter_columns.proofs.Alike.{columns-copied}
 use Rattle.letter_columns.proofs.lay_codes.Statement.{statement}
 use Rattle.letter_columns.proofs.lay_codes.Tie as tie
 
+-- the places that others are told by
+abbrev entry : tie.After-lay-text → tie.Start
+entry c = c .before .before .before .before .before .before .before .before .before
+
+abbrev laid : tie.After-same-leads → tie.After-lay-text
+laid c = c .before .before .before .before .before .before .before
+
+abbrev alike : tie.After-copy-offsets → tie.After-same-leads
+alike c = c .before .before .before .before
+
 returns : tie.Need-returns
-returns c = columns-copied (c .before .before .before .before .before .before .before .before .before .before .before .before .before .before .before .before .before .before .before .before .before .before .before .before .before .before .before .pre) (c .before .before .before .before .before .before .before .before .before .before .before .before .before .before .before .before .before .before .lay-text .ensures) (c .before .before .before .before .before .before .before .before .before .before .before .before .before .before .before .if1 .taken) (c .before .before .before .before .before .before .before .before .before .before .before .same-leads .ensures (c .before .before .before .before .before .before .before .before .before .before .if2 .taken)) (c .before .before .before .before .before .before .before .copy-offsets .ensures) (c .before .before .copy-offsets2 .ensures)
+returns c =
+    let copied = c .before .before .before .before .before .before .before in
+    let alike = alike copied in
+    columns-copied (entry (laid alike) .pre) (laid alike .lay-text .ensures) (alike .before .before .before .before .if1 .taken) (alike .same-leads .ensures (copied .before .before .before .if2 .taken)) (copied .copy-offsets .ensures) (c .before .before .copy-offsets2 .ensures)
 
 pub lay-codes-spec : {M : Type 1} → statement M
 lay-codes-spec =

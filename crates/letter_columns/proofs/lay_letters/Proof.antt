@@ -15,57 +15,59 @@ Inv-loop text starts ends position codes out-starts₀ out-ends₀ from until q�
 abbrev μ-loop : tie.MeasureT-loop
 μ-loop text starts ends position codes out-starts₀ out-ends₀ from until q₀ at₀ i₀ out-starts out-ends q at i = length text - q
 
-shared-slice-read-continues : tie.Need-shared-slice-read-continues Inv-loop μ-loop
-shared-slice-read-continues c = more-text (c .before .before .before .before .before .before .before .before .before .pre) (c .before .before .loop .inv) (c .before .loop-test .taken)
+-- the places that others are told by: the entry, the turn's beginning, where the byte's size is known, and where its first column is filled
+abbrev entry : tie.At-loop Inv-loop μ-loop → tie.Start Inv-loop μ-loop
+entry c = c .before .before .before .before .before .before .before
+
+abbrev turn : tie.After-when Inv-loop μ-loop → tie.At-loop Inv-loop μ-loop
+turn c = c .before .before .before .before .before .before
+
+abbrev told : tie.After-fill-letter Inv-loop μ-loop → tie.After-when Inv-loop μ-loop
+told c = c .before .before .before
+
+-- a turn has one more byte to read
+more : (c : tie.After-when Inv-loop μ-loop) → turn c .loop .q < length (entry (turn c) .args .text .now)
+more c = more-text (entry (turn c) .pre) (turn c .loop .inv) (c .before .before .before .before .before .loop-test .taken)
 
 mul-fill-letter : tie.Need-mul-fill-letter Inv-loop μ-loop
-mul-fill-letter c = let long : length (c .before .before .before .before .before .before .before .before .before .before .before .before .before .args .starts .now) * 2 < 2 ^ 63 = c .before .before .before .before .before .before .before .before .before .before .before .before .before .good .1 .0 .1 in
-    omega (arith, long, more-text (c .before .before .before .before .before .before .before .before .before .before .before .before .before .pre) (c .before .before .before .before .before .before .loop .inv) (c .before .before .before .before .before .loop-test .taken), c .before .before .before .before .before .before .before .before .before .before .before .before .before .pre .starts-room .one-each)
-
-shared-slice-read-fill-letter : tie.Need-shared-slice-read-fill-letter Inv-loop μ-loop
-shared-slice-read-fill-letter c = omega (arith, more-text (c .before .before .before .before .before .before .before .before .before .before .before .before .before .before .pre) (c .before .before .before .before .before .before .before .loop .inv) (c .before .before .before .before .before .before .loop-test .taken), c .before .before .before .before .before .before .before .before .before .before .before .before .before .before .pre .starts-room .one-each)
+mul-fill-letter c =
+    let entry = entry (turn c) in
+    let long : length (entry .args .starts .now) * 2 < 2 ^ 63 = entry .good .1 .0 .1 in
+    omega (arith, long, more c, entry .pre .starts-room .one-each)
 
 fill-letter-requires : tie.Need-fill-letter-requires Inv-loop μ-loop
-fill-letter-requires c κs = let head = c .before .before .before .before .before .before .before .before in
-    let entry = head .before .before .before .before .before .before .before in
-    letter-room (entry .pre .starts-room) (head .loop .inv .starts-carried) (c .before .before .before .before .before .before .before .loop-test .taken) (more-text (entry .pre) (head .loop .inv) (c .before .before .before .before .before .before .before .loop-test .taken)) (c .before .before .before .before .before .continues .ensures) (c .before .before .before .size-of .ensures) (c .before .before .when .ensures)
+fill-letter-requires c κs =
+    let told = c .before .before in
+    letter-room (entry (turn told) .pre .starts-room) (turn told .loop .inv .starts-carried) (told .before .before .before .before .before .loop-test .taken) (more told) (told .before .before .before .continues .ensures) (told .before .size-of .ensures) (told .when .ensures)
 
 mul-fill-letter-2 : tie.Need-mul-fill-letter-2 Inv-loop μ-loop
-mul-fill-letter-2 c = let long : length (c .before .before .before .before .before .before .before .before .before .before .before .before .before .before .before .before .before .before .args .ends .now) * 2 < 2 ^ 63 = c .before .before .before .before .before .before .before .before .before .before .before .before .before .before .before .before .before .before .good .1 .1 .0 .1 in
-    omega (arith, long, more-text (c .before .before .before .before .before .before .before .before .before .before .before .before .before .before .before .before .before .before .pre) (c .before .before .before .before .before .before .before .before .before .before .before .loop .inv) (c .before .before .before .before .before .before .before .before .before .before .loop-test .taken), c .before .before .before .before .before .before .before .before .before .before .before .before .before .before .before .before .before .before .pre .ends-room .one-each)
-
-shared-slice-read-fill-letter-2 : tie.Need-shared-slice-read-fill-letter-2 Inv-loop μ-loop
-shared-slice-read-fill-letter-2 c = omega (arith, more-text (c .before .before .before .before .before .before .before .before .before .before .before .before .before .before .before .before .before .before .before .pre) (c .before .before .before .before .before .before .before .before .before .before .before .before .loop .inv) (c .before .before .before .before .before .before .before .before .before .before .before .loop-test .taken), c .before .before .before .before .before .before .before .before .before .before .before .before .before .before .before .before .before .before .before .pre .ends-room .one-each)
+mul-fill-letter-2 c =
+    let told = told (c .before .before) in
+    let entry = entry (turn told) in
+    let long : length (entry .args .ends .now) * 2 < 2 ^ 63 = entry .good .1 .1 .0 .1 in
+    omega (arith, long, more told, entry .pre .ends-room .one-each)
 
 fill-letter-requires-2 : tie.Need-fill-letter-requires-2 Inv-loop μ-loop
-fill-letter-requires-2 c κs = let head = c .before .before .before .before .before .before .before .before .before .before .before .before .before in
-    let entry = head .before .before .before .before .before .before .before in
-    letter-room (entry .pre .ends-room) (head .loop .inv .ends-carried) (c .before .before .before .before .before .before .before .before .before .before .before .before .loop-test .taken) (more-text (entry .pre) (head .loop .inv) (c .before .before .before .before .before .before .before .before .before .before .before .before .loop-test .taken)) (c .before .before .before .before .before .before .before .before .before .before .continues .ensures) (c .before .before .before .before .before .before .before .before .size-of .ensures) (c .before .before .before .before .before .before .before .when .ensures)
+fill-letter-requires-2 c κs =
+    let told = told (c .before .before .before .before) in
+    letter-room (entry (turn told) .pre .ends-room) (turn told .loop .inv .ends-carried) (told .before .before .before .before .before .loop-test .taken) (more told) (told .before .before .before .continues .ensures) (told .before .size-of .ensures) (told .when .ensures)
 
 add-at : tie.Need-add-at Inv-loop μ-loop
-add-at c = let head = c .before .before .before .before .before .before .before .before .before .before .before .before .before .before .before .before in
-    let entry = head .before .before .before .before .before .before .before in
-    let room = letter-room (entry .pre .starts-room) (head .loop .inv .starts-carried) (c .before .before .before .before .before .before .before .before .before .before .before .before .before .before .before .loop-test .taken) (more-text (entry .pre) (head .loop .inv) (c .before .before .before .before .before .before .before .before .before .before .before .before .before .before .before .loop-test .taken)) (c .before .before .before .before .before .before .before .before .before .before .before .before .before .continues .ensures) (c .before .before .before .before .before .before .before .before .before .before .before .size-of .ensures) (c .before .before .before .before .before .before .before .before .before .before .when .ensures) in
+add-at c =
+    let told = told (c .before .before .before .before .before .before .before) in
+    let entry = entry (turn told) in
+    let room = letter-room (entry .pre .starts-room) (turn told .loop .inv .starts-carried) (told .before .before .before .before .before .loop-test .taken) (more told) (told .before .before .before .continues .ensures) (told .before .size-of .ensures) (told .when .ensures) in
     let long : length (entry .args .out-starts .now) < 2 ^ 64 = entry .good .1 .1 .1 .1 .1 .0 .0 in
-    omega (arith, room .0, long, head .loop .inv .starts-carried .parts .over .same)
-
-cast-i : tie.Need-cast-i Inv-loop μ-loop
-cast-i c = omega (arith, bool-most (not (c .before .before .before .before .before .before .before .before .before .before .before .before .before .continues .result)))
+    omega (arith, room .0, long, turn told .loop .inv .starts-carried .parts .over .same)
 
 add-i : tie.Need-add-i Inv-loop μ-loop
-add-i c = omega (arith, bool-most (not (c .before .before .before .before .before .before .before .before .before .before .before .before .before .continues .result)), c .before .before .before .before .before .before .before .before .before .before .before .before .before .before .before .loop-test .taken)
-
-add-q : tie.Need-add-q Inv-loop μ-loop
-add-q c = omega (arith, more-text (c .before .before .before .before .before .before .before .before .before .before .before .before .before .before .before .before .before .before .before .before .before .before .before .pre) (c .before .before .before .before .before .before .before .before .before .before .before .before .before .before .before .before .loop .inv) (c .before .before .before .before .before .before .before .before .before .before .before .before .before .before .before .loop-test .taken))
-
-loop-less : tie.Need-loop-less Inv-loop μ-loop
-loop-less c = omega (arith, more-text (c .before .before .before .before .before .before .before .before .before .before .before .before .before .before .before .before .before .before .before .before .before .before .before .pre) (c .before .before .before .before .before .before .before .before .before .before .before .before .before .before .before .before .loop .inv) (c .before .before .before .before .before .before .before .before .before .before .before .before .before .before .before .loop-test .taken))
+add-i c = omega (arith, bool-most (not (told (c .before .before .before .before .before .before .before) .before .before .before .continues .result)), told (c .before .before .before .before .before .before .before) .before .before .before .before .before .loop-test .taken)
 
 loop-again : tie.Need-loop-again Inv-loop μ-loop
-loop-again c = one-spread (c .before .before .before .before .before .before .before .before .before .before .before .before .before .before .before .before .before .before .before .before .before .before .before .pre) (c .before .before .before .before .before .before .before .before .before .before .before .before .before .before .before .before .loop .inv) (c .before .before .before .before .before .before .before .before .before .before .before .before .before .before .before .loop-test .taken) (c .before .before .before .before .before .before .before .before .before .before .before .before .before .continues .ensures) (c .before .before .before .before .before .before .before .before .before .before .before .size-of .ensures) (c .before .before .before .before .before .before .before .before .before .before .when .ensures) (c .before .before .before .before .before .before .before .fill-letter .ensures) (c .before .before .fill-letter2 .ensures)
-
-returns : tie.Need-returns Inv-loop μ-loop
-returns c = all-spread (c .before .before .before .before .before .before .before .before .pre) (c .before .loop .inv) (c .loop-test .left)
+loop-again c =
+    let filled = c .before .before .before .before .before .before .before in
+    let told = told filled in
+    one-spread (entry (turn told) .pre) (turn told .loop .inv) (told .before .before .before .before .before .loop-test .taken) (told .before .before .before .continues .ensures) (told .before .size-of .ensures) (told .when .ensures) (filled .fill-letter .ensures) (c .before .before .fill-letter2 .ensures)
 
 pub lay-letters-spec : {M : Type 1} → statement M
 lay-letters-spec =
@@ -74,24 +76,24 @@ lay-letters-spec =
     Inv-loop
     μ-loop
     (λ c. none-spread (c .before .before .before .before .before .before .pre .inside))
-    shared-slice-read-continues
+    (λ c. more-text (entry (c .before .before) .pre) (c .before .before .loop .inv) (c .before .loop-test .taken))
     (λ c κs. search needs)
     (λ c. omega arith)
     (λ c. omega arith)
     (λ c κs. search needs)
     (λ c κs. search needs)
     mul-fill-letter
-    shared-slice-read-fill-letter
+    (λ c. omega (arith, more (c .before), entry (turn (c .before)) .pre .starts-room .one-each))
     fill-letter-requires
     mul-fill-letter-2
-    shared-slice-read-fill-letter-2
+    (λ c. omega (arith, more (told (c .before .before .before)), entry (turn (told (c .before .before .before))) .pre .ends-room .one-each))
     fill-letter-requires-2
     add-at
-    cast-i
+    (λ c. omega (arith, bool-most (not (told (c .before .before .before .before .before .before .before) .before .before .before .continues .result))))
     add-i
-    add-q
-    loop-less
+    (λ c. omega (arith, more (told (c .before .before .before .before .before .before .before))))
+    (λ c. omega (arith, more (told (c .before .before .before .before .before .before .before))))
     loop-again
     (λ c. c .before .loop .inv .starts-carried .parts .over .same)
     (λ c. c .before .loop .inv .ends-carried .parts .over .same)
-    returns)
+    (λ c. all-spread (entry (c .before) .pre) (c .before .loop .inv) (c .loop-test .left)))
