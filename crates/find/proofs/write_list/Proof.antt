@@ -16,6 +16,13 @@ Inv-loop text literal first out₀ i₀ at₀ start₀ out i at start = Listed t
 abbrev μ-loop : tie.MeasureT-loop
 μ-loop text literal first out₀ i₀ at₀ start₀ out i at start = length text - at
 
+-- the places that others are told by: the entry, the turn's beginning, and where what stands before a match is written
+abbrev entry : tie.At-loop Inv-loop μ-loop → tie.Start Inv-loop μ-loop
+entry c = c .before .before .before .before .before
+
+abbrev turn : tie.After-write-between Inv-loop μ-loop → tie.At-loop Inv-loop μ-loop
+turn c = c .before .before .before
+
 write-place-requires : tie.Need-write-place-requires Inv-loop μ-loop
 write-place-requires c κs =
     let is = c .before .place-from .ensures in
@@ -24,20 +31,20 @@ write-place-requires c κs =
 
 place-from-requires-2 : tie.Need-place-from-requires-2 Inv-loop μ-loop
 place-from-requires-2 c κs =
-    let inside = match-inside (c .before .before .before .before .before .loop .inv .stands) (c .before .before .before .before .loop-test .taken) in
-    (omega (arith, c .before .before .before .before .before .before .before .before .before .before .pre .0), omega (arith, c .before .before .before .before .before .before .before .before .before .before .pre .0, inside))
+    let inside = match-inside (turn (c .before .before) .loop .inv .stands) (c .before .before .before .before .loop-test .taken) in
+    (omega (arith, entry (turn (c .before .before)) .pre .0), omega (arith, entry (turn (c .before .before)) .pre .0, inside))
 
 write-place-requires-2 : tie.Need-write-place-requires-2 Inv-loop μ-loop
 write-place-requires-2 c κs =
+    let passed = c .before .before .before .before in
     let is = c .before .place-from2 .ensures in
-    let head = c .before .before .before .before .before .before .before in
-    let inside = match-inside (head .loop .inv .stands) (c .before .before .before .before .before .before .loop-test .taken) in
-    let short = head .before .before .before .before .before .pre .0 in
-    (place-writable is (omega (arith, short)) (omega (arith, short, inside)), room-match (head .loop .inv) (c .before .before .before .before .write-between .ensures) (c .before .before .before .before .before .before .loop-test .taken) is)
+    let inside = match-inside (turn passed .loop .inv .stands) (passed .before .before .loop-test .taken) in
+    let short = entry (turn passed) .pre .0 in
+    (place-writable is (omega (arith, short)) (omega (arith, short, inside)), room-match (turn passed .loop .inv) (passed .write-between .ensures) (passed .before .before .loop-test .taken) is)
 
 loop-less : tie.Need-loop-less Inv-loop μ-loop
 loop-less c =
-    let s = c .before .before .before .before .before .before .before .before .before .before .before .loop .inv .stands in
+    let s = turn (c .before .before .before .before .before .before .before .before) .loop .inv .stands in
     omega (arith, s .some, first-there s .from, match-inside s (c .before .before .before .before .before .before .before .before .before .before .loop-test .taken))
 
 pub write-list-spec : {M : Type 1} → statement M
@@ -50,14 +57,14 @@ write-list-spec =
     write-place-requires
     (λ c. search needs)
     (λ c. whole-listed _ _ (c .before .before .before .before .before .before .before .before .before .pre .1) (c .before .before .before .before .before .if1 .taken) (c .before .before .before .before .place-from .ensures) (c .before .before .write-place .ensures))
-    (λ c. none-listed (c .before .before .before .before .pre .1) (c .if1 .left) (c .before .before .before .before .pre .2))
-    (λ c κs. room-between (c .before .before .loop .inv) (c .before .before .before .before .before .before .before .pre .0))
-    (λ c. omega (arith, match-inside (c .before .before .before .before .before .loop .inv .stands) (c .before .before .before .before .loop-test .taken)))
+    (λ c. let entry = c .before .before .before .before in none-listed (entry .pre .1) (c .if1 .left) (entry .pre .2))
+    (λ c κs. room-between (c .before .before .loop .inv) (entry (c .before .before) .pre .0))
+    (λ c. omega (arith, match-inside (turn (c .before .before) .loop .inv .stands) (c .before .before .before .before .loop-test .taken)))
     place-from-requires-2
     write-place-requires-2
-    (λ c κs. (c .before .before .before .before .before .before .before .before .before .before .loop .inv .stands .some, match-inside (c .before .before .before .before .before .before .before .before .before .before .loop .inv .stands) (c .before .before .before .before .before .before .before .before .before .loop-test .taken)))
+    (λ c κs. let passed = c .before .before .before .before .before .before .before in (turn passed .loop .inv .stands .some, match-inside (turn passed .loop .inv .stands) (passed .before .before .loop-test .taken)))
     loop-less
-    (λ c. next-listed (c .before .before .before .before .before .before .before .before .before .before .before .loop .inv) (c .before .before .before .before .before .before .before .before .write-between .ensures) (c .before .before .before .before .before .before .before .before .before .before .loop-test .taken) (c .before .before .before .before .before .place-from2 .ensures) (c .before .before .before .write-place2 .ensures) (c .next-match .ensures))
-    (λ c κs. room-between (c .before .before .loop .inv) (c .before .before .before .before .before .before .before .pre .0))
+    (λ c. let passed = c .before .before .before .before .before .before .before .before in next-listed (turn passed .loop .inv) (passed .write-between .ensures) (passed .before .before .loop-test .taken) (c .before .before .before .before .before .place-from2 .ensures) (c .before .before .before .write-place2 .ensures) (c .next-match .ensures))
+    (λ c κs. room-between (c .before .before .loop .inv) (entry (c .before .before) .pre .0))
     (λ c. search needs)
     (λ c. all-listed (c .before .before .before .before .before .loop .inv) (c .before .before .write-between2 .ensures) (c .before .before .before .before .loop-test .left)))

@@ -14,24 +14,19 @@ Inv-loop text i lows₀ sixteens j₀ lows j = (j ≤ 128) × LowsTo text lows�
 abbrev μ-loop : tie.MeasureT-loop
 μ-loop text i lows₀ sixteens j₀ lows j = 128 - j
 
-write-sixteens-requires : tie.Need-write-sixteens-requires Inv-loop μ-loop
-write-sixteens-requires c κs =
-    let written = c .before .before .before in
-    (omega (arith, written .write-fours .ensures .same), fours-small _ _ (written .write-fours .ensures) refl)
+-- the places that others are told by: the entry, where the sums are written, and the turn's beginning
+abbrev entry : tie.After-write-sixteens Inv-loop μ-loop → tie.Start Inv-loop μ-loop
+entry c = c .before .before .before .before .before .before .before .before
 
-loop-holds : tie.Need-loop-holds Inv-loop μ-loop
-loop-holds c = (omega arith, lows-less (c .before .before .before .before .before .before .before .before .before .pre .so-far) _ (omega arith))
+abbrev written : tie.At-loop Inv-loop μ-loop → tie.After-write-sixteens Inv-loop μ-loop
+written c = c .before .before
 
 loop-again : tie.Need-loop-again Inv-loop μ-loop
 loop-again c =
-    let head = c .before .before .before in
-    let written = head .before .before in
-    let pre = written .before .before .before .before .before .before .before .before .pre in
-    let j = head .loop .j in
-    (omega arith, lows-less (one-low (head .loop .inv .1) (omega (arith, pre .inside, pre .room)) (far-low _ j (head .loop .inv .1) (written .before .before .before .before .write-fours .ensures) (written .write-sixteens .ensures) (omega arith) (c .wrapping-add-u8 .ensures))) _ (omega arith))
-
-returns : tie.Need-returns Inv-loop μ-loop
-returns c = lows-less (c .before .loop .inv .1) _ (omega arith)
+    let turn = c .before .before .before in
+    let pre = entry (written turn) .pre in
+    let j = turn .loop .j in
+    (omega arith, lows-less (one-low (turn .loop .inv .1) (omega (arith, pre .inside, pre .room)) (far-low _ j (turn .loop .inv .1) (written turn .before .before .before .before .write-fours .ensures) (written turn .write-sixteens .ensures) (omega arith) (c .wrapping-add-u8 .ensures))) _ (omega arith))
 
 pub low-block-spec : {M : Type 1} → statement M
 low-block-spec =
@@ -44,17 +39,17 @@ low-block-spec =
     (λ c κs. omega (arith, c .before .before .before .pre .inside))
     (λ c. search needs)
     (λ c. refl)
-    write-sixteens-requires
-    loop-holds
-    (λ c. omega (arith, c .before .before .before .before .before .before .before .before .before .before .before .pre .inside))
-    (λ c. omega (arith, c .before .before .loop .inv .1 .same, c .before .before .before .before .before .before .before .before .before .before .before .before .pre .inside, c .before .before .before .before .before .before .before .before .before .before .before .before .pre .room))
+    (λ c κs. (omega (arith, c .before .before .before .write-fours .ensures .same), fours-small _ _ (c .before .before .before .write-fours .ensures) refl))
+    (λ c. (omega arith, lows-less (entry (c .before) .pre .so-far) _ (omega arith)))
+    (λ c. omega (arith, entry (written (c .before)) .pre .inside))
+    (λ c. omega (arith, c .before .before .loop .inv .1 .same, entry (written (c .before .before)) .pre .inside, entry (written (c .before .before)) .pre .room))
     (λ c. omega arith)
     (λ c κs. search needs)
-    (λ c. omega (arith, c .before .before .before .before .before .before .before .before .before .before .before .before .before .pre .inside))
-    (λ c. omega (arith, c .before .before .before .before .before .before .before .before .before .before .before .before .before .pre .inside))
-    (λ c. omega (arith, c .before .before .before .loop .inv .1 .same, c .before .before .before .before .before .before .before .before .before .before .before .before .before .pre .inside, c .before .before .before .before .before .before .before .before .before .before .before .before .before .pre .room))
+    (λ c. omega (arith, entry (written (c .before .before .before)) .pre .inside))
+    (λ c. omega (arith, entry (written (c .before .before .before)) .pre .inside))
+    (λ c. omega (arith, c .before .before .before .loop .inv .1 .same, entry (written (c .before .before .before)) .pre .inside, entry (written (c .before .before .before)) .pre .room))
     (λ c. omega arith)
     (λ c. omega arith)
     loop-again
     (λ c. c .before .loop .inv .1 .same)
-    returns)
+    (λ c. lows-less (c .before .loop .inv .1) _ (omega arith)))

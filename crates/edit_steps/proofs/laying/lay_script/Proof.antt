@@ -18,41 +18,47 @@ abbrev μ-loop : tie.MeasureT-loop
 μ-loop text starts ends to position script table out₀ out-starts₀ out-ends₀ at until progress₀ i₀ out out-starts out-ends progress i =
     length script - i
 
+-- the places that others are told by: the entry, the turn's beginning, where its command is read, and where it is laid
+abbrev entry : tie.At-loop Inv-loop μ-loop → tie.Start Inv-loop μ-loop
+entry c = c .before .before .before .before .before .before .before .before
+
+abbrev turn : tie.After-command Inv-loop μ-loop → tie.At-loop Inv-loop μ-loop
+turn c = c .before .before .before .before
+
+abbrev there : tie.After-lay-command Inv-loop μ-loop → tie.After-command Inv-loop μ-loop
+there c = c .before .before .before .before .before
+
 lay-command-requires : tie.Need-lay-command-requires Inv-loop μ-loop
 lay-command-requires c κs =
     let there = c .before .before .before .before in
-    let read = there .before .before in
-    let step = entry-step _ (read .entry-at .ensures) (there .command .given .1) in
-    let entry = read .before .before .before .before .before .before .before .before .before .before in
-    (command-room (entry .pre .0) (read .before .before .loop .inv .1) (step .commands), below-all (entry .pre .0) (read .before .before .loop .inv .1) (entry .pre .1))
+    let turn = turn there in
+    let step = entry-step _ (there .before .before .entry-at .ensures) (there .command .given .1) in
+    (command-room (entry turn .pre .0) (turn .loop .inv .1) (step .commands), below-all (entry turn .pre .0) (turn .loop .inv .1) (entry turn .pre .1))
 
 advanced-requires : tie.Need-advanced-requires Inv-loop μ-loop
 advanced-requires c κs =
-    let there = c .before .before .before .before .before .before .before .before .before .before .before in
-    let read = there .before .before in
-    let entry = read .before .before .before .before .before .before .before .before .before .before in
-    let long : length (entry .args .out .now) < 2 ^ 64 = entry .good .1 .1 .1 .1 .1 .1 .1 .0 .0 in
-    let step = entry-step _ (read .entry-at .ensures) (there .command .given .1) in
-    counting (entry .pre .0) (read .before .before .loop .inv .1) (step .commands) long
+    let laid = c .before .before .before .before .before .before in
+    let turn = turn (there laid) in
+    let long : length (entry turn .args .out .now) < 2 ^ 64 = entry turn .good .1 .1 .1 .1 .1 .1 .1 .0 .0 in
+    let step = entry-step _ (there laid .before .before .entry-at .ensures) (there laid .command .given .1) in
+    counting (entry turn .pre .0) (turn .loop .inv .1) (step .commands) long
 
 loop-less : tie.Need-loop-less Inv-loop μ-loop
 loop-less c =
-    let there = c .before .before .before .before .before .before .before .before .before .before .before .before in
-    let step = entry-step _ (there .before .before .entry-at .ensures) (there .command .given .1) in
+    let step = entry-step _ (there (c .before .before .before .before .before .before .before) .before .before .entry-at .ensures) (there (c .before .before .before .before .before .before .before) .command .given .1) in
     omega (arith, step .onward, step .most)
 
 loop-again : tie.Need-loop-again Inv-loop μ-loop
 loop-again c =
-    let there = c .before .before .before .before .before .before .before .before .before .before .before .before in
-    let read = there .before .before in
-    let step = entry-step _ (read .entry-at .ensures) (there .command .given .1) in
-    let entry = read .before .before .before .before .before .before .before .before .before .before in
-    (step .most, going-over (entry .pre .0) (read .before .before .loop .inv .1) (step .commands) (c .before .before .before .before .before .before .before .lay-command .ensures) (entry .pre .1) (c .advanced .ensures))
+    let laid = c .before .before .before .before .before .before .before in
+    let there = there laid in
+    let step = entry-step _ (there .before .before .entry-at .ensures) (there .command .given .1) in
+    (step .most, going-over (entry (turn there) .pre .0) (turn there .loop .inv .1) (step .commands) (laid .lay-command .ensures) (entry (turn there) .pre .1) (c .advanced .ensures))
 
 returns : tie.Need-returns Inv-loop μ-loop
 returns c =
-    let head = c .before .before .before .before in
-    gone (head .before .before .before .before .before .before .before .before .pre .0) (head .loop .inv .1) (entry-broken _ (c .before .before .before .loop-test .taken) (c .before .before .entry-at .ensures) (c .enum-told .given .1) .0)
+    let turn = c .before .before .before .before in
+    gone (entry turn .pre .0) (turn .loop .inv .1) (entry-broken _ (c .before .before .before .loop-test .taken) (c .before .before .entry-at .ensures) (c .enum-told .given .1) .0)
 
 pub lay-script-spec : {M : Type 1} → statement M
 lay-script-spec =
@@ -75,4 +81,4 @@ lay-script-spec =
     (λ c. c .before .loop .inv .1 .text-laid .same)
     (λ c. c .before .loop .inv .1 .starts-laid .same)
     (λ c. c .before .loop .inv .1 .ends-laid .same)
-    (λ c. gone (c .before .before .before .before .before .before .before .before .before .pre .0) (c .before .loop .inv .1) (entries-end _ (c .loop-test .left) .0)))
+    (λ c. gone (entry (c .before) .pre .0) (c .before .loop .inv .1) (entries-end _ (c .loop-test .left) .0)))
