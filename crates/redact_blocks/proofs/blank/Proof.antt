@@ -6,34 +6,34 @@ use Rattle.redact_blocks.proofs.Blanks.{blankable-on, bounded-on, blank
 use Rattle.redact_blocks.proofs.blank.Statement.{statement}
 use Rattle.redact_blocks.proofs.blank.Tie as tie
 
--- the places where a stage is done
-abbrev entry : tie.After-blank-bytes → tie.Start
-entry c = c .before .before .before .before .before .before .before .before .before .before .before .before
+-- the places that others are told by: the entry, and where a stage is done
+abbrev entry : tie.After-least-of-two → tie.Start
+entry c = c .before .before .before .before .before .before .before .before
 
-abbrev begun : tie.After-blank-blocks → tie.After-blank-bytes
-begun c = c .before .before .before .before .before .before .before .before .before .before .before .before
+abbrev begun : tie.After-blank-bytes → tie.After-least-of-two
+begun c = c .before .before .before .before
+
+abbrev first : tie.After-blank-blocks-arg3 → tie.After-blank-bytes
+first c = c .before .before .before .before .before .before .before .before .before .before .before
+
+abbrev second : tie.After-blank-bytes-arg6 → tie.After-blank-blocks
+second c = c .before .before .before .before .before .before .before .before .before
 
 blank-blocks-requires : tie.Need-blank-blocks-requires
 blank-blocks-requires c κs =
-    let first : tie.After-blank-bytes = c .before .before .before .before .before .before .before .before .before .before .before in
-    let e = entry first in
-    let stage = first .blank-bytes .ensures in
-    (blankable-on (e .pre .0) (stage .0), bounded-on (e .pre .0) (stage .0) (e .pre .1), (λ h. omega (arith, stage .1, c .before .before .before .before .before .before .before .before .before .before .before .before .before .before .before .least-of-two .ensures)), c .before .before .before .before .front-of .ensures)
+    let stage = first c .blank-bytes .ensures in
+    (blankable-on (entry (begun (first c)) .pre .0) (stage .0), bounded-on (entry (begun (first c)) .pre .0) (stage .0) (entry (begun (first c)) .pre .1), (λ h. omega (arith, stage .1, begun (first c) .least-of-two .ensures)), c .before .before .before .before .front-of .ensures)
 
 blank-bytes-requires-2 : tie.Need-blank-bytes-requires-2
 blank-bytes-requires-2 c κs =
-    let second : tie.After-blank-blocks = c .before .before .before .before .before .before .before .before .before in
-    let r = entry (begun second) .pre .0 in
-    (blankable-on r (blanked-on r (begun second .blank-bytes .ensures .0) (second .blank-blocks .ensures)), omega arith)
-
-abbrev last : tie.After-slice-known12 → tie.After-blank-bytes2
-last c = c .before .before .before .before .before .before
+    let r = entry (begun (first (second c .before))) .pre .0 in
+    (blankable-on r (blanked-on r (first (second c .before) .blank-bytes .ensures .0) (second c .blank-blocks .ensures)), omega arith)
 
 returns : tie.Need-returns
 returns c =
-    let second : tie.After-blank-blocks = last c .before .before .before .before .before .before .before .before .before .before in
-    let r = entry (begun second) .pre .0 in
-    all-laid r (blanked-on r (blanked-on r (begun second .blank-bytes .ensures .0) (second .blank-blocks .ensures)) (last c .blank-bytes2 .ensures .0)) (last c .blank-bytes2 .ensures .1)
+    let last = c .before .before .before .before .before .before in
+    let r = entry (begun (first (second (last .before) .before))) .pre .0 in
+    all-laid r (blanked-on r (blanked-on r (first (second (last .before) .before) .blank-bytes .ensures .0) (second (last .before) .blank-blocks .ensures)) (last .blank-bytes2 .ensures .0)) (last .blank-bytes2 .ensures .1)
 
 pub blank-spec : {M : Type 1} → statement M
 blank-spec =
@@ -45,7 +45,7 @@ blank-spec =
     (λ c. search needs)
     blank-blocks-requires
     blank-bytes-requires-2
-    (λ c. let second : tie.After-blank-blocks = last c .before .before .before .before .before .before .before .before .before .before in last c .blank-bytes2 .ensures .0 .text-on .same ∙ second .blank-blocks .ensures .text-on .same ∙ begun second .blank-bytes .ensures .0 .text-on .same)
-    (λ c. let second : tie.After-blank-blocks = last c .before .before .before .before .before .before .before .before .before .before in last c .blank-bytes2 .ensures .0 .starts-on .same ∙ second .blank-blocks .ensures .starts-on .same ∙ begun second .blank-bytes .ensures .0 .starts-on .same)
-    (λ c. let second : tie.After-blank-blocks = last c .before .before .before .before .before .before .before .before .before .before in last c .blank-bytes2 .ensures .0 .ends-on .same ∙ second .blank-blocks .ensures .ends-on .same ∙ begun second .blank-bytes .ensures .0 .ends-on .same)
+    (λ c. let last = c .before .before .before .before .before .before in last .blank-bytes2 .ensures .0 .text-on .same ∙ second (last .before) .blank-blocks .ensures .text-on .same ∙ first (second (last .before) .before) .blank-bytes .ensures .0 .text-on .same)
+    (λ c. let last = c .before .before .before .before .before .before in last .blank-bytes2 .ensures .0 .starts-on .same ∙ second (last .before) .blank-blocks .ensures .starts-on .same ∙ first (second (last .before) .before) .blank-bytes .ensures .0 .starts-on .same)
+    (λ c. let last = c .before .before .before .before .before .before in last .blank-bytes2 .ensures .0 .ends-on .same ∙ second (last .before) .blank-blocks .ensures .ends-on .same ∙ first (second (last .before) .before) .blank-bytes .ensures .0 .ends-on .same)
     returns)

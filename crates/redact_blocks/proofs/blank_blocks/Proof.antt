@@ -15,81 +15,88 @@ Inv-loop text most literal front content filler margin until from base out₀ ou
 abbrev μ-loop : tie.MeasureT-loop
 μ-loop text most literal front content filler margin until from base out₀ out-starts₀ out-ends₀ first last wide i₀ gap₀ out out-starts out-ends i gap = length text - i
 
--- the places that others are told by: the entry, the turn's beginning, and where its block is laid
-abbrev Turn : Type 0
-Turn = tie.At-loop Inv-loop μ-loop
-
-abbrev Laid : Type 0
-Laid = tie.After-slice-known6 Inv-loop μ-loop
-
-abbrev entry : Turn → tie.Start Inv-loop μ-loop
+-- the places that others are told by: the entry, the turn's beginning, where its block is laid, and where it is known whether the literal stands there
+abbrev entry : tie.At-loop Inv-loop μ-loop → tie.Start Inv-loop μ-loop
 entry c = c .before .before .before .before .before .before .before .before .before .before .before
 
-abbrev turn : Laid → Turn
-turn c = c .before .before .before .before .before .before .before .before .before .before .before .before
+abbrev turn : tie.After-lay-ahead Inv-loop μ-loop → tie.At-loop Inv-loop μ-loop
+turn c = c .before .before .before .before .before .before
+
+abbrev ahead : tie.After-begins Inv-loop μ-loop → tie.After-lay-ahead Inv-loop μ-loop
+ahead c = c .before .before .before .before .before .before .before .before
+
+abbrev matched : tie.After-fill Inv-loop μ-loop → tie.Then3 Inv-loop μ-loop
+matched c = c .before .before .before .before
+
+abbrev unmatched : tie.After-lay-byte Inv-loop μ-loop → tie.Else3 Inv-loop μ-loop
+unmatched c = c .before .before .before .before
+
+-- behind what is laid there is a byte, and room for the literal
+inside : (c : tie.After-lay-ahead Inv-loop μ-loop) → turn c .loop .i + c .lay-ahead .result + length (entry (turn c) .args .literal .now) + 16 ≤ length (entry (turn c) .args .text .now)
+inside c = omega (arith, entry (turn c) .pre .1 .window, c .before .before .before .before .before .loop-test .taken, c .lay-ahead .ensures .most)
 
 lay-ahead-requires : tie.Need-lay-ahead-requires Inv-loop μ-loop
 lay-ahead-requires c κs =
-    let e = entry (c .before .before .before .before .before) in
-    block-room (e .pre .0) (c .before .before .before .before .before .loop .inv .1) (e .pre .1) (c .before .before .before .before .loop-test .taken) (c .before .before .before .if1 .left) (e .pre .2) refl refl
+    let turn = c .before .before .before .before .before in
+    block-room (entry turn .pre .0) (turn .loop .inv .1) (entry turn .pre .1) (c .before .before .before .before .loop-test .taken) (c .before .before .before .if1 .left) (entry turn .pre .2) refl refl
 
 begins-requires : tie.Need-begins-requires Inv-loop μ-loop
 begins-requires c κs =
-    let e = entry (turn (c .before)) in
+    let ahead = c .before .before .before .before .before .before .before in
     record {
-      of-literal = e .pre .3;
-      block = omega (arith, e .pre .1 .window, c .before .before .before .before .before .before .before .before .before .before .before .before .loop-test .taken, c .before .before .before .before .before .before .before .lay-ahead .ensures .most);
-      some = e .pre .0 .some;
-      inside = omega (arith, e .pre .1 .window, c .before .before .before .before .before .before .before .before .before .before .before .before .loop-test .taken, c .before .before .before .before .before .before .before .lay-ahead .ensures .most);
+      of-literal = entry (turn ahead) .pre .3;
+      block = omega (arith, inside ahead);
+      some = entry (turn ahead) .pre .0 .some;
+      inside = omega (arith, inside ahead);
     }
 
 fill-requires : tie.Need-fill-requires Inv-loop μ-loop
 fill-requires c κs =
-    let laid : Laid = c .before .before .before .before .before .before in
-    let e = entry (turn laid) in
-    let on = turned (e .pre .0) (turn laid .loop .inv .1) (e .pre .1) (laid .before .before .before .before .before .before .before .before .before .before .before .loop-test .taken) (laid .before .before .before .before .before .before .before .before .before .before .if1 .left) (laid .before .before .before .before .before .before .lay-ahead .ensures) in
-    let fits = block-within (e .pre .0) (turn laid .loop .inv .1) (e .pre .1) (laid .before .before .before .before .before .before .before .before .before .before .before .loop-test .taken) (laid .before .before .before .before .before .before .before .before .before .before .if1 .left) in
-    match-room (e .pre .0) on (sym (c .before .before .before .before .begins .ensures) ∙ c .before .before .before .if3 .taken) (e .pre .1 .filler-long) (omega (arith, fits, laid .before .before .before .before .before .before .lay-ahead .ensures .most))
+    let judged = c .before .before .before .before in
+    let turn = turn (ahead judged) in
+    let on = turned (entry turn .pre .0) (turn .loop .inv .1) (entry turn .pre .1) (ahead judged .before .before .before .before .before .loop-test .taken) (ahead judged .before .before .before .before .if1 .left) (ahead judged .lay-ahead .ensures) in
+    let fits = block-within (entry turn .pre .0) (turn .loop .inv .1) (entry turn .pre .1) (ahead judged .before .before .before .before .before .loop-test .taken) (ahead judged .before .before .before .before .if1 .left) in
+    match-room (entry turn .pre .0) on (sym (judged .begins .ensures) ∙ c .before .before .before .if3 .taken) (entry turn .pre .1 .filler-long) (omega (arith, fits, ahead judged .lay-ahead .ensures .most))
 
 add-gap-2 : tie.Need-add-gap-2 Inv-loop μ-loop
 add-gap-2 c =
-    let laid : Laid = c .before .before .before .before .before .before .before .before .before .before .before .before .before in
-    let e = entry (turn laid) in
-    let on = turned (e .pre .0) (turn laid .loop .inv .1) (e .pre .1) (laid .before .before .before .before .before .before .before .before .before .before .before .loop-test .taken) (laid .before .before .before .before .before .before .before .before .before .before .if1 .left) (laid .before .before .before .before .before .before .lay-ahead .ensures) in
-    omega (arith, match-within (e .pre .0) on (sym (c .before .before .before .before .before .before .before .before .before .before .before .begins .ensures) ∙ c .before .before .before .before .before .before .before .before .before .before .if3 .taken), blanked-size (e .pre .0) (turn laid .loop .inv .1), e .pre .0 .within, e .pre .0 .short)
+    let filled = c .before .before .before .before .before .before in
+    let turn = turn (ahead (matched filled .before)) in
+    let on = turned (entry turn .pre .0) (turn .loop .inv .1) (entry turn .pre .1) (ahead (matched filled .before) .before .before .before .before .before .loop-test .taken) (ahead (matched filled .before) .before .before .before .before .if1 .left) (ahead (matched filled .before) .lay-ahead .ensures) in
+    omega (arith, match-within (entry turn .pre .0) on (sym (matched filled .before .begins .ensures) ∙ matched filled .if3 .taken), blanked-size (entry turn .pre .0) (turn .loop .inv .1), entry turn .pre .0 .within, entry turn .pre .0 .short)
 
 loop-again : tie.Need-loop-again Inv-loop μ-loop
 loop-again c =
-    let laid : Laid = c .before .before .before .before .before .before .before .before .before .before .before .before .before in
-    let e = entry (turn laid) in
-    let on = turned (e .pre .0) (turn laid .loop .inv .1) (e .pre .1) (laid .before .before .before .before .before .before .before .before .before .before .before .loop-test .taken) (laid .before .before .before .before .before .before .before .before .before .before .if1 .left) (laid .before .before .before .before .before .before .lay-ahead .ensures) in
-    let fits = block-within (e .pre .0) (turn laid .loop .inv .1) (e .pre .1) (laid .before .before .before .before .before .before .before .before .before .before .before .loop-test .taken) (laid .before .before .before .before .before .before .before .before .before .before .if1 .left) in (
-      omega (arith, turn laid .loop .inv .0, e .pre .1 .window, laid .before .before .before .before .before .before .before .before .before .before .before .loop-test .taken),
-      more-match (e .pre .0) on (sym (c .before .before .before .before .before .before .before .before .before .before .before .begins .ensures) ∙ c .before .before .before .before .before .before .before .before .before .before .if3 .taken) (e .pre .1 .filler-is) (omega (arith, fits, laid .before .before .before .before .before .before .lay-ahead .ensures .most)) (c .before .before .before .before .before .before .fill .ensures) refl (omega (arith, turn laid .loop .inv .0, e .pre .1 .window, laid .before .before .before .before .before .before .before .before .before .before .before .loop-test .taken)),
+    let filled = c .before .before .before .before .before .before in
+    let ahead = ahead (matched filled .before) in
+    let turn = turn ahead in
+    let on = turned (entry turn .pre .0) (turn .loop .inv .1) (entry turn .pre .1) (ahead .before .before .before .before .before .loop-test .taken) (ahead .before .before .before .before .if1 .left) (ahead .lay-ahead .ensures) in
+    let fits = block-within (entry turn .pre .0) (turn .loop .inv .1) (entry turn .pre .1) (ahead .before .before .before .before .before .loop-test .taken) (ahead .before .before .before .before .if1 .left) in (
+      omega (arith, turn .loop .inv .0, entry turn .pre .1 .window, ahead .before .before .before .before .before .loop-test .taken),
+      more-match (entry turn .pre .0) on (sym (matched filled .before .begins .ensures) ∙ matched filled .if3 .taken) (entry turn .pre .1 .filler-is) (omega (arith, fits, ahead .lay-ahead .ensures .most)) (filled .fill .ensures) refl (omega (arith, turn .loop .inv .0, entry turn .pre .1 .window, ahead .before .before .before .before .before .loop-test .taken)),
     )
 
 lay-byte-requires : tie.Need-lay-byte-requires Inv-loop μ-loop
 lay-byte-requires c κs =
-    let laid : Laid = c .before .before .before .before .before .before in
-    let e = entry (turn laid) in
-    let on = turned (e .pre .0) (turn laid .loop .inv .1) (e .pre .1) (laid .before .before .before .before .before .before .before .before .before .before .before .loop-test .taken) (laid .before .before .before .before .before .before .before .before .before .before .if1 .left) (laid .before .before .before .before .before .before .lay-ahead .ensures) in
-    byte-room (e .pre .0) on (omega (arith, e .pre .1 .window, laid .before .before .before .before .before .before .before .before .before .before .before .loop-test .taken, laid .before .before .before .before .before .before .lay-ahead .ensures .most)) (sym (c .before .before .before .before .begins .ensures) ∙ c .before .before .before .if3 .left)
+    let ahead = ahead (c .before .before .before .before) in
+    let on = turned (entry (turn ahead) .pre .0) (turn ahead .loop .inv .1) (entry (turn ahead) .pre .1) (ahead .before .before .before .before .before .loop-test .taken) (ahead .before .before .before .before .if1 .left) (ahead .lay-ahead .ensures) in
+    byte-room (entry (turn ahead) .pre .0) on (omega (arith, inside ahead)) (sym (c .before .before .before .before .begins .ensures) ∙ c .before .before .before .if3 .left)
 
 loop-again-2 : tie.Need-loop-again-2 Inv-loop μ-loop
 loop-again-2 c =
-    let laid : Laid = c .before .before .before .before .before .before .before .before .before .before .before .before .before in
-    let e = entry (turn laid) in
-    let on = turned (e .pre .0) (turn laid .loop .inv .1) (e .pre .1) (laid .before .before .before .before .before .before .before .before .before .before .before .loop-test .taken) (laid .before .before .before .before .before .before .before .before .before .before .if1 .left) (laid .before .before .before .before .before .before .lay-ahead .ensures) in
-    let away = byte-away (e .pre .0) on (omega (arith, e .pre .1 .window, laid .before .before .before .before .before .before .before .before .before .before .before .loop-test .taken, laid .before .before .before .before .before .before .lay-ahead .ensures .most)) (sym (c .before .before .before .before .before .before .before .before .before .before .before .begins .ensures) ∙ c .before .before .before .before .before .before .before .before .before .before .if3 .left) in
-    (omega (arith, turn laid .loop .inv .0), more-bytes (e .pre .0) on 1 away (omega arith) (c .before .before .before .before .before .before .lay-byte .ensures) refl (omega (arith, turn laid .loop .inv .0)))
+    let laid = c .before .before .before .before .before .before in
+    let judged = unmatched laid .before in
+    let turn = turn (ahead judged) in
+    let on = turned (entry turn .pre .0) (turn .loop .inv .1) (entry turn .pre .1) (ahead judged .before .before .before .before .before .loop-test .taken) (ahead judged .before .before .before .before .if1 .left) (ahead judged .lay-ahead .ensures) in
+    let away = byte-away (entry turn .pre .0) on (omega (arith, inside (ahead judged))) (sym (judged .begins .ensures) ∙ unmatched laid .if3 .left) in
+    (omega (arith, turn .loop .inv .0), more-bytes (entry turn .pre .0) on 1 away (omega arith) (laid .lay-byte .ensures) refl (omega (arith, turn .loop .inv .0)))
 
 loop-again-3 : tie.Need-loop-again-3 Inv-loop μ-loop
 loop-again-3 c =
-    let laid : Laid = c .before in
-    let e = entry (turn laid) in
-    let passed = laid .before .before .before .before .before .before .lay-ahead .ensures in
-    let fits = block-within (e .pre .0) (turn laid .loop .inv .1) (e .pre .1) (laid .before .before .before .before .before .before .before .before .before .before .before .loop-test .taken) (laid .before .before .before .before .before .before .before .before .before .before .if1 .left) in
-    (omega (arith, turn laid .loop .inv .0), more-bytes (e .pre .0) (turn laid .loop .inv .1) _ (passed .away) (omega (arith, fits)) (passed .stretch) refl (omega (arith, turn laid .loop .inv .0)))
+    let ahead = c .before .before .before .before .before .before .before in
+    let passed = ahead .lay-ahead .ensures in
+    let fits = block-within (entry (turn ahead) .pre .0) (turn ahead .loop .inv .1) (entry (turn ahead) .pre .1) (ahead .before .before .before .before .before .loop-test .taken) (ahead .before .before .before .before .if1 .left) in
+    (omega (arith, turn ahead .loop .inv .0), more-bytes (entry (turn ahead) .pre .0) (turn ahead .loop .inv .1) _ (passed .away) (omega (arith, fits)) (passed .stretch) refl (omega (arith, turn ahead .loop .inv .0)))
 
 pub blank-blocks-spec : {M : Type 1} → statement M
 blank-blocks-spec =
@@ -112,20 +119,20 @@ blank-blocks-spec =
     (λ c. c .before .before .loop .inv .1 .ends-on .same)
     (λ c. c .before .before .loop .inv .1)
     lay-ahead-requires
-    (λ c. omega (arith, c .before .before .before .before .before .before .lay-ahead .ensures .away .most, entry (turn c) .pre .0 .short))
-    (λ c. let e = entry (turn (c .before)) in omega (arith, c .before .before .before .before .before .before .before .lay-ahead .ensures .most, blanked-size (e .pre .0) (turn (c .before) .loop .inv .1), e .pre .0 .within))
+    (λ c. omega (arith, c .before .before .before .before .before .before .lay-ahead .ensures .away .most, entry (turn (c .before .before .before .before .before .before)) .pre .0 .short))
+    (λ c. let ahead = c .before .before .before .before .before .before .before in omega (arith, ahead .lay-ahead .ensures .most, blanked-size (entry (turn ahead) .pre .0) (turn ahead .loop .inv .1), entry (turn ahead) .pre .0 .within))
     begins-requires
-    (λ c. let e = entry (turn (c .before .before .before)) in omega (arith, e .pre .1 .window, c .before .before .before .before .before .before .before .before .before .before .before .before .before .before .loop-test .taken, c .before .before .before .before .before .before .before .before .before .lay-ahead .ensures .most, e .pre .0 .short))
+    (λ c. omega (arith, inside (ahead (c .before)), entry (turn (ahead (c .before))) .pre .0 .short))
     fill-requires
     add-gap-2
-    (λ c. omega (arith, turn (c .before .before .before .before .before .before .before .before .before .before .before .before .before) .loop .inv .0, entry (turn (c .before .before .before .before .before .before .before .before .before .before .before .before .before)) .pre .1 .window, c .before .before .before .before .before .before .before .before .before .before .before .before .before .before .before .before .before .before .before .before .before .before .before .before .loop-test .taken))
-    (λ c. let e = entry (turn (c .before .before .before .before .before .before .before .before .before .before .before .before .before)) in omega (arith, e .pre .0 .some, e .pre .1 .window, c .before .before .before .before .before .before .before .before .before .before .before .before .before .before .before .before .before .before .before .before .before .before .before .before .loop-test .taken, c .before .before .before .before .before .before .before .before .before .before .before .before .before .before .before .before .before .before .before .lay-ahead .ensures .most))
+    (λ c. let filled = c .before .before .before .before .before .before in omega (arith, turn (ahead (matched filled .before)) .loop .inv .0, entry (turn (ahead (matched filled .before))) .pre .1 .window, ahead (matched filled .before) .before .before .before .before .before .loop-test .taken))
+    (λ c. let filled = c .before .before .before .before .before .before in omega (arith, entry (turn (ahead (matched filled .before))) .pre .0 .some, inside (ahead (matched filled .before))))
     loop-again
     lay-byte-requires
-    (λ c. let e = entry (turn (c .before .before .before .before .before .before .before .before .before .before .before .before .before)) in omega (arith, e .pre .1 .window, c .before .before .before .before .before .before .before .before .before .before .before .before .before .before .before .before .before .before .before .before .before .before .before .before .loop-test .taken, c .before .before .before .before .before .before .before .before .before .before .before .before .before .before .before .before .before .before .before .lay-ahead .ensures .most, e .pre .0 .short))
-    (λ c. omega (arith, entry (turn (c .before .before .before .before .before .before .before .before .before .before .before .before .before)) .pre .1 .window, c .before .before .before .before .before .before .before .before .before .before .before .before .before .before .before .before .before .before .before .before .before .before .before .before .loop-test .taken, c .before .before .before .before .before .before .before .before .before .before .before .before .before .before .before .before .before .before .before .lay-ahead .ensures .most))
+    (λ c. let laid = c .before .before .before .before .before .before in omega (arith, inside (ahead (unmatched laid .before)), entry (turn (ahead (unmatched laid .before))) .pre .0 .short))
+    (λ c. let laid = c .before .before .before .before .before .before in omega (arith, inside (ahead (unmatched laid .before))))
     loop-again-2
-    (λ c. omega (arith, c .before .before .before .before .before .before .before .lay-ahead .ensures .away .most, c .if2 .left, entry (turn (c .before)) .pre .1 .window, c .before .before .before .before .before .before .before .before .before .before .before .before .loop-test .taken))
+    (λ c. let ahead = c .before .before .before .before .before .before .before in omega (arith, ahead .lay-ahead .ensures .away .most, c .if2 .left, entry (turn ahead) .pre .1 .window, ahead .before .before .before .before .before .loop-test .taken))
     loop-again-3
     (λ c. let r = entry (c .before) .pre .0 in omega (arith, blanked-size r (c .before .loop .inv .1), r .within, r .short))
     (λ c. c .before .loop .inv .0)

@@ -1,21 +1,36 @@
 -- What stands before the candidate is the front of the block.
-use mathlib.Core.Path.{refl}
+use Prim.Native.Nat.{ℕ}
+use mathlib.Core.Path.{_≡_, refl}
+use mathlib.Core.List.{List}
 use native.Mathlib.Omega.{arith}
 use borrow.Author.Needs.{needs}
+use Rattle.find.specs.Searching.{Candidate}
 use Rattle.find.proofs.Candidates.{absent-none, absent-block}
 use Rattle.redact_blocks.proofs.Keeping.{stretch-front}
 use Rattle.redact_blocks.proofs.Blanks.{passed-none}
 use Rattle.redact_blocks.proofs.lay_ahead.Statement.{statement}
 use Rattle.redact_blocks.proofs.lay_ahead.Tie as tie
 
+-- the places that others are told by: the entry, where the candidate is found, and where the block is laid
+abbrev entry : tie.After-candidate → tie.Start
+entry c = c .before .before .before .before .before .before .before .before
+
+abbrev found : tie.After-lay-block → tie.After-candidate
+found c = c .before .before .before .before .before
+
+-- a candidate by the literal's ends
+by-ends : {a b : List ℕ} {first last f l n r : ℕ} → first ≡ f → last ≡ l → Candidate a b first last n r → Candidate a b f l n r
+by-ends p q k = rw (p, q) at k
+
 returns-2 : tie.Need-returns-2
 returns-2 c =
-    let r = c .before .before .before .before .before .before .before .before .before .before .before .before .before .before .before .before .before .before .before .pre in
-    let found = c .before .before .before .before .before .before .before .before .before .before .before .candidate .ensures in
+    let laid = c .before .before .before .before .before .before in
+    let r = entry (found laid) .pre in
+    let found = found laid .candidate .ensures in
     record {
       most = found .most;
-      away = absent-block _ _ _ (r .some) refl refl _ (absent-none (omega (arith, r .high))) (rw (r .first-is, r .last-is) at found) (found .most) (omega arith) (omega (arith, r .high, found .most));
-      stretch = stretch-front _ (found .most) (r .room) (c .before .before .before .before .before .before .lay-block .ensures);
+      away = absent-block _ _ _ (r .some) refl refl _ (absent-none (omega (arith, r .high))) (by-ends (r .first-is) (r .last-is) found) (found .most) (omega arith) (omega (arith, r .high, found .most));
+      stretch = stretch-front _ (found .most) (r .room) (laid .lay-block .ensures);
     }
 
 pub lay-ahead-spec : {M : Type 1} → statement M
@@ -33,8 +48,8 @@ lay-ahead-spec =
     (λ c. omega arith)
     (λ c. omega arith)
     (λ c κs. search needs)
-    (λ c. passed-none (omega (arith, c .before .before .before .before .before .before .before .before .before .pre .high)))
-    (λ c κs. ((c .before .before .before .before .before .before .before .before .before .before .before .before .pre .room, (c .before .before .before .before .before .before .before .before .before .before .before .before .pre .low, omega (arith, c .before .before .before .before .before .before .before .before .before .before .before .before .pre .high, c .before .before .before .before .before .before .before .before .before .before .before .before .pre .some))), c .before .before .before .before .before .before .before .before .before .before .before .before .pre .most-is))
+    (λ c. passed-none (omega (arith, entry (c .before) .pre .high)))
+    (λ c κs. let found = c .before .before .before .before in ((entry found .pre .room, (entry found .pre .low, omega (arith, entry found .pre .high, entry found .pre .some))), entry found .pre .most-is))
     (λ c. search needs)
     (λ c. search needs)
     (λ c. search needs)

@@ -5,6 +5,16 @@ use Rattle.redact_blocks.proofs.Keeping.{filler-laid, filler-first, fil
 use Rattle.redact_blocks.proofs.stretches.fill.Statement.{statement}
 use Rattle.redact_blocks.proofs.stretches.fill.Tie as tie
 
+-- the places that others are told by: the entry, where the content's characters are known, where its text is laid, and where the first column is filled
+abbrev entry : tie.After-char-end → tie.Start
+entry c = c .before .before .before .before .before .before .before
+
+abbrev told : tie.After-lay-content → tie.After-char-end
+told c = c .before .before
+
+abbrev laid : tie.After-fill-offsets-over → tie.After-lay-content
+laid c = c .before .before .before .before
+
 pub fill-spec : {M : Type 1} → statement M
 fill-spec =
     tie.close
@@ -14,7 +24,7 @@ fill-spec =
     (λ c. omega (arith, filler-first (c .before .before .before .before .before .before .pre) (c .char-start .ensures)))
     (λ c. search needs)
     (λ c κs. search needs)
-    (λ c. let small = filler-small (c .before .before .before .before .before .before .before .pre) (c .before .char-start .ensures) (c .char-end .ensures) in omega (arith, small))
+    (λ c. let small = filler-small (entry c .pre) (c .before .char-start .ensures) (c .char-end .ensures) in omega (arith, small))
     (λ c. search needs)
     (λ c κs. search needs)
     (λ c. search needs)
@@ -24,4 +34,4 @@ fill-spec =
     (λ c. search needs)
     (λ c. search needs)
     (λ c. search needs)
-    (λ c. filler-laid (c .before .before .before .before .before .before .before .before .before .before .before .before .before .before .before .before .before .before .before .pre) (c .before .before .before .before .before .before .before .before .before .before .before .before .before .char-start .ensures) (c .before .before .before .before .before .before .before .before .before .before .before .before .char-end .ensures) (c .before .before .before .before .before .before .before .before .before .before .lay-content .ensures) (c .before .before .before .before .before .before .fill-offsets-over .ensures) (c .before .before .fill-offsets-over2 .ensures)))
+    (λ c. let started = c .before .before .before .before .before .before in let laid = laid started in filler-laid (entry (told laid) .pre) (told laid .before .char-start .ensures) (told laid .char-end .ensures) (laid .lay-content .ensures) (started .fill-offsets-over .ensures) (c .before .before .fill-offsets-over2 .ensures)))

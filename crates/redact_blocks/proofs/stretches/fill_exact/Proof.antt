@@ -5,6 +5,16 @@ use Rattle.redact_blocks.proofs.Keeping.{filler-exact, filler-first, fi
 use Rattle.redact_blocks.proofs.stretches.fill_exact.Statement.{statement}
 use Rattle.redact_blocks.proofs.stretches.fill_exact.Tie as tie
 
+-- the places that others are told by: the entry, where the content's characters are known, where its text is copied, and where the first column is filled
+abbrev entry : tie.After-char-end → tie.Start
+entry c = c .before .before .before .before .before .before .before
+
+abbrev told : tie.After-copy-bytes → tie.After-char-end
+told c = c .before .before
+
+abbrev copied : tie.After-fill-offsets → tie.After-copy-bytes
+copied c = c .before .before .before .before
+
 pub fill-exact-spec : {M : Type 1} → statement M
 fill-exact-spec =
     tie.close
@@ -14,11 +24,11 @@ fill-exact-spec =
     (λ c. omega (arith, filler-first (c .before .before .before .before .before .before .pre) (c .char-start .ensures)))
     (λ c. search needs)
     (λ c κs. search needs)
-    (λ c. let small = filler-small (c .before .before .before .before .before .before .before .pre) (c .before .char-start .ensures) (c .char-end .ensures) in omega (arith, small))
+    (λ c. let small = filler-small (entry c .pre) (c .before .char-start .ensures) (c .char-end .ensures) in omega (arith, small))
     (λ c κs. search needs)
     (λ c κs. search needs)
     (λ c κs. search needs)
     (λ c. search needs)
     (λ c. search needs)
     (λ c. search needs)
-    (λ c. filler-exact (c .before .before .before .before .before .before .before .before .before .before .before .before .before .before .before .before .before .before .before .pre) (c .before .before .before .before .before .before .before .before .before .before .before .before .before .char-start .ensures) (c .before .before .before .before .before .before .before .before .before .before .before .before .char-end .ensures) (c .before .before .before .before .before .before .before .before .before .before .copy-bytes .ensures) (c .before .before .before .before .before .before .fill-offsets .ensures) (c .before .before .fill-offsets2 .ensures)))
+    (λ c. let started = c .before .before .before .before .before .before in let copied = copied started in filler-exact (entry (told copied) .pre) (told copied .before .char-start .ensures) (told copied .char-end .ensures) (copied .copy-bytes .ensures) (started .fill-offsets .ensures) (c .before .before .fill-offsets2 .ensures)))
