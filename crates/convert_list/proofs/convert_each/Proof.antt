@@ -18,49 +18,58 @@ Inv-loop starts ends side from to numbers₀ out-starts₀ out-ends₀ len i₀ 
 abbrev μ-loop : tie.MeasureT-loop
 μ-loop starts ends side from to numbers₀ out-starts₀ out-ends₀ len i₀ numbers out-starts out-ends i = length from - i
 
-fill-bytes-requires : tie.Need-fill-bytes-requires Inv-loop μ-loop
-fill-bytes-requires c κs = omega (arith, c .before .before .before .before .before .before .before .before .pre .1 .of-numbers)
+-- the places that others are told by: the entry, where the numbers are zero, the turn's beginning, and where it is known whether all of its ranges expand
+abbrev entry : tie.After-fill-bytes Inv-loop μ-loop → tie.Start Inv-loop μ-loop
+entry c = c .before .before .before .before .before .before .before .before .before
+
+abbrev filled : tie.At-loop Inv-loop μ-loop → tie.After-fill-bytes Inv-loop μ-loop
+filled c = c .before .before .before .before
+
+abbrev turn : tie.After-all-expand Inv-loop μ-loop → tie.At-loop Inv-loop μ-loop
+turn c = c .before .before .before .before .before
+
+abbrev mixed : tie.After-convert-between Inv-loop μ-loop → tie.Else1 Inv-loop μ-loop
+mixed c = c .before .before .before .before
+
+abbrev expanding : tie.After-expand-block Inv-loop μ-loop → tie.Then1 Inv-loop μ-loop
+expanding c = c .before .before .before .before .before
 
 cast-len : tie.Need-cast-len Inv-loop μ-loop
 cast-len c =
-    let entry = c .before .before .before .before .before .before .before .before .before .before .before .before in
-    omega (arith, c .expandable .ensures, expandable-most (entry .args .side) (length (entry .args .ends .now)), entry .pre .0 .few)
-
-loop-holds : tie.Need-loop-holds Inv-loop μ-loop
-loop-holds c = none-answered _ (c .before .before .before .before .before .before .before .before .before .before .before .before .pre .1 .of-numbers) (c .before .before .before .fill-bytes .ensures)
+    omega (arith, c .expandable .ensures, expandable-most (entry (c .before .before .before) .args .side) (length (entry (c .before .before .before) .args .ends .now)), entry (c .before .before .before) .pre .0 .few)
 
 expand-block-requires : tie.Need-expand-block-requires Inv-loop μ-loop
 expand-block-requires c κs =
-    let head = c .before .before .before .before .before .before .before .before .before .before in
-    let entry = head .before .before .before .before .before .before .before .before .before .before .before .before .before in
-    let filled = head .before .before .before .before in
-    let room = zeroed-room _ (entry .pre .1) (filled .fill-bytes .ensures) in
-    readable (entry .args .side) (entry .pre .0) (between room (head .loop .inv) (c .before .before .before .before .before .before .before .before .before .loop-test .taken) (c .before .before .before .before .before .before .before .before .least-of-two .ensures)) (head .before .expandable .ensures) (c .before .before .before .before .before .all-expand .ensures (c .before .before .before .before .if1 .taken))
+    let judged = c .before .before .before .before .before in
+    let turn = turn judged in
+    let room = zeroed-room _ (entry (filled turn) .pre .1) (filled turn .fill-bytes .ensures) in
+    readable (entry (filled turn) .args .side) (entry (filled turn) .pre .0) (between room (turn .loop .inv) (judged .before .before .before .before .loop-test .taken) (judged .before .before .before .least-of-two .ensures)) (turn .before .expandable .ensures) (judged .all-expand .ensures (c .before .before .before .before .if1 .taken))
 
 convert-between-requires : tie.Need-convert-between-requires Inv-loop μ-loop
 convert-between-requires c κs =
-    let head = c .before .before .before .before .before .before .before .before .before in
-    let entry = head .before .before .before .before .before .before .before .before .before .before .before .before .before in
-    let room = zeroed-room _ (entry .pre .1) (head .before .before .before .before .fill-bytes .ensures) in
-    (entry .pre .0, between room (head .loop .inv) (c .before .before .before .before .before .before .before .before .loop-test .taken) (c .before .before .before .before .before .before .before .least-of-two .ensures))
+    let mixed = c .before .before .before in
+    let turn = turn (mixed .before) in
+    let room = zeroed-room _ (entry (filled turn) .pre .1) (filled turn .fill-bytes .ensures) in
+    (entry (filled turn) .pre .0, between room (turn .loop .inv) (mixed .before .before .before .before .before .loop-test .taken) (mixed .before .before .before .before .least-of-two .ensures))
 
 loop-again : tie.Need-loop-again Inv-loop μ-loop
 loop-again c =
-    let head = c .before .before .before .before .before .before .before .before .before .before .before .before .before .before .before in
-    let entry = head .before .before .before .before .before .before .before .before .before .before .before .before .before in
-    let room = zeroed-room _ (entry .pre .1) (head .before .before .before .before .fill-bytes .ensures) in
-    let some = c .before .before .before .before .before .before .before .before .before .before .before .before .before .before .loop-test .taken in
-    let up-to = c .before .before .before .before .before .before .before .before .before .before .before .before .before .least-of-two .ensures in
-    let so = c .before .before .before .before .before .before .before .before .before .before .all-expand .ensures (c .before .before .before .before .before .before .before .before .before .if1 .taken) in
-    more-answered room (head .loop .inv) some up-to
-    (block-answered room (head .loop .inv) some up-to _ _ (reads (entry .args .side) (entry .pre .0) (between room (head .loop .inv) some up-to) (head .before .expandable .ensures) so) (c .before .before .before .before .expand-block .ensures))
+    let expanded = c .before .before .before .before in
+    let judged = expanding expanded .before in
+    let turn = turn judged in
+    let room = zeroed-room _ (entry (filled turn) .pre .1) (filled turn .fill-bytes .ensures) in
+    let some = judged .before .before .before .before .loop-test .taken in
+    let up-to = judged .before .before .before .least-of-two .ensures in
+    let so = judged .all-expand .ensures (expanding expanded .if1 .taken) in
+    more-answered room (turn .loop .inv) some up-to
+    (block-answered room (turn .loop .inv) some up-to _ _ (reads (entry (filled turn) .args .side) (entry (filled turn) .pre .0) (between room (turn .loop .inv) some up-to) (turn .before .expandable .ensures) so) (expanded .expand-block .ensures))
 
 loop-again-2 : tie.Need-loop-again-2 Inv-loop μ-loop
 loop-again-2 c =
-    let head = c .before .before .before .before .before .before .before .before .before .before .before .before .before .before .before .before in
-    let entry = head .before .before .before .before .before .before .before .before .before .before .before .before .before in
-    let room = zeroed-room _ (entry .pre .1) (head .before .before .before .before .fill-bytes .ensures) in
-    more-answered room (head .loop .inv) (c .before .before .before .before .before .before .before .before .before .before .before .before .before .before .before .loop-test .taken) (c .before .before .before .before .before .before .before .before .before .before .before .before .before .before .least-of-two .ensures) (c .before .before .before .before .before .before .convert-between .ensures)
+    let converted = c .before .before .before .before .before .before in
+    let judged = mixed converted .before in
+    let room = zeroed-room _ (entry (filled (turn judged)) .pre .1) (filled (turn judged) .fill-bytes .ensures) in
+    more-answered room (turn judged .loop .inv) (judged .before .before .before .before .loop-test .taken) (judged .before .before .before .least-of-two .ensures) (converted .convert-between .ensures)
 
 pub convert-each-spec : {M : Type 1} → statement M
 convert-each-spec =
@@ -68,10 +77,10 @@ convert-each-spec =
     (tie.spec
     Inv-loop
     μ-loop
-    fill-bytes-requires
+    (λ c κs. omega (arith, c .before .before .before .before .before .before .before .before .pre .1 .of-numbers))
     (λ c κs. search needs)
     cast-len
-    loop-holds
+    (λ c. none-answered _ (entry (c .before .before .before) .pre .1 .of-numbers) (c .before .before .before .fill-bytes .ensures))
     (λ c. omega arith)
     (λ c κs. search needs)
     (λ c. omega arith)
@@ -81,8 +90,8 @@ convert-each-spec =
     (λ c. omega arith)
     (λ c. omega arith)
     (λ c. omega arith)
-    (λ c. omega (arith, c .before .before .before .before .before .before .before .before .before .before .before .before .before .before .before .before .pre .1 .same))
-    (λ c κs. simp (length-take, length-drop) (omega (arith, c .before .before .before .before .before .before .before .before .before .before .before .before .before .before .before .before .before .pre .1 .same)))
+    (λ c. omega (arith, entry (filled (c .before .before .before)) .pre .1 .same))
+    (λ c κs. simp (length-take, length-drop) (omega (arith, entry (filled (c .before .before .before .before)) .pre .1 .same)))
     (λ c. omega arith)
     (λ c. omega arith)
     (λ c. omega arith)
@@ -90,14 +99,14 @@ convert-each-spec =
     (λ c. omega arith)
     (λ c. omega arith)
     (λ c. omega arith)
-    (λ c. omega (arith, c .before .before .before .before .before .before .before .before .before .before .before .before .before .before .before .before .before .before .before .before .pre .1 .same))
+    (λ c. omega (arith, entry (filled (turn (c .before .before))) .pre .1 .same))
     expand-block-requires
     convert-between-requires
     (λ c. omega arith)
     loop-again
     (λ c. omega arith)
     loop-again-2
-    (λ c. let head = c .before in head .loop .inv .columns .first .same ∙ zeros-long _ _ (head .before .before .before .before .before .before .before .before .before .before .before .before .before .pre .1 .of-numbers) (head .before .before .before .before .fill-bytes .ensures))
+    (λ c. c .before .loop .inv .columns .first .same ∙ zeros-long _ _ (entry (filled (c .before)) .pre .1 .of-numbers) (filled (c .before) .fill-bytes .ensures))
     (λ c. c .before .loop .inv .columns .second .same)
     (λ c. c .before .loop .inv .columns .third .same)
-    (λ c. let head = c .before in all-answered (head .before .before .before .before .before .before .before .before .before .before .before .before .before .pre .1) (head .before .before .before .before .fill-bytes .ensures) (head .loop .inv) (c .loop-test .left)))
+    (λ c. all-answered (entry (filled (c .before)) .pre .1) (filled (c .before) .fill-bytes .ensures) (c .before .loop .inv) (c .loop-test .left)))

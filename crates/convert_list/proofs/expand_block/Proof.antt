@@ -14,22 +14,26 @@ Inv-loop starts ends from to at out-starts₀ out-ends₀ i₀ out-starts out-en
 abbrev μ-loop : tie.MeasureT-loop
 μ-loop starts ends from to at out-starts₀ out-ends₀ i₀ out-starts out-ends i = length from - i
 
+-- the places that others are told by: the entry and the turn's beginning
+abbrev entry : tie.At-loop Inv-loop μ-loop → tie.Start Inv-loop μ-loop
+entry c = c .before .before .before .before .before .before .before
+
 first-start-requires : tie.Need-first-start-requires Inv-loop μ-loop
 first-start-requires c κs =
-    let known = c .before .before .before .before .before .before .before .before .before .pre in
+    let known = entry (c .before .before) .pre in
     let so = known .expanding .each _ (c .before .loop-test .taken) in
     omega (arith, known .paired, has-byte _ _ _ so, has-end _ _ _ so)
 
 last-end-requires : tie.Need-last-end-requires Inv-loop μ-loop
 last-end-requires c κs =
-    let known = c .before .before .before .before .before .before .before .before .before .before .before .pre in
+    let known = entry (c .before .before .before .before) .pre in
     let so = known .expanding .each _ (c .before .before .before .loop-test .taken) in
     (omega (arith, has-byte _ _ _ so), has-end _ _ _ so)
 
 loop-again : tie.Need-loop-again Inv-loop μ-loop
 loop-again c =
-    let head = c .before .before .before .before .before in
-    one-read (head .loop .inv) (head .before .before .before .before .before .before .before .pre) (c .before .before .before .before .loop-test .taken) (c .before .before .first-start .ensures) (c .last-end .ensures)
+    let turn = c .before .before .before .before .before in
+    one-read (turn .loop .inv) (entry turn .pre) (c .before .before .before .before .loop-test .taken) (c .before .before .first-start .ensures) (c .last-end .ensures)
 
 pub expand-block-spec : {M : Type 1} → statement M
 expand-block-spec =
@@ -41,15 +45,15 @@ expand-block-spec =
     (λ c. omega arith)
     (λ c. omega arith)
     first-start-requires
-    (λ c. omega (arith, c .before .before .before .before .before .before .before .before .before .before .pre .of-starts))
-    (λ c. omega (arith, c .before .before .before .before .before .before .before .before .before .before .pre .of-starts))
-    (λ c. omega (arith, c .before .before .before .before .before .before .before .before .before .before .pre .of-starts, c .before .before .before .loop .inv .starts-so .same))
+    (λ c. omega (arith, entry (c .before .before .before) .pre .of-starts))
+    (λ c. omega (arith, entry (c .before .before .before) .pre .of-starts))
+    (λ c. omega (arith, entry (c .before .before .before) .pre .of-starts, c .before .before .before .loop .inv .starts-so .same))
     (λ c. omega arith)
-    (λ c. omega (arith, c .before .before .before .before .before .before .before .before .before .before .before .pre .same))
+    (λ c. omega (arith, entry (c .before .before .before .before) .pre .same))
     last-end-requires
-    (λ c. omega (arith, c .before .before .before .before .before .before .before .before .before .before .before .before .pre .of-ends))
-    (λ c. omega (arith, c .before .before .before .before .before .before .before .before .before .before .before .before .pre .of-ends))
-    (λ c. omega (arith, c .before .before .before .before .before .before .before .before .before .before .before .before .pre .of-ends, c .before .before .before .before .before .loop .inv .ends-so .same))
+    (λ c. omega (arith, entry (c .before .before .before .before .before) .pre .of-ends))
+    (λ c. omega (arith, entry (c .before .before .before .before .before) .pre .of-ends))
+    (λ c. omega (arith, entry (c .before .before .before .before .before) .pre .of-ends, c .before .before .before .before .before .loop .inv .ends-so .same))
     (λ c. omega arith)
     (λ c. omega arith)
     loop-again

@@ -8,22 +8,30 @@ use Rattle.slice.proofs.Judged.{judged-note, judged-off, shiftable, jud
 use Rattle.slice.proofs.check_slice.Statement.{statement}
 use Rattle.slice.proofs.check_slice.Tie as tie
 
+-- the places that others are told by: the entry, where the range is valid, and where it is cut
+abbrev entry : tie.Else1 → tie.Start
+entry c = c .before .before .before .before .before .before .before .before .before
+
+abbrev test : tie.After-s → tie.Else1
+test c = c .before .before .before .before .before
+
 shifts : tie.Need-slice-of-requires
 shifts c κs =
     let test = c .before .before in
-    shiftable limit _ _ (c .before .before .before .before .before .before .before .before .before .before .before .args .room) (test .before .before .before .before .check-note .ensures) (test .before .before .enum-told .given .1) (test .before .validate-range .ensures) (not-false _ (test .if1 .left)) (c .before .as-original .ensures)
+    shiftable limit _ _ (entry test .args .room) (test .before .before .before .before .check-note .ensures) (test .before .before .enum-told .given .1) (test .before .validate-range .ensures) (not-false _ (test .if1 .left)) (c .before .as-original .ensures)
 
 forward : tie.Need-sub-if2
 forward c =
-    let test = c .before .before .before .before .before .before .before .before .before .before in
-    cut-forward limit _ _ (c .before .before .before .before .before .before .before .before .before .before .before .before .before .before .before .before .before .before .before .args .room) (test .before .before .before .before .check-note .ensures) (test .before .before .enum-told .given .1) (test .before .validate-range .ensures) (not-false _ (test .if1 .left))
-    (c .before .before .before .before .before .before .before .before .before .as-original .ensures) (c .before .before .before .before .before .before .before .before .as-normalized .ensures) (c .before .before .before .before .before .before .before .slice-of .ensures) (c .before .before .before .before .before .s .given .1)
+    let cut = c .before .before .before .before .before in
+    let test = test cut in
+    cut-forward limit _ _ (entry test .args .room) (test .before .before .before .before .check-note .ensures) (test .before .before .enum-told .given .1) (test .before .validate-range .ensures) (not-false _ (test .if1 .left))
+    (cut .before .before .before .before .as-original .ensures) (cut .before .before .before .as-normalized .ensures) (cut .before .before .slice-of .ensures) (cut .s .given .1)
 
 returns-3 : tie.Need-returns-3
 returns-3 c =
-    let test = c .before .before .before .before .before .before .before .before .before .before .before in
-    judged-small limit _ _ _ (test .before .before .before .before .check-note .ensures) (test .before .before .enum-told .given .1) (test .before .validate-range .ensures) (not-false _ (test .if1 .left))
-    (c .before .before .before .before .before .before .before .before .before .before .as-original .ensures) (c .before .before .before .before .before .before .before .before .before .as-normalized .ensures) (c .before .before .before .before .before .before .before .before .slice-of .ensures) (c .before .before .before .before .before .before .s .given .1) (c .if2 .taken)
+    let cut = c .before .before .before .before .before .before in
+    judged-small limit _ _ _ (test cut .before .before .before .before .check-note .ensures) (test cut .before .before .enum-told .given .1) (test cut .before .validate-range .ensures) (not-false _ (test cut .if1 .left))
+    (cut .before .before .before .before .as-original .ensures) (cut .before .before .before .as-normalized .ensures) (cut .before .before .slice-of .ensures) (cut .s .given .1) (c .if2 .taken)
 
 returns-4 : tie.Need-returns-4
 returns-4 c =
@@ -33,9 +41,9 @@ returns-4 c =
 
 returns-5 : tie.Need-returns-5
 returns-5 c =
-    let test = c .before .before .before .before .before .before .before .before .before .before .before in
-    judged-cut limit _ _ _ (test .before .before .before .before .check-note .ensures) (test .before .before .enum-told .given .1) (test .before .validate-range .ensures) (not-false _ (test .if1 .left))
-    (c .before .before .before .before .before .before .before .before .before .before .as-original .ensures) (c .before .before .before .before .before .before .before .before .before .as-normalized .ensures) (c .before .before .before .before .before .before .before .before .slice-of .ensures) (c .before .before .before .before .before .before .s .given .1) (c .if2 .left)
+    let cut = c .before .before .before .before .before .before in
+    judged-cut limit _ _ _ (test cut .before .before .before .before .check-note .ensures) (test cut .before .before .enum-told .given .1) (test cut .before .validate-range .ensures) (not-false _ (test cut .if1 .left))
+    (cut .before .before .before .before .as-original .ensures) (cut .before .before .before .as-normalized .ensures) (cut .before .before .slice-of .ensures) (cut .s .given .1) (c .if2 .left)
 
 pub check-slice-spec : {M : Type 1} → statement M
 check-slice-spec =

@@ -1,55 +1,32 @@
 -- A refusal comes before the first store; past it there is room, and no number is below the base.
 use native.Mathlib.Omega.{arith}
 use borrow.Author.Needs.{needs}
-use Rattle.note.specs.Notes.{limit}
-use Rattle.slice.proofs.Judged.{refused, ready, written}
+use Rattle.note.specs.Notes.{Note, lent, limit}
+use Rattle.slice.proofs.Judged.{Ready, refused, ready, written}
 use Rattle.slice.proofs.slice.Statement.{statement}
 use Rattle.slice.proofs.slice.Tie as tie
 
-forward : tie.Need-sub-write-lowered
-forward c =
-    let cut = c .before .before .before .before .before .before in
-    ready limit _ _ (cut .before .before .before .before .before .before .before .before .before .before .args .out-starts .now) (cut .before .before .before .before .before .before .before .before .before .before .args .out-ends .now) (cut .before .before .before .least-of-two .ensures) (cut .before .before .check-slice .ensures) (cut .s .given .1) .forward
+-- the places that others are told by: the entry, where the cut is known, where its bytes are, and where the first column is written
+abbrev entry : tie.After-s → tie.Start
+entry c = c .before .before .before .before .before .before .before .before .before .before
 
-in-starts : tie.Need-part-write-lowered-end
-in-starts c =
-    let cut = c .before .before .before .before .before .before in
-    ready limit _ _ (cut .before .before .before .before .before .before .before .before .before .before .args .out-starts .now) (cut .before .before .before .before .before .before .before .before .before .before .args .out-ends .now) (cut .before .before .before .least-of-two .ensures) (cut .before .before .check-slice .ensures) (cut .s .given .1) .in-starts
+abbrev noted : tie.Start → Note
+noted c = lent (c .args .original .now) (c .args .normalized .now) (c .args .starts .now) (c .args .ends .now) (c .args .original-shift)
 
-base-low : tie.Need-cast-write-lowered
-base-low c =
-    let cut = c .before .before .before .before .before .before .before .before in
-    omega (arith, ready limit _ _ (cut .before .before .before .before .before .before .before .before .before .before .args .out-starts .now) (cut .before .before .before .before .before .before .before .before .before .before .args .out-ends .now) (cut .before .before .before .least-of-two .ensures) (cut .before .before .check-slice .ensures) (cut .s .given .1) .low)
+abbrev cut : tie.After-struct-known2 → tie.After-s
+cut c = c .before .before .before .before .before .before
 
-starts-lowerable : tie.Need-write-lowered-requires
-starts-lowerable c κs =
-    let cut = c .before .before .before .before .before .before .before .before .before in
-    ready limit _ _ (cut .before .before .before .before .before .before .before .before .before .before .args .out-starts .now) (cut .before .before .before .before .before .before .before .before .before .before .args .out-ends .now) (cut .before .before .before .least-of-two .ensures) (cut .before .before .check-slice .ensures) (cut .s .given .1) .starts-lowerable
+abbrev known : tie.After-write-lowered → tie.After-struct-known2
+known c = c .before .before .before .before
 
-forward-2 : tie.Need-sub-write-lowered-2
-forward-2 c =
-    let cut = c .before .before .before .before .before .before .before .before .before .before .before .before in
-    ready limit _ _ (cut .before .before .before .before .before .before .before .before .before .before .args .out-starts .now) (cut .before .before .before .before .before .before .before .before .before .before .args .out-ends .now) (cut .before .before .before .least-of-two .ensures) (cut .before .before .check-slice .ensures) (cut .s .given .1) .forward
-
-in-ends : tie.Need-part-write-lowered-end-2
-in-ends c =
-    let cut = c .before .before .before .before .before .before .before .before .before .before .before .before in
-    ready limit _ _ (cut .before .before .before .before .before .before .before .before .before .before .args .out-starts .now) (cut .before .before .before .before .before .before .before .before .before .before .args .out-ends .now) (cut .before .before .before .least-of-two .ensures) (cut .before .before .check-slice .ensures) (cut .s .given .1) .in-ends
-
-base-low-2 : tie.Need-cast-write-lowered-2
-base-low-2 c =
-    let cut = c .before .before .before .before .before .before .before .before .before .before .before .before .before .before in
-    omega (arith, ready limit _ _ (cut .before .before .before .before .before .before .before .before .before .before .args .out-starts .now) (cut .before .before .before .before .before .before .before .before .before .before .args .out-ends .now) (cut .before .before .before .least-of-two .ensures) (cut .before .before .check-slice .ensures) (cut .s .given .1) .low)
-
-ends-lowerable : tie.Need-write-lowered-requires-2
-ends-lowerable c κs =
-    let cut = c .before .before .before .before .before .before .before .before .before .before .before .before .before .before .before in
-    ready limit _ _ (cut .before .before .before .before .before .before .before .before .before .before .args .out-starts .now) (cut .before .before .before .before .before .before .before .before .before .before .args .out-ends .now) (cut .before .before .before .least-of-two .ensures) (cut .before .before .check-slice .ensures) (cut .s .given .1) .ends-lowerable
+-- where the cut is known its columns can be written
+cuttable : (c : tie.After-s) → Ready limit (noted (entry c)) (c .s .given .0 .0) (entry c .args .out-starts .now) (entry c .args .out-ends .now)
+cuttable c = ready limit _ _ _ _ (c .before .before .before .least-of-two .ensures) (c .before .before .check-slice .ensures) (c .s .given .1)
 
 returns-2 : tie.Need-returns-2
 returns-2 c =
-    let cut = c .before .before .before .before .before .before .before .before .before .before .before .before .before .before .before .before .before .before in
-    written limit _ _ _ _ (cut .before .before .before .least-of-two .ensures) (cut .before .before .check-slice .ensures) (cut .s .given .1) (c .before .before .before .before .before .before .before .before .write-lowered .ensures) (c .before .before .write-lowered2 .ensures)
+    let lowered = c .before .before .before .before .before .before .before .before in
+    written limit _ _ _ _ (cut (known lowered) .before .before .before .least-of-two .ensures) (cut (known lowered) .before .before .check-slice .ensures) (cut (known lowered) .s .given .1) (lowered .write-lowered .ensures) (c .before .before .write-lowered2 .ensures)
 
 pub slice-spec : {M : Type 1} → statement M
 slice-spec =
@@ -62,17 +39,17 @@ slice-spec =
     (λ c. search needs)
     (λ c. search needs)
     (λ c. search needs)
-    forward
-    forward
-    in-starts
-    base-low
-    starts-lowerable
+    (λ c. cuttable (cut c) .forward)
+    (λ c. cuttable (cut c) .forward)
+    (λ c. cuttable (cut c) .in-starts)
+    (λ c. omega (arith, cuttable (cut (c .before .before)) .low))
+    (λ c κs. cuttable (cut (c .before .before .before)) .starts-lowerable)
     (λ c. search needs)
-    forward-2
-    forward-2
-    in-ends
-    base-low-2
-    ends-lowerable
+    (λ c. cuttable (cut (known (c .before .before))) .forward)
+    (λ c. cuttable (cut (known (c .before .before))) .forward)
+    (λ c. cuttable (cut (known (c .before .before))) .in-ends)
+    (λ c. omega (arith, cuttable (cut (known (c .before .before .before .before))) .low))
+    (λ c κs. cuttable (cut (known (c .before .before .before .before .before))) .ends-lowerable)
     (λ c. refused limit _ _ _ _ (c .before .before .before .before .least-of-two .ensures) (c .before .before .before .check-slice .ensures) (c .before .k .given .1))
     (λ c. search needs)
     (λ c. search needs)

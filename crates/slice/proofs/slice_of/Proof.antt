@@ -5,8 +5,13 @@ use Rattle.slice.proofs.Sides.{shifted, no-original, no-normalized, pas
 use Rattle.slice.proofs.slice_of.Statement.{statement}
 use Rattle.slice.proofs.slice_of.Tie as tie
 
+-- the places that others are told by: the entry, and where both ranges are known
+abbrev entry : tie.Else1 → tie.Start
+entry c = c .before .before .before .before .before .before .before .before
+
 add-shift : tie.Need-add-t21
-add-shift c = omega (arith, shifted (c .before .before .before .before .before .before .before .before .before .before .before .before .before .pre) (c .before .before .before .before .before .before .before .before .before .before .before .in-original .given .1) (c .start-of3 .ensures))
+add-shift c =
+    omega (arith, shifted (entry (c .before .before .before .before .before) .pre) (c .before .before .before .before .before .before .before .before .before .before .before .in-original .given .1) (c .start-of3 .ensures))
 
 returns-4 : tie.Need-returns-4
 returns-4 c =
