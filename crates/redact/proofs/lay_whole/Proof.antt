@@ -4,6 +4,13 @@ use Rattle.redact.proofs.Blanks.{whole-laid}
 use Rattle.redact.proofs.lay_whole.Statement.{statement}
 use Rattle.redact.proofs.lay_whole.Tie as tie
 
+-- the places that others are told by: the entry, where the content is copied, and where the first column is written
+abbrev entry : tie.After-copy-bytes → tie.Start
+entry c = c .before .before .before .before .before .before
+
+abbrev copied : tie.After-write-starts → tie.After-copy-bytes
+copied c = c .before .before .before .before
+
 pub lay-whole-spec : {M : Type 1} → statement M
 lay-whole-spec =
     tie.close
@@ -14,4 +21,4 @@ lay-whole-spec =
     (λ c. search needs)
     (λ c. search needs)
     (λ c. search needs)
-    (λ c. whole-laid (c .before .before .before .before .before .before .before .before .before .before .before .before .before .before .before .before .pre) (c .before .before .before .before .before .before .before .before .before .before .copy-bytes .ensures) (c .before .before .before .before .before .before .write-starts .ensures) (c .before .before .write-ends .ensures)))
+    (λ c. let started = c .before .before .before .before .before .before in whole-laid (entry (copied started) .pre) (copied started .copy-bytes .ensures) (started .write-starts .ensures) (c .before .before .write-ends .ensures)))

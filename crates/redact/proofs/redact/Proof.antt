@@ -5,6 +5,10 @@ use Rattle.redact.proofs.Redacting.{inputs-refused, room-refused, all-a
 use Rattle.redact.proofs.redact.Statement.{statement}
 use Rattle.redact.proofs.redact.Tie as tie
 
+-- the places that others are told by: where the result is known to fit
+abbrev fits : tie.After-blank-found → tie.Else1
+fits c = c .before .before .before .before
+
 returns-2 : tie.Need-returns-2
 returns-2 c =
     refused-all _ _ _ _ _ _ (c .before .before .before .least-room .ensures)
@@ -12,17 +16,18 @@ returns-2 c =
 
 blank-found-requires : tie.Need-blank-found-requires
 blank-found-requires c κs =
-    let told = c .before .before .before in
-    all-fitting _ _ _ _ _ _ (told .before .before .before .least-room .ensures)
-    (all-accepted _ _ _ _ (told .before .before .before .before .before .before .before .check-inputs .ensures) (told .before .before .before .before .before .enum-told .given .1) (told .before .before .least-of-two .ensures) (told .before .result-fits .ensures) (told .if1 .left))
-    (told .before .before .before .before .first-match .ensures)
+    let fits = c .before .before .before in
+    all-fitting _ _ _ _ _ _ (fits .before .before .before .least-room .ensures)
+    (all-accepted _ _ _ _ (fits .before .before .before .before .before .before .before .check-inputs .ensures) (fits .before .before .before .before .before .enum-told .given .1) (fits .before .before .least-of-two .ensures) (fits .before .result-fits .ensures) (fits .if1 .left))
+    (fits .before .before .before .before .first-match .ensures)
 
 returns-3 : tie.Need-returns-3
 returns-3 c =
-    let told = c .before .before .before .before .before .before .before .before .before .before in
-    all-blanked _ _ _ _ _ _ (told .before .before .before .least-room .ensures)
-    (all-accepted _ _ _ _ (told .before .before .before .before .before .before .before .check-inputs .ensures) (told .before .before .before .before .before .enum-told .given .1) (told .before .before .least-of-two .ensures) (told .before .result-fits .ensures) (told .if1 .left))
-    (c .before .before .before .before .before .before .blank-found .ensures)
+    let laid = c .before .before .before .before .before .before in
+    let fits = fits laid in
+    all-blanked _ _ _ _ _ _ (fits .before .before .before .least-room .ensures)
+    (all-accepted _ _ _ _ (fits .before .before .before .before .before .before .before .check-inputs .ensures) (fits .before .before .before .before .before .enum-told .given .1) (fits .before .before .least-of-two .ensures) (fits .before .result-fits .ensures) (fits .if1 .left))
+    (laid .blank-found .ensures)
 
 pub redact-spec : {M : Type 1} → statement M
 redact-spec =
