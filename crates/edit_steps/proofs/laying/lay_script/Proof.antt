@@ -3,7 +3,7 @@ use Prim.Native.Nat.{_-_, _^_, _≤_, _<_}
 use lib.ListN.{length, drop}
 use native.Mathlib.Omega.{arith}
 use borrow.Author.Needs.{needs}
-use Rattle.script.proofs.Scripts.{entry-step, entry-broken, entries-end}
+use Rattle.script.proofs.Scripts.{Stepped, entry-step, entry-broken, entries-end}
 use Rattle.script.specs.Scripts.{commandsOf}
 use Rattle.edit_steps.proofs.Given.{Going, none-going, command-room, counting, going-over, below-all, gone}
 use Rattle.edit_steps.proofs.laying.lay_script.Statement.{statement}
@@ -28,32 +28,28 @@ turn c = c .before .before .before .before
 abbrev there : tie.After-lay-command Inv-loop μ-loop → tie.After-command Inv-loop μ-loop
 there c = c .before .before .before .before .before
 
+-- the command that a turn reads, and where it goes on
+step : (c : tie.After-command Inv-loop μ-loop) → Stepped (entry (turn c) .args .script .now) (turn c .loop .i) (c .command .given .0 .0) (c .command .given .0 .1 .0)
+step c = entry-step _ (c .before .before .entry-at .ensures) (c .command .given .1)
+
 lay-command-requires : tie.Need-lay-command-requires Inv-loop μ-loop
 lay-command-requires c κs =
     let there = c .before .before .before .before in
     let turn = turn there in
-    let step = entry-step _ (there .before .before .entry-at .ensures) (there .command .given .1) in
-    (command-room (entry turn .pre .0) (turn .loop .inv .1) (step .commands), below-all (entry turn .pre .0) (turn .loop .inv .1) (entry turn .pre .1))
+    (command-room (entry turn .pre .0) (turn .loop .inv .1) (step there .commands), below-all (entry turn .pre .0) (turn .loop .inv .1) (entry turn .pre .1))
 
 advanced-requires : tie.Need-advanced-requires Inv-loop μ-loop
 advanced-requires c κs =
     let laid = c .before .before .before .before .before .before in
     let turn = turn (there laid) in
     let long : length (entry turn .args .out .now) < 2 ^ 64 = entry turn .good .1 .1 .1 .1 .1 .1 .1 .0 .0 in
-    let step = entry-step _ (there laid .before .before .entry-at .ensures) (there laid .command .given .1) in
-    counting (entry turn .pre .0) (turn .loop .inv .1) (step .commands) long
-
-loop-less : tie.Need-loop-less Inv-loop μ-loop
-loop-less c =
-    let step = entry-step _ (there (c .before .before .before .before .before .before .before) .before .before .entry-at .ensures) (there (c .before .before .before .before .before .before .before) .command .given .1) in
-    omega (arith, step .onward, step .most)
+    counting (entry turn .pre .0) (turn .loop .inv .1) (step (there laid) .commands) long
 
 loop-again : tie.Need-loop-again Inv-loop μ-loop
 loop-again c =
     let laid = c .before .before .before .before .before .before .before in
     let there = there laid in
-    let step = entry-step _ (there .before .before .entry-at .ensures) (there .command .given .1) in
-    (step .most, going-over (entry (turn there) .pre .0) (turn there .loop .inv .1) (step .commands) (laid .lay-command .ensures) (entry (turn there) .pre .1) (c .advanced .ensures))
+    (step there .most, going-over (entry (turn there) .pre .0) (turn there .loop .inv .1) (step there .commands) (laid .lay-command .ensures) (entry (turn there) .pre .1) (c .advanced .ensures))
 
 returns : tie.Need-returns Inv-loop μ-loop
 returns c =
@@ -71,7 +67,7 @@ lay-script-spec =
     (λ c. search needs)
     lay-command-requires
     advanced-requires
-    loop-less
+    (λ c. omega (arith, step (there (c .before .before .before .before .before .before .before))))
     loop-again
     (λ c. search needs)
     (λ c. c .before .before .before .before .loop .inv .1 .text-laid .same)
