@@ -1,5 +1,8 @@
 -- Each turn lays a byte and its alignment, and goes on where it is kept.
-use Prim.Native.Nat.{_-_}
+use Prim.Native.Nat.{_+_, _-_, _≤_, _<_}
+use mathlib.Core.Bool.{not}
+use mir.Val.{boolByte}
+use lib.ListN.{length}
 use Rattle.kept_letters.specs.Counting.{KeptSoFar}
 use Rattle.kept_letters.proofs.Chosen.{rooms, reads, flag-index, one-so-far, all-so-far}
 use native.Mathlib.Omega.{arith}
@@ -13,58 +16,32 @@ Inv-loop text starts ends flags end out₀ out-starts₀ out-ends₀ q₀ i₀ a
 abbrev μ-loop : tie.MeasureT-loop
 μ-loop text starts ends flags end out₀ out-starts₀ out-ends₀ q₀ i₀ at₀ out out-starts out-ends q i at = end - q
 
-shared-slice-read-continues : tie.Need-shared-slice-read-continues Inv-loop μ-loop
-shared-slice-read-continues c = reads (c .before .before .before .before .before .before .before .before .before .before .pre .0) (c .before .before .loop .inv) (c .before .loop-test .taken) .0
+-- the places that others are told by: the entry, the turn's beginning, and where it is known what the byte is
+abbrev entry : tie.At-loop Inv-loop μ-loop → tie.Start Inv-loop μ-loop
+entry c = c .before .before .before .before .before .before .before .before
 
-add-i : tie.Need-add-i Inv-loop μ-loop
-add-i c = omega (arith, flag-index (c .before .before .before .before .before .before .before .before .before .before .before .pre .0) (c .before .before .before .loop .inv) (c .before .before .loop-test .taken) (c .continues .ensures) .1)
+abbrev turn : tie.After-continues Inv-loop μ-loop → tie.At-loop Inv-loop μ-loop
+turn c = c .before .before .before
 
-shared-slice-read-out : tie.Need-shared-slice-read-out Inv-loop μ-loop
-shared-slice-read-out c = reads (c .before .before .before .before .before .before .before .before .before .before .before .before .pre .0) (c .before .before .before .before .loop .inv) (c .before .before .before .loop-test .taken) .0
+-- what a turn reads is there, there is room for it, and its flag is there
+there : (c : tie.In-loop Inv-loop μ-loop) → (c .before .loop .q < length (entry (c .before) .args .text .now)) × ((c .before .loop .q < length (entry (c .before) .args .starts .now)) × (c .before .loop .q < length (entry (c .before) .args .ends .now)))
+there c = reads (entry (c .before) .pre .0) (c .before .loop .inv) (c .loop-test .taken)
 
-slice-write-out : tie.Need-slice-write-out Inv-loop μ-loop
-slice-write-out c = rooms (c .before .before .before .before .before .before .before .before .before .before .before .before .pre .0) (c .before .before .before .before .loop .inv) (c .before .before .before .loop-test .taken) .0
+room : (c : tie.In-loop Inv-loop μ-loop) → (c .before .loop .at < length (c .before .loop .out)) × ((c .before .loop .at < length (c .before .loop .out-starts)) × (c .before .loop .at < length (c .before .loop .out-ends)))
+room c = rooms (entry (c .before) .pre .0) (c .before .loop .inv) (c .loop-test .taken)
 
-mul-out-starts : tie.Need-mul-out-starts Inv-loop μ-loop
-mul-out-starts c = omega (arith, reads (c .before .before .before .before .before .before .before .before .before .before .before .before .pre .0) (c .before .before .before .before .loop .inv) (c .before .before .before .loop-test .taken) .1 .0)
-
-shared-slice-read-out-starts : tie.Need-shared-slice-read-out-starts Inv-loop μ-loop
-shared-slice-read-out-starts c = reads (c .before .before .before .before .before .before .before .before .before .before .before .before .before .pre .0) (c .before .before .before .before .before .loop .inv) (c .before .before .before .before .loop-test .taken) .1 .0
-
-mul-out-starts-2 : tie.Need-mul-out-starts-2 Inv-loop μ-loop
-mul-out-starts-2 c = omega (arith, rooms (c .before .before .before .before .before .before .before .before .before .before .before .before .before .pre .0) (c .before .before .before .before .before .loop .inv) (c .before .before .before .before .loop-test .taken) .1 .0)
-
-slice-write-out-starts : tie.Need-slice-write-out-starts Inv-loop μ-loop
-slice-write-out-starts c = rooms (c .before .before .before .before .before .before .before .before .before .before .before .before .before .pre .0) (c .before .before .before .before .before .loop .inv) (c .before .before .before .before .loop-test .taken) .1 .0
-
-mul-out-ends : tie.Need-mul-out-ends Inv-loop μ-loop
-mul-out-ends c = omega (arith, reads (c .before .before .before .before .before .before .before .before .before .before .before .before .before .pre .0) (c .before .before .before .before .before .loop .inv) (c .before .before .before .before .loop-test .taken) .1 .1)
-
-shared-slice-read-out-ends : tie.Need-shared-slice-read-out-ends Inv-loop μ-loop
-shared-slice-read-out-ends c = reads (c .before .before .before .before .before .before .before .before .before .before .before .before .before .before .pre .0) (c .before .before .before .before .before .before .loop .inv) (c .before .before .before .before .before .loop-test .taken) .1 .1
-
-mul-out-ends-2 : tie.Need-mul-out-ends-2 Inv-loop μ-loop
-mul-out-ends-2 c = omega (arith, rooms (c .before .before .before .before .before .before .before .before .before .before .before .before .before .before .pre .0) (c .before .before .before .before .before .before .loop .inv) (c .before .before .before .before .before .loop-test .taken) .1 .1)
-
-slice-write-out-ends : tie.Need-slice-write-out-ends Inv-loop μ-loop
-slice-write-out-ends c = rooms (c .before .before .before .before .before .before .before .before .before .before .before .before .before .before .pre .0) (c .before .before .before .before .before .before .loop .inv) (c .before .before .before .before .before .loop-test .taken) .1 .1
-
-sub-at : tie.Need-sub-at Inv-loop μ-loop
-sub-at c = flag-index (c .before .before .before .before .before .before .before .before .before .before .before .before .before .before .pre .0) (c .before .before .before .before .before .before .loop .inv) (c .before .before .before .before .before .loop-test .taken) (c .before .before .before .continues .ensures) .0
-
-shared-slice-read-at : tie.Need-shared-slice-read-at Inv-loop μ-loop
-shared-slice-read-at c = omega (arith, flag-index (c .before .before .before .before .before .before .before .before .before .before .before .before .before .before .before .pre .0) (c .before .before .before .before .before .before .before .loop .inv) (c .before .before .before .before .before .before .loop-test .taken) (c .before .before .before .before .continues .ensures))
+index : (c : tie.After-continues Inv-loop μ-loop) → (1 ≤ turn c .loop .i + boolByte (not (c .continues .result))) × (turn c .loop .i + boolByte (not (c .continues .result)) ≤ length (entry (turn c) .args .flags .now))
+index c = flag-index (entry (turn c) .pre .0) (turn c .loop .inv) (c .before .before .loop-test .taken) (c .continues .ensures)
 
 add-at : tie.Need-add-at Inv-loop μ-loop
 add-at c =
-    let next = one-so-far (c .before .before .before .before .before .before .before .before .before .before .before .before .before .before .before .pre .0) (c .before .before .before .before .before .before .before .loop .inv) (c .before .before .before .before .before .before .loop-test .taken) (c .before .before .before .before .continues .ensures) in
+    let next = one-so-far (entry (turn (c .before .before .before .before)) .pre .0) (turn (c .before .before .before .before) .loop .inv) (c .before .before .before .before .before .before .loop-test .taken) (c .before .before .before .before .continues .ensures) in
     omega (arith, next .laid .text .room, next .laid .text .same)
 
 loop-again : tie.Need-loop-again Inv-loop μ-loop
-loop-again c = one-so-far (c .before .before .before .before .before .before .before .before .before .before .before .before .before .before .before .pre .0) (c .before .before .before .before .before .before .before .loop .inv) (c .before .before .before .before .before .before .loop-test .taken) (c .before .before .before .before .continues .ensures)
-
-returns : tie.Need-returns Inv-loop μ-loop
-returns c = all-so-far (c .before .before .before .before .before .before .before .before .before .pre .0) (c .before .loop .inv) (c .loop-test .left)
+loop-again c =
+    let told = c .before .before .before .before in
+    one-so-far (entry (turn told) .pre .0) (turn told .loop .inv) (told .before .before .loop-test .taken) (told .continues .ensures)
 
 pub lay-kept-spec : {M : Type 1} → statement M
 lay-kept-spec =
@@ -73,22 +50,22 @@ lay-kept-spec =
     Inv-loop
     μ-loop
     (λ c. c .before .before .before .before .before .before .before .pre .1)
-    shared-slice-read-continues
+    (λ c. there (c .before) .0)
     (λ c κs. search needs)
     (λ c. search needs)
-    add-i
-    shared-slice-read-out
-    slice-write-out
-    mul-out-starts
-    shared-slice-read-out-starts
-    mul-out-starts-2
-    slice-write-out-starts
-    mul-out-ends
-    shared-slice-read-out-ends
-    mul-out-ends-2
-    slice-write-out-ends
-    sub-at
-    shared-slice-read-at
+    (λ c. omega (arith, index c))
+    (λ c. there (c .before .before .before) .0)
+    (λ c. room (c .before .before .before) .0)
+    (λ c. omega (arith, there (c .before .before .before)))
+    (λ c. there (c .before .before .before .before) .1 .0)
+    (λ c. omega (arith, room (c .before .before .before .before)))
+    (λ c. room (c .before .before .before .before) .1 .0)
+    (λ c. omega (arith, there (c .before .before .before .before)))
+    (λ c. there (c .before .before .before .before .before) .1 .1)
+    (λ c. omega (arith, room (c .before .before .before .before .before)))
+    (λ c. room (c .before .before .before .before .before) .1 .1)
+    (λ c. index (c .before .before .before) .0)
+    (λ c. omega (arith, index (c .before .before .before .before)))
     (λ c. search needs)
     add-at
     (λ c. omega arith)
@@ -97,4 +74,4 @@ lay-kept-spec =
     (λ c. c .before .loop .inv .laid .text .same)
     (λ c. c .before .loop .inv .laid .starts-so-far .same)
     (λ c. c .before .loop .inv .laid .ends-so-far .same)
-    returns)
+    (λ c. all-so-far (entry (c .before) .pre .0) (c .before .loop .inv) (c .loop-test .left)))

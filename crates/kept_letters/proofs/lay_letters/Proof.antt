@@ -14,36 +14,41 @@ Inv-loop text starts ends flags stop out₀ out-starts₀ out-ends₀ q₀ i₀ 
 abbrev μ-loop : tie.MeasureT-loop
 μ-loop text starts ends flags stop out₀ out-starts₀ out-ends₀ q₀ i₀ at₀ out out-starts out-ends q i at = stop - i
 
-shared-slice-read-wide : tie.Need-shared-slice-read-wide Inv-loop μ-loop
-shared-slice-read-wide c = letter-there (c .before .before .before .before .before .before .before .before .before .before .pre) (c .before .before .loop .inv .1) (c .before .loop-test .taken) .0
+-- the places that others are told by: the entry, the turn's beginning, where the character's width is known, and where its first column is copied
+abbrev entry : tie.At-loop Inv-loop μ-loop → tie.Start Inv-loop μ-loop
+entry c = c .before .before .before .before .before .before .before .before
 
-copy-four-bytes-requires : tie.Need-copy-four-bytes-requires Inv-loop μ-loop
-copy-four-bytes-requires c κs = text-four (c .before .before .before .before .before .before .before .before .before .before .before .before .pre) (c .before .before .before .before .loop .inv .1) (c .before .before .before .loop-test .taken)
+abbrev turn : tie.After-wide Inv-loop μ-loop → tie.At-loop Inv-loop μ-loop
+turn c = c .before .before .before
+
+abbrev told : tie.After-copy-four-offsets Inv-loop μ-loop → tie.After-wide Inv-loop μ-loop
+told c = c .before .before .before .before .before .before
 
 copy-four-offsets-requires : tie.Need-copy-four-offsets-requires Inv-loop μ-loop
-copy-four-offsets-requires c κs = starts-four (c .before .before .before .before .before .before .before .before .before .before .before .before .before .before .before .before .pre) (c .before .before .before .before .before .before .before .before .loop .inv .1) (c .before .before .before .before .before .before .before .loop-test .taken)
-
-copy-four-offsets-requires-2 : tie.Need-copy-four-offsets-requires-2 Inv-loop μ-loop
-copy-four-offsets-requires-2 c κs = ends-four (c .before .before .before .before .before .before .before .before .before .before .before .before .before .before .before .before .before .before .before .before .pre) (c .before .before .before .before .before .before .before .before .before .before .before .before .loop .inv .1) (c .before .before .before .before .before .before .before .before .before .before .before .loop-test .taken)
+copy-four-offsets-requires c κs =
+    let told = c .before .before .before .before .before in
+    starts-four (entry (turn told) .pre) (turn told .loop .inv .1) (told .before .before .loop-test .taken)
 
 shared-slice-read-kept-size : tie.Need-shared-slice-read-kept-size Inv-loop μ-loop
-shared-slice-read-kept-size c = letter-there (c .before .before .before .before .before .before .before .before .before .before .before .before .before .before .before .before .before .before .before .before .before .before .before .before .pre) (c .before .before .before .before .before .before .before .before .before .before .before .before .before .before .before .before .loop .inv .1) (c .before .before .before .before .before .before .before .before .before .before .before .before .before .before .before .loop-test .taken) .1
+shared-slice-read-kept-size c =
+    let told = told (c .before .before .before .before .before .before .before) in
+    letter-there (entry (turn told) .pre) (turn told .loop .inv .1) (told .before .before .loop-test .taken) .1
 
 add-at : tie.Need-add-at Inv-loop μ-loop
-add-at c = let head = c .before .before .before .before .before .before .before .before .before .before .before .before .before .before .before .before .before in
-    let next = one-lettered (head .before .before .before .before .before .before .before .before .pre) (head .loop .inv .1) (c .before .before .before .before .before .before .before .before .before .before .before .before .before .before .before .before .loop-test .taken) (c .before .before .before .before .before .before .before .before .before .before .before .before .before .before .wide .ensures) (c .before .before .before .before .before .before .before .before .before .before .before .before .copy-four-bytes .ensures) (c .before .before .before .before .before .before .before .before .copy-four-offsets .ensures) (c .before .before .before .before .copy-four-offsets2 .ensures) (c .kept-size .ensures) in
-    let long : length (head .before .before .before .before .before .before .before .before .args .out .now) < 2 ^ 64 = head .before .before .before .before .before .before .before .before .good .1 .1 .1 .1 .1 .0 .0 in
+add-at c =
+    let started = c .before .before .before .before .before .before .before .before in
+    let next = one-lettered (entry (turn (told started)) .pre) (turn (told started) .loop .inv .1) (told started .before .before .loop-test .taken) (told started .wide .ensures) (started .before .before .before .before .copy-four-bytes .ensures) (started .copy-four-offsets .ensures) (c .before .before .before .before .copy-four-offsets2 .ensures) (c .kept-size .ensures) in
+    let long : length (entry (turn (told started)) .args .out .now) < 2 ^ 64 = entry (turn (told started)) .good .1 .1 .1 .1 .1 .0 .0 in
     omega (arith, long, next .laid .text .room, next .laid .text .same)
 
 add-q : tie.Need-add-q Inv-loop μ-loop
-add-q c = omega (arith, letter-inside (c .before .before .before .before .before .before .before .before .before .before .before .before .before .before .before .before .before .before .before .before .before .before .before .before .before .pre) (c .before .before .before .before .before .before .before .before .before .before .before .before .before .before .before .before .before .loop .inv .1) (c .before .before .before .before .before .before .before .before .before .before .before .before .before .before .before .before .loop-test .taken) (c .before .before .before .before .before .before .before .before .before .before .before .before .before .before .wide .ensures))
+add-q c =
+    omega (arith, letter-inside (entry (turn (told (c .before .before .before .before .before .before .before .before))) .pre) (turn (told (c .before .before .before .before .before .before .before .before)) .loop .inv .1) (told (c .before .before .before .before .before .before .before .before) .before .before .loop-test .taken) (told (c .before .before .before .before .before .before .before .before) .wide .ensures))
 
 loop-again : tie.Need-loop-again Inv-loop μ-loop
-loop-again c = let head = c .before .before .before .before .before .before .before .before .before .before .before .before .before .before .before .before .before in
-    (omega (arith, c .before .before .before .before .before .before .before .before .before .before .before .before .before .before .before .before .loop-test .taken), one-lettered (head .before .before .before .before .before .before .before .before .pre) (head .loop .inv .1) (c .before .before .before .before .before .before .before .before .before .before .before .before .before .before .before .before .loop-test .taken) (c .before .before .before .before .before .before .before .before .before .before .before .before .before .before .wide .ensures) (c .before .before .before .before .before .before .before .before .before .before .before .before .copy-four-bytes .ensures) (c .before .before .before .before .before .before .before .before .copy-four-offsets .ensures) (c .before .before .before .before .copy-four-offsets2 .ensures) (c .kept-size .ensures))
-
-returns : tie.Need-returns Inv-loop μ-loop
-returns c = all-lettered (c .before .before .before .before .before .before .before .before .before .pre) (c .before .loop .inv .1) (c .loop-test .left) (c .before .loop .inv .0)
+loop-again c =
+    let started = c .before .before .before .before .before .before .before .before in
+    (omega (arith, told started .before .before .loop-test .taken), one-lettered (entry (turn (told started)) .pre) (turn (told started) .loop .inv .1) (told started .before .before .loop-test .taken) (told started .wide .ensures) (started .before .before .before .before .copy-four-bytes .ensures) (started .copy-four-offsets .ensures) (c .before .before .before .before .copy-four-offsets2 .ensures) (c .kept-size .ensures))
 
 pub lay-letters-spec : {M : Type 1} → statement M
 lay-letters-spec =
@@ -52,11 +57,11 @@ lay-letters-spec =
     Inv-loop
     μ-loop
     (λ c. (omega arith, none-lettered (c .before .before .before .before .before .before .before .pre)))
-    shared-slice-read-wide
+    (λ c. letter-there (entry (c .before .before) .pre) (c .before .before .loop .inv .1) (c .before .loop-test .taken) .0)
     (λ c κs. search needs)
-    copy-four-bytes-requires
+    (λ c κs. text-four (entry (turn (c .before)) .pre) (turn (c .before) .loop .inv .1) (c .before .before .before .loop-test .taken))
     copy-four-offsets-requires
-    copy-four-offsets-requires-2
+    (λ c κs. let told = told (c .before .before .before) in ends-four (entry (turn told) .pre) (turn told .loop .inv .1) (told .before .before .loop-test .taken))
     shared-slice-read-kept-size
     (λ c κs. search needs)
     add-at
@@ -67,4 +72,4 @@ lay-letters-spec =
     (λ c. c .before .loop .inv .1 .laid .text .same)
     (λ c. c .before .loop .inv .1 .laid .starts-so-far .same)
     (λ c. c .before .loop .inv .1 .laid .ends-so-far .same)
-    returns)
+    (λ c. all-lettered (entry (c .before) .pre) (c .before .loop .inv .1) (c .loop-test .left) (c .before .loop .inv .0)))
