@@ -91,11 +91,11 @@ pub fn well_formed(s: &[u8]) -> bool
         return false;
     }
     let mut i = 3;
-    while i + 256 <= s.len() {
-        if !valid_block(&s[i - 3..i + 256]) {
+    while i + 384 <= s.len() {
+        if !valid_block(&s[i - 3..i + 384]) {
             return false;
         }
-        i += 256;
+        i += 384;
     }
     valid_rest(s, i)
 }

@@ -2,9 +2,10 @@
 -- A byte too far back to lead a long character counts as 0.
 use Prim.Native.Nat.{ℕ, _+_, _-_, _≤_, _<_, max}
 use mathlib.Core.Path.{_≡_, _∙_, refl, sym}
-use mathlib.Core.Bool.{Bool, true, false, xor, _&&_, _||_, not, and-true, and-false, or-false}
+use mathlib.Core.Bool.{Bool, true, false, cond, xor, _&&_, _||_, not, and-true, and-false, or-false, or-true}
 use mathlib.Mathlib.Data.Bool.Basic.{or-eq-false-eq-eq-false-and-eq-false}
-use borrow.Author.Tests.{le-leb, lt-leb, lt-ltb, le-ltb, ne-eqb, eqb-true}
+use borrow.Author.Tests.{le-leb, lt-leb, lt-ltb, le-ltb, eq-eqb, ne-eqb, eqb-true}
+use native.Mathlib.Nat.{add-zero}
 use native.Mathlib.Omega.{arith}
 use lib.Dec.{leb, ltb, eqb}
 use Rattle.buffers.proofs.Cases.{clash, true-or-false, le-or-lt}
@@ -12,7 +13,7 @@ use Rattle.buffers.proofs.Booleans.{and-false-r}
 use Rattle.utf8.specs.Table.{bytes, within, trail}
 use Rattle.utf8.specs.Formed.{second}
 use Rattle.utf8.proofs.Formed.{second-trail, second-continues, continues-high}
-use Rattle.validity_blocks.specs.Extremes.{fromLead, Plain}
+use Rattle.validity_blocks.specs.Extremes.{fromLead, Between}
 use Rattle.validity_blocks.specs.Valid.{pending, never, invalid}
 
 module _ (b3 b2 b1 : ℕ) where
@@ -96,23 +97,13 @@ high-low n b =
     (λ high. rw (le-ltb b (n + 1) high, lt-ltb n b (omega arith)))
     (λ low. rw (lt-ltb b (n + 1) low, le-ltb n b (omega arith)))
 
-pub invalid-three : (b2 b1 b0 : ℕ) → b1 < 0xF0 → b0 < 0xF0 → (xor (leb 0xC0 b1 || leb 0xE0 b2) (within trail b0) || (leb 0xC0 b0 && ltb b0 0xC2) || ((eqb b1 0xE0 && ltb b0 0xA0) || (eqb b1 0xED && not (ltb b0 0xA0)))) ≡ invalid 0 b2 b1 b0
-unfolding pending never odd
-invalid-three b2 b1 b0 h1 h0 =
-    rw (← high-low 0x9F b0)
-    (simp (or-false, lt-leb 0xF5 b0 (omega arith), ne-eqb b1 0xF0 (λ e. omega arith), ne-eqb b1 0xF4 (λ e. omega arith)) at (invalid-four 0 b2 b1 b0))
-
-pub invalid-two : (b1 b0 : ℕ) → b1 < 0xE0 → b0 < 0xE0 → (xor (leb 0xC0 b1) (within trail b0) || (leb 0xC0 b0 && ltb b0 0xC2)) ≡ invalid 0 0 b1 b0
-invalid-two b1 b0 h1 h0 =
-    simp (or-false, ne-eqb b1 0xE0 (λ e. omega arith), ne-eqb b1 0xED (λ e. omega arith)) at (invalid-three 0 b1 b0 (omega arith) (omega arith))
-
--- between C0 and E0 there is no plain byte
-plain-high : {n b : ℕ} → Plain n b → n ≤ 0xF4 → 0xC0 ≤ b → 0xE1 ≤ b
+-- between C0 and E0 there is no byte that counts 21 or more
+plain-high : {n b : ℕ} → Between 0x21 n b → n ≤ 0xF4 → 0xC0 ≤ b → 0xE1 ≤ b
 unfolding fromLead
 plain-high p most h = omega (arith, p .far, p .low)
 
 -- the larger of two plain bytes tells whether a character is pending, and a third byte counted from 30 on
-plain-pending : {n b2 m : ℕ} (b3 b1 : ℕ) → Plain n b2 → n ≤ 0xF4 → m ≡ max (max b1 b2) (b3 - 0x30) → leb 0xC0 m ≡ pending b3 b2 b1
+plain-pending : {n b2 m : ℕ} (b3 b1 : ℕ) → Between 0x21 n b2 → n ≤ 0xF4 → m ≡ max (max b1 b2) (b3 - 0x30) → leb 0xC0 m ≡ pending b3 b2 b1
 plain-pending {n} {b2} {m} b3 b1 p most larger =
     le-or-lt 0xC0 b1
     (λ h. le-leb 0xC0 m (omega arith) ∙ sym (pending-1 b3 b2 b1 h))
@@ -126,23 +117,23 @@ never-low : (b : ℕ) → b < 0xC0 → never b ≡ false
 unfolding never
 never-low b h = simp (lt-leb 0xC0 b h, lt-leb 0xF5 b (omega arith))
 
-plain-never : {n b : ℕ} → Plain n b → n ≤ 0xF4 → never b ≡ false
-unfolding never
-plain-never {n} {b} p most =
+between-never : {l n b : ℕ} → Between l n b → 2 ≤ l → n ≤ 0xF4 → never b ≡ false
+unfolding never fromLead
+between-never {b = b} p least most =
     le-or-lt 0xC0 b
-    (λ h. simp (le-ltb b 0xC2 (omega (arith, plain-high p most h)), lt-leb 0xF5 b (omega (arith, p .low)), and-false))
+    (λ h. simp (le-ltb b 0xC2 (omega (arith, p .far, p .low)), lt-leb 0xF5 b (omega (arith, p .low)), and-false))
     (λ low. never-low b low)
 
 -- of the lead bytes from E1 to F3 two ask for a second byte of less than 80..BF
-plain-second : {n b : ℕ} → Plain n b → n ≤ 0xF4 → eqb b 0xED ≡ false → eqb b 0xF0 ≡ false → second b ≡ trail
+plain-second : {n b : ℕ} → Between 0x21 n b → n ≤ 0xF4 → eqb b 0xED ≡ false → eqb b 0xF0 ≡ false → second b ≡ trail
 unfolding second fromLead
 plain-second {n} {b} p most d f = rw (ne-eqb b 0xE0 (λ e. omega (arith, p .far)), d, f, ne-eqb b 0xF4 (λ e. omega (arith, p .low)))
 
-pub invalid-plain : {b2 b1 b0 m : ℕ} → Plain 0xED b2 → Plain 0xED b1 → Plain 0xED b0 → m ≡ max b1 b2 → xor (leb 0xC0 m) (within trail b0) ≡ invalid 0 b2 b1 b0
+pub invalid-plain : {b2 b1 b0 m : ℕ} → Between 0x21 0xED b2 → Between 0x21 0xED b1 → Between 0x21 0xED b0 → m ≡ max b1 b2 → xor (leb 0xC0 m) (within trail b0) ≡ invalid 0 b2 b1 b0
 unfolding invalid
 invalid-plain {b2} {b1} {b0} {m} p2 p1 p0 larger =
     let alone : m ≡ max (max b1 b2) (0 - 0x30) = omega arith in
-    rw (plain-pending 0 b1 p2 (omega arith) alone, plain-second p1 (omega arith) (ne-eqb b1 0xED (λ e. omega (arith, p1 .low))) (ne-eqb b1 0xF0 (λ e. omega (arith, p1 .low))), plain-never p0 (omega arith))
+    rw (plain-pending 0 b1 p2 (omega arith) alone, plain-second p1 (omega arith) (ne-eqb b1 0xED (λ e. omega (arith, p1 .low))) (ne-eqb b1 0xF0 (λ e. omega (arith, p1 .low))), between-never p0 (omega arith) (omega arith))
     (sym (or-false (xor (pending 0 b2 b1) (within trail b0))))
 
 -- a column narrower than 80..BF, by what it is without
@@ -158,10 +149,38 @@ wider true true = refl
 wider true false = refl
 wider false low = refl
 
-pub invalid-plain-four : {b2 b1 b0 m : ℕ} (b3 : ℕ) → Plain 0xF4 b2 → Plain 0xF4 b1 → Plain 0xF4 b0 → m ≡ max (max b1 b2) (b3 - 0x30) → (xor (leb 0xC0 m) (within trail b0) || (eqb b1 0xED && not (within (bytes 0x80 0x9F) b0)) || (eqb b1 0xF0 && within (bytes 0x80 0x8F) b0)) ≡ invalid b3 b2 b1 b0
+-- without characters of four bytes: the larger of b1 and b2, counted from 20 on, tells whether one is pending
+three-pending : {m : ℕ} (b2 b1 : ℕ) → m ≡ max b1 (b2 - 0x20) → leb 0xC0 m ≡ pending 0 b2 b1
+three-pending {m} b2 b1 larger =
+    le-or-lt 0xC0 b1
+    (λ h. le-leb 0xC0 m (omega arith) ∙ sym (pending-1 0 b2 b1 h))
+    (λ low1. le-or-lt 0xE0 b2
+    (λ h. le-leb 0xC0 m (omega arith) ∙ sym (pending-2 0 b2 b1 low1 h))
+    (λ low2. lt-leb 0xC0 m (omega arith) ∙ sym (pending-none 0 b2 b1 low1 low2 (omega arith))))
+
+-- E0 and ED are 0D apart
+three-odd : (b1 : ℕ) (low : Bool) → eqb (b1 + cond low 0x0D 0) 0xED ≡ ((eqb b1 0xE0 && low) || (eqb b1 0xED && not low))
+three-odd b1 true = true-or-false (eqb b1 0xE0) (λ e. rw (eqb-true b1 0xE0 e) refl) (λ n. rw n (ne-eqb (b1 + 0x0D) 0xED (λ e. clash (eqb b1 0xE0) (eq-eqb b1 0xE0 (omega (arith, e))) n) ∙ sym (and-false (eqb b1 0xED))))
+three-odd b1 false = rw (add-zero b1, and-false (eqb b1 0xE0)) (sym (and-true (eqb b1 0xED)))
+
+invalid-three : {b1 b0 m : ℕ} (b2 : ℕ) → Between 2 0xF0 b1 → Between 2 0xF0 b0 → m ≡ max b1 (b2 - 0x20) → (xor (leb 0xC0 m) (within trail b0) || ((eqb b1 0xE0 && within (bytes 0x80 0x9F) b0) || (eqb b1 0xED && not (within (bytes 0x80 0x9F) b0)))) ≡ invalid 0 b2 b1 b0
+unfolding invalid xor second
+invalid-three {b1} {b0} b2 p1 p0 larger =
+    rw (three-pending b2 b1 larger, between-never p0 (omega arith) (omega arith))
+    (true-or-false (eqb b1 0xE0)
+    (λ e. rw (eqb-true b1 0xE0 e, pending-1 0 b2 0xE0 (omega arith), above 0xA0 b0 (omega arith), below 0x9F b0 (omega arith), high-low 0x9F b0) (simp or-false (wider (within trail b0) (ltb b0 0xA0))))
+    (λ e. true-or-false (eqb b1 0xED)
+    (λ d. rw (eqb-true b1 0xED d, pending-1 0 b2 0xED (omega arith), below 0x9F b0 (omega arith)) (simp or-false (narrower (within trail b0) (ltb 0x9F b0))))
+    (λ d. rw (e, d, ne-eqb b1 0xF0 (λ k. omega (arith, p1 .low)), ne-eqb b1 0xF4 (λ k. omega (arith, p1 .low))) (simp or-false))))
+
+pub invalid-two : {b1 b0 : ℕ} → Between 2 0xE0 b1 → Between 2 0xE0 b0 → xor (leb 0xC0 b1) (within trail b0) ≡ invalid 0 0 b1 b0
+invalid-two {b1} {b0} p1 p0 =
+    simp (or-false, ne-eqb b1 0xE0 (λ e. omega (arith, p1 .low)), ne-eqb b1 0xED (λ e. omega (arith, p1 .low))) at (invalid-three {m = b1} 0 (record { far = p1 .far; low = omega (arith, p1 .low) }) (record { far = p0 .far; low = omega (arith, p0 .low) }) (omega arith))
+
+pub invalid-plain-four : {b2 b1 b0 m : ℕ} (b3 : ℕ) → Between 0x21 0xF4 b2 → Between 0x21 0xF4 b1 → Between 0x21 0xF4 b0 → m ≡ max (max b1 b2) (b3 - 0x30) → (xor (leb 0xC0 m) (within trail b0) || (eqb b1 0xED && not (within (bytes 0x80 0x9F) b0)) || (eqb b1 0xF0 && within (bytes 0x80 0x8F) b0)) ≡ invalid b3 b2 b1 b0
 unfolding invalid xor second
 invalid-plain-four {b2} {b1} {b0} b3 p2 p1 p0 larger =
-    rw (plain-pending b3 b1 p2 (omega arith) larger, plain-never p0 (omega arith))
+    rw (plain-pending b3 b1 p2 (omega arith) larger, between-never p0 (omega arith) (omega arith))
     (true-or-false (eqb b1 0xED)
     (λ d. rw (eqb-true b1 0xED d, pending-1 b3 b2 0xED (omega arith), below 0x9F b0 (omega arith)) (simp or-false (narrower (within trail b0) (ltb 0x9F b0))))
     (λ d. true-or-false (eqb b1 0xF0)
@@ -196,3 +215,31 @@ module _ (b3 b2 b1 b : ℕ) where
       true-or-false (within (second b1) b)
       (λ e. rw (p, e, never-low b (continues-high b (second-continues b1 b e))))
       (λ e. rw (p, e))
+
+-- a flag in the highest bit: what is left of `lead` from 40 on, or its complement
+pub standing-far : {far : ℕ} (lead b0 : ℕ) → far ≡ lead - 0x40 → within trail b0 ≡ true → ltb far 0x80 ≡ xor (leb 0xC0 lead) (within trail b0)
+unfolding xor
+standing-far {far} lead b0 e t =
+    rw t
+    (le-or-lt 0xC0 lead
+    (λ h. rw (le-leb 0xC0 lead h) (le-ltb far 0x80 (omega arith)))
+    (λ h. rw (lt-leb 0xC0 lead h) (lt-ltb far 0x80 (omega arith))))
+
+pub standing-near : {far : ℕ} (lead b0 : ℕ) → far ≡ lead - 0x40 → lead < 256 → within trail b0 ≡ false → ltb (0xFF - far) 0x80 ≡ xor (leb 0xC0 lead) (within trail b0)
+unfolding xor
+standing-near {far} lead b0 e small t =
+    rw t
+    (le-or-lt 0xC0 lead
+    (λ h. rw (le-leb 0xC0 lead h) (lt-ltb (0xFF - far) 0x80 (omega arith)))
+    (λ h. rw (lt-leb 0xC0 lead h) (le-ltb (0xFF - far) 0x80 (omega arith))))
+
+-- the flag of b0 after b2 and b1, and whether E0 and ED are followed by what they do not have for their second byte
+module _ {b1 b0 m t : ℕ} {f : Bool} (b2 : ℕ) (p1 : Between 2 0xF0 b1) (p0 : Between 2 0xF0 b0) (larger : m ≡ max b1 (b2 - 0x20)) (is : f ≡ xor (leb 0xC0 m) (within trail b0)) (added : t ≡ cond (within (bytes 0x80 0x9F) b0) 0x0D 0) where
+  flag-three : (f || eqb (b1 + t) 0xED) ≡ invalid 0 b2 b1 b0
+  flag-three = rw (is, added, three-odd b1 (within (bytes 0x80 0x9F) b0)) (invalid-three b2 p1 p0 larger)
+
+  pub three-if-odd : b1 + t ≡ 0xED → true ≡ invalid 0 b2 b1 b0
+  three-if-odd e = simp (eq-eqb (b1 + t) 0xED e, or-true) at flag-three
+
+  pub three-else : ((b1 + t ≡ 0xED) → ⊥) → f ≡ invalid 0 b2 b1 b0
+  three-else n = simp (ne-eqb (b1 + t) 0xED n, or-false) at flag-three

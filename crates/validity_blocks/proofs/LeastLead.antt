@@ -1,11 +1,12 @@
--- Laws of `leastLead`: at an index, and byte by byte.
+-- Laws of `leastLead`: at an index, byte by byte, and in parts.
 use Prim.Native.Nat.{ℕ, zero, suc, _+_, _≤_, _<_, min}
-use mathlib.Core.Path.{_≡_}
+use mathlib.Core.Path.{_≡_, refl}
 use mathlib.Core.List.{List, [], _∷_}
 use native.Mathlib.Numerals.{add-one}
 use native.Mathlib.Omega.{arith}
-use lib.ListN.{length, getD, drop, drop-of-length-le}
-use lib.Seq.{drop-cons}
+use lib.ListN.{length, getD, take, drop, length-drop, drop-of-length-le}
+use lib.Seq.{drop-cons, take-length}
+use Rattle.buffers.specs.Splice.{part}
 use Rattle.validity_blocks.specs.Extremes.{fromLead, leastLead}
 
 pub least-at : (s : List ℕ) (i : ℕ) → leastLead s ≤ fromLead (getD s i 0)
@@ -37,3 +38,15 @@ least-more {s} {i = i} k h here new =
 pub least-done : {s : List ℕ} {m i : ℕ} → LeastSoFar s m i → length s ≤ i → m ≡ leastLead s
 unfolding leastLead
 least-done {s} k past = let none = rw (drop-of-length-le s past) at (k .with-rest) in omega (arith, k .small)
+
+-- a text in two parts
+least-parts : (n : ℕ) (s : List ℕ) → min (leastLead (take n s)) (leastLead (drop n s)) ≡ leastLead s
+unfolding leastLead
+least-parts zero s = omega (arith, least-most s)
+least-parts (suc n) [] = refl
+least-parts (suc n) (b ∷ s) = omega (arith, least-parts n s)
+
+pub parts-least : (s : List ℕ) {a b m : ℕ} → a ≡ leastLead (take 3 s) → b ≡ leastLead (part s 3 (length s)) → m ≡ min a b → m ≡ leastLead s
+parts-least s front back both =
+    let rest = rw (← length-drop 3 s, take-length (drop 3 s)) at back in
+    omega (arith, least-parts 3 s)

@@ -1,16 +1,19 @@
 -- Laws of `valid` and `validFirst`: a byte of a block by the four read there, and the loops over a block's bytes.
-use Prim.Native.Nat.{ℕ, _+_, _-_, _≤_, _<_}
-use mathlib.Core.Path.{_≡_, _∙_, ap, refl}
+use Prim.Native.Nat.{ℕ, _+_, _-_, _≤_, _<_, min}
+use mathlib.Core.Path.{_≡_, _∙_, ap, refl, sym}
 use mathlib.Core.Bool.{Bool, true, false, _&&_, _||_, not, Bool·not-not}
 use mathlib.Core.List.{List}
 use native.Mathlib.Nat.{add-comm, add-zero}
 use native.Mathlib.Omega.{arith}
+use borrow.Author.Tests.{le-leb, lt-leb, lt-ltb, le-ltb}
+use lib.Dec.{leb, ltb}
 use lib.ListN.{length, getD, drop, length-take, length-drop}
 use lib.Seq.{getD-drop, take-length}
 use Rattle.buffers.specs.Every.{everyBelow}
 use Rattle.buffers.specs.Splice.{part}
+use Rattle.buffers.proofs.Cases.{le-or-lt}
 use Rattle.buffers.proofs.Every.{every-suc, every-all}
-use Rattle.validity_blocks.specs.Extremes.{largest, leastLead, Plain}
+use Rattle.validity_blocks.specs.Extremes.{largest, leastLead, Between}
 use Rattle.validity_blocks.specs.Valid.{invalid, valid, validFirst}
 use Rattle.validity_blocks.proofs.Largest.{largest-at}
 use Rattle.validity_blocks.proofs.LeastLead.{least-at}
@@ -28,8 +31,8 @@ rest-at s k j = rw (← length-drop k s, take-length (drop k s), getD-drop k s j
 pub rest-below : (s : List ℕ) {n : ℕ} (k j : ℕ) → largest s < n → getD (part s k (length s)) j 0 < n
 rest-below s k j h = rw (rest-at s k j) (omega (arith, largest-at s (j + k)))
 
-pub rest-plain : (s : List ℕ) {n : ℕ} (k j : ℕ) → largest s < n → 0x21 ≤ leastLead s → Plain n (getD (part s k (length s)) j 0)
-rest-plain s k j low far = record { far = rw (rest-at s k j) (omega (arith, least-at s (j + k))); low = rest-below s k j low }
+pub rest-between : (s : List ℕ) {l n : ℕ} (k j : ℕ) → largest s < n → l ≤ leastLead s → Between l n (getD (part s k (length s)) j 0)
+rest-between s k j low far = record { far = rw (rest-at s k j) (omega (arith, least-at s (j + k))); low = rest-below s k j low }
 
 -- the same, read from a block and what is left of it from 1, 2 and 3 on
 module _ (s : List ℕ) (j : ℕ) {f : Bool} where
@@ -80,3 +83,26 @@ pub invalid-done : {s : List ℕ} {j : ℕ} {bad : Bool} → InvalidSoFar s bad 
 invalid-done {s} {j} k h =
     let full : j ≡ length s - 3 = omega (arith, k .most, simp (length-take, length-drop) at h) in
     ap not (k .says) ∙ Bool·not-not (validFirst s j) ∙ ap (validFirst s) full
+
+-- the same by a flag: below 80 where one of the first j bytes is invalid
+pub record FlagSoFar (s : List ℕ) (flag j : ℕ) : Type 0 where
+  pub so-far : InvalidSoFar s (ltb flag 0x80) j
+
+pub flag-none : {s : List ℕ} → FlagSoFar s 0xFF 0
+flag-none = record { so-far = invalid-none }
+
+pub flag-more : {s : List ℕ} {j flag r : ℕ} (f : ℕ) → FlagSoFar s flag j → j < length (part s 3 (length s)) → not (ltb f 0x80) ≡ valid (drop j s) → r ≡ min flag f → FlagSoFar s r (j + 1)
+flag-more {s} {j} {flag} {r} f k h q least =
+    let both : (ltb flag 0x80 || ltb f 0x80) ≡ ltb r 0x80 =
+    le-or-lt 0x80 flag
+    (λ high. le-or-lt 0x80 f
+    (λ far. rw (le-ltb flag 0x80 high, le-ltb f 0x80 far) (sym (le-ltb r 0x80 (omega arith))))
+    (λ near. rw (le-ltb flag 0x80 high, lt-ltb f 0x80 near) (sym (lt-ltb r 0x80 (omega arith)))))
+    (λ low. rw (lt-ltb flag 0x80 low) (sym (lt-ltb r 0x80 (omega arith)))) in
+    record { so-far = rw both at (invalid-more (ltb f 0x80) (k .so-far) h q) }
+
+pub flag-done : {s : List ℕ} {j flag : ℕ} → FlagSoFar s flag j → length (part s 3 (length s)) ≤ j → leb 0x80 flag ≡ validFirst s (length s - 3)
+flag-done {flag = flag} k h =
+    le-or-lt 0x80 flag
+    (λ high. le-leb 0x80 flag high ∙ sym (ap not (le-ltb flag 0x80 high)) ∙ invalid-done (k .so-far) h)
+    (λ low. lt-leb 0x80 flag low ∙ sym (ap not (lt-ltb flag 0x80 low)) ∙ invalid-done (k .so-far) h)

@@ -16,7 +16,8 @@ unfoldable pub leastLead : List ℕ → ℕ
 leastLead [] = 0x40
 leastLead (b ∷ s) = min (fromLead b) (leastLead s)
 
--- a byte that leads nothing, or E1 and more below `most`: up to EC the second byte is any of 80..BF in Table 3-7
-pub record Plain (most b : ℕ) : Type 0 where
-  pub far : 0x21 ≤ fromLead b
+-- a byte below `most` that leads nothing or counts `least` or more: 2 is C2, the first that leads a character; 21 is
+-- E1, and up to EC the second byte is then any of 80..BF in Table 3-7
+pub record Between (least most b : ℕ) : Type 0 where
+  pub far : least ≤ fromLead b
   pub low : b < most

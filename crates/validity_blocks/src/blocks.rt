@@ -1,13 +1,13 @@
-// A block of the text is judged at once, by the test that its largest byte asks for: the fewer kinds of characters,
-// the shorter. Each function is an inner one: a block begins with the three bytes before it.
+// A block of the text is judged at once, by the test that its largest byte and its least lead byte ask for: the
+// fewer kinds of characters, the shorter. Each function is an inner one: a block begins with the three bytes before it.
 use crate::bytes::invalid;
-use crate::bytes::invalid_plain;
 use crate::bytes::invalid_plain_four;
-use crate::bytes::invalid_three;
-use crate::bytes::invalid_two;
-use crate::extremes::largest;
-use crate::extremes::least_lead;
+use crate::bytes::standing_plain;
+use crate::bytes::standing_three;
+use crate::bytes::standing_two;
+use crate::extremes::bounds_of;
 use crate::extremes::max;
+use crate::extremes::min;
 ghost use mathlib.Core.Path.{_≡_};
 ghost use Prim.Native.Nat.{_-_, _≤_, _<_};
 ghost use lib.ListN.{length};
@@ -32,37 +32,37 @@ pub fn valid_four(s: &[u8]) -> bool
     !bad
 }
 
-// The same without characters of four bytes.
+// The same without C0 and C1 and characters of four bytes.
 fn valid_three(s: &[u8]) -> bool
-    requires { ⌜ (3 ≤ length (now s)) × (largest (now s) < 0xF0) ⌝ }
+    requires { ⌜ (3 ≤ length (now s)) × (largest (now s) < 0xF0) × (2 ≤ leastLead (now s)) ⌝ }
     ensures { λ r. ⌜ r ≡ validFirst (now (s .entry)) (length (now (s .entry)) - 3) ⌝ }
 {
     let s2 = &s[1..];
     let s1 = &s[2..];
     let s0 = &s[3..];
-    let mut bad = false;
+    let mut flag: u8 = 0xFF;
     let mut j = 0;
     while j < s0.len() {
-        bad = bad | invalid_three(s2[j], s1[j], s0[j]);
+        flag = min(flag, standing_three(s2[j], s1[j], s0[j]));
         j += 1;
     }
-    !bad
+    0x80 <= flag
 }
 
 // The same without characters of three bytes too.
 fn valid_two(s: &[u8]) -> bool
-    requires { ⌜ (3 ≤ length (now s)) × (largest (now s) < 0xE0) ⌝ }
+    requires { ⌜ (3 ≤ length (now s)) × (largest (now s) < 0xE0) × (2 ≤ leastLead (now s)) ⌝ }
     ensures { λ r. ⌜ r ≡ validFirst (now (s .entry)) (length (now (s .entry)) - 3) ⌝ }
 {
     let s1 = &s[2..];
     let s0 = &s[3..];
-    let mut bad = false;
+    let mut flag: u8 = 0xFF;
     let mut j = 0;
     while j < s0.len() {
-        bad = bad | invalid_two(s1[j], s0[j]);
+        flag = min(flag, standing_two(s1[j], s0[j]));
         j += 1;
     }
-    !bad
+    0x80 <= flag
 }
 
 // The same where every lead byte is between E1 and EC.
@@ -73,13 +73,13 @@ fn valid_plain(s: &[u8]) -> bool
     let s2 = &s[1..];
     let s1 = &s[2..];
     let s0 = &s[3..];
-    let mut bad = false;
+    let mut flag: u8 = 0xFF;
     let mut j = 0;
     while j < s0.len() {
-        bad = bad | invalid_plain(s2[j], s1[j], s0[j]);
+        flag = min(flag, standing_plain(s2[j], s1[j], s0[j]));
         j += 1;
     }
-    !bad
+    0x80 <= flag
 }
 
 // The same where every lead byte is between E1 and F3.
@@ -99,20 +99,26 @@ fn valid_plain_four(s: &[u8]) -> bool
     !bad
 }
 
-// The same by the test that the largest byte asks for, and, where E1..EC or E1..F3 may be all, the least lead byte.
+// The same by the test that the largest byte and the least lead byte ask for.
 pub fn valid_block(s: &[u8]) -> bool
     requires { ⌜ 3 ≤ length (now s) ⌝ }
     ensures { λ r. ⌜ r ≡ validFirst (now (s .entry)) (length (now (s .entry)) - 3) ⌝ }
 {
-    let most = max(largest(&s[..3]), largest(&s[3..]));
+    let front = bounds_of(&s[..3]);
+    let back = bounds_of(&s[3..]);
+    let most = max(front.most, back.most);
     if most < 0x80 {
         return true;
+    }
+    let least = min(front.least, back.least);
+    if least < 2 {
+        return valid_four(s);
     }
     if most < 0xE0 {
         return valid_two(s);
     }
     if most < 0xED {
-        if 0x21 <= least_lead(s) {
+        if 0x21 <= least {
             return valid_plain(s);
         }
     }
@@ -120,7 +126,7 @@ pub fn valid_block(s: &[u8]) -> bool
         return valid_three(s);
     }
     if most < 0xF4 {
-        if 0x21 <= least_lead(s) {
+        if 0x21 <= least {
             return valid_plain_four(s);
         }
     }

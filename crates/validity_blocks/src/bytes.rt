@@ -3,8 +3,11 @@
 use crate::extremes::max;
 use crate::extremes::over;
 ghost use mathlib.Core.Path.{_≡_};
-ghost use Prim.Native.Nat.{_<_};
-ghost use Rattle.validity_blocks.specs.Extremes.{Plain};
+ghost use mathlib.Core.Bool.{cond, xor};
+ghost use Prim.Native.Nat.{_≤_};
+ghost use lib.Dec.{leb, ltb};
+ghost use Rattle.utf8.specs.Table.{trail, within};
+ghost use Rattle.validity_blocks.specs.Extremes.{Between};
 ghost use Rattle.validity_blocks.specs.Valid.{invalid};
 
 // Whether b0 cannot stand after b3, b2, b1. `odd` is what E0, ED, F0 and F4 do not have for their second byte.
@@ -21,43 +24,62 @@ pub fn invalid(b3: u8, b2: u8, b1: u8, b0: u8) -> bool
     (pending != trail) | never | odd
 }
 
-// The same without characters of four bytes.
-pub fn invalid_three(b2: u8, b1: u8, b0: u8) -> bool
-    requires { ⌜ (b1 < 0xF0) × (b0 < 0xF0) ⌝ }
-    ensures { λ r. ⌜ r ≡ invalid 0 b2 b1 b0 ⌝ }
+// A flag in the highest bit, clear where b0 continues a character and `lead` is below C0, or neither. A difference cut
+// off at 0 and a complement are an instruction each, where two comparisons are five.
+fn standing(lead: u8, b0: u8) -> u8
+    ensures { λ r. ⌜ ltb r 0x80 ≡ xor (leb 0xC0 lead) (within trail b0) ⌝ }
 {
-    let pending = (0xC0 <= b1) | (0xE0 <= b2);
-    let trail = (0x80 <= b0) & (b0 <= 0xBF);
-    let never = (0xC0 <= b0) & (b0 < 0xC2);
-    let low = b0 < 0xA0;
-    let odd = ((b1 == 0xE0) & low) | ((b1 == 0xED) & !low);
-    (pending != trail) | never | odd
+    let far = over(lead, 0x40);
+    if (0x80 <= b0) & (b0 <= 0xBF) {
+        return far;
+    }
+    0xFF - far
+}
+
+// A number where it is asked for, or 0.
+fn when(asked: bool, v: u8) -> u8
+    ensures { λ r. ⌜ (r ≡ cond asked v 0) × (r ≤ v) ⌝ }
+{
+    if asked {
+        return v;
+    }
+    0
+}
+
+// The flag is clear where b0 cannot stand after b2 and b1, without C0, C1 and characters of four bytes. What E0 does
+// not have for its second byte ED has, and the two are 0D apart: one comparison tells both.
+pub fn standing_three(b2: u8, b1: u8, b0: u8) -> u8
+    requires { ⌜ Between 2 0xF0 b1 × Between 2 0xF0 b0 ⌝ }
+    ensures { λ r. ⌜ ltb r 0x80 ≡ invalid 0 b2 b1 b0 ⌝ }
+{
+    let low = (0x80 <= b0) & (b0 <= 0x9F);
+    let flag = standing(max(b1, over(b2, 0x20)), b0);
+    if b1 + when(low, 0x0D) == 0xED {
+        return 0;
+    }
+    flag
 }
 
 // The same without characters of three bytes too.
-pub fn invalid_two(b1: u8, b0: u8) -> bool
-    requires { ⌜ (b1 < 0xE0) × (b0 < 0xE0) ⌝ }
-    ensures { λ r. ⌜ r ≡ invalid 0 0 b1 b0 ⌝ }
+pub fn standing_two(b1: u8, b0: u8) -> u8
+    requires { ⌜ Between 2 0xE0 b1 × Between 2 0xE0 b0 ⌝ }
+    ensures { λ r. ⌜ ltb r 0x80 ≡ invalid 0 0 b1 b0 ⌝ }
 {
-    let trail = (0x80 <= b0) & (b0 <= 0xBF);
-    let never = (0xC0 <= b0) & (b0 < 0xC2);
-    ((0xC0 <= b1) != trail) | never
+    standing(b1, b0)
 }
 
-// The same as `invalid_three` where every lead byte is between E1 and EC:
-// none is `never` or asks for an `odd` second byte.
-pub fn invalid_plain(b2: u8, b1: u8, b0: u8) -> bool
-    requires { ⌜ Plain 0xED b2 × Plain 0xED b1 × Plain 0xED b0 ⌝ }
-    ensures { λ r. ⌜ r ≡ invalid 0 b2 b1 b0 ⌝ }
+// The same as `standing_three` where every lead byte is between E1 and EC: none asks for an `odd` second byte.
+pub fn standing_plain(b2: u8, b1: u8, b0: u8) -> u8
+    requires { ⌜ Between 0x21 0xED b2 × Between 0x21 0xED b1 × Between 0x21 0xED b0 ⌝ }
+    ensures { λ r. ⌜ ltb r 0x80 ≡ invalid 0 b2 b1 b0 ⌝ }
 {
-    let trail = (0x80 <= b0) & (b0 <= 0xBF);
-    (0xC0 <= max(b1, b2)) != trail
+    standing(max(b1, b2), b0)
 }
 
 // The same as `invalid` where every lead byte is between E1 and F3. The ranges from 80 on are one comparison each of
 // signed bytes.
 pub fn invalid_plain_four(b3: u8, b2: u8, b1: u8, b0: u8) -> bool
-    requires { ⌜ Plain 0xF4 b2 × Plain 0xF4 b1 × Plain 0xF4 b0 ⌝ }
+    requires { ⌜ Between 0x21 0xF4 b2 × Between 0x21 0xF4 b1 × Between 0x21 0xF4 b0 ⌝ }
     ensures { λ r. ⌜ r ≡ invalid b3 b2 b1 b0 ⌝ }
 {
     let pending = 0xC0 <= max(max(b1, b2), over(b3, 0x30));

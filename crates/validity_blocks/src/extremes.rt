@@ -12,7 +12,7 @@ pub fn max(a: u8, b: u8) -> u8
     a
 }
 
-fn min(a: u8, b: u8) -> u8
+pub fn min(a: u8, b: u8) -> u8
     ensures { λ r. ⌜ r ≡ min a b ⌝ }
 {
     if b < a {
@@ -44,15 +44,24 @@ pub fn largest(s: &[u8]) -> u8
     most
 }
 
-// The least lead byte, counted from C0 on, or 0x40: counted so, and around past FF, lead bytes are the least of all.
-pub fn least_lead(s: &[u8]) -> u8
-    ensures { λ r. ⌜ r ≡ leastLead (now (s .entry)) ⌝ }
+// The largest byte of a text, or 0, and its least lead byte, counted from C0 on, or 0x40: counted so, and around past
+// FF, lead bytes are the least of all.
+pub struct Bounds {
+    pub most: u8,
+    pub least: u8,
+}
+
+// Both in one pass: each byte is loaded once.
+pub fn bounds_of(s: &[u8]) -> Bounds
+    ensures { λ r. ⌜ (r .most ≡ largest (now (s .entry))) × (r .least ≡ leastLead (now (s .entry))) ⌝ }
 {
+    let mut most: u8 = 0;
     let mut least: u8 = 0x40;
     let mut i = 0;
     while i < s.len() {
+        most = max(most, s[i]);
         least = min(least, std::num::wrapping_add_u8(s[i], 0x40));
         i += 1;
     }
-    least
+    Bounds { most, least }
 }

@@ -27,13 +27,13 @@ returns-3 : tie.Need-returns-3 Inv-loop μ-loop
 returns-3 c =
     let test = c .before .before .before in
     let head = test .before .loop in
-    sym (from-all _ ∙ valid-not (head .inv .1) (head .i + 256) (omega arith) _ (c .before .valid-block .ensures ∙ block-valid _ _ _ (head .inv .0) (test .loop-test .taken)) (not-true _ (c .if3 .taken)))
+    sym (from-all _ ∙ valid-not (head .inv .1) (head .i + 384) (omega arith) _ (c .before .valid-block .ensures ∙ block-valid _ _ _ (head .inv .0) (test .loop-test .taken)) (not-true _ (c .if3 .taken)))
 
 loop-again : tie.Need-loop-again Inv-loop μ-loop
 loop-again c =
     let test = c .before .before .before in
     let head = test .before .loop in
-    (omega arith, valid-more (head .inv .1) (head .i + 256) (omega arith) _ (c .before .valid-block .ensures ∙ block-valid _ _ _ (head .inv .0) (test .loop-test .taken)) (not-false _ (c .if3 .left)))
+    (omega arith, valid-more (head .inv .1) (head .i + 384) (omega arith) _ (c .before .valid-block .ensures ∙ block-valid _ _ _ (head .inv .0) (test .loop-test .taken)) (not-false _ (c .if3 .left)))
 
 pub well-formed-spec : {M : Type 1} → statement M
 well-formed-spec =

@@ -2,7 +2,7 @@
 use Prim.Native.Nat.{_-_}
 use lib.ListN.{length}
 use native.Mathlib.Omega.{arith}
-use Rattle.validity_blocks.proofs.Valid.{InvalidSoFar, invalid-none, invalid-more, invalid-done, read-four, rest-plain}
+use Rattle.validity_blocks.proofs.Valid.{InvalidSoFar, invalid-none, invalid-more, invalid-done, read-four, rest-between}
 use Rattle.validity_blocks.proofs.blocks.valid_plain_four.Statement.{statement}
 use Rattle.validity_blocks.proofs.blocks.valid_plain_four.Tie as tie
 
@@ -16,7 +16,7 @@ invalid-plain-four-requires : tie.Need-invalid-plain-four-requires Inv-loop μ-l
 invalid-plain-four-requires c κs =
     let head = c .before .before .before .before .before in
     let pre = head .before .before .before .before .before .pre in
-    (rest-plain _ 1 _ (pre .1) (pre .2), rest-plain _ 2 _ (pre .1) (pre .2), rest-plain _ 3 _ (pre .1) (pre .2))
+    (rest-between _ 1 _ (pre .1) (pre .2), rest-between _ 2 _ (pre .1) (pre .2), rest-between _ 3 _ (pre .1) (pre .2))
 
 loop-again : tie.Need-loop-again Inv-loop μ-loop
 loop-again c =

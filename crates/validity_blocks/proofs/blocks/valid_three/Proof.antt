@@ -1,23 +1,28 @@
--- `bad` says whether one of the bytes so far is invalid.
+-- The flag is below 80 where one of the bytes so far is invalid.
 use Prim.Native.Nat.{_-_}
 use lib.ListN.{length}
 use native.Mathlib.Omega.{arith}
-use Rattle.validity_blocks.proofs.Valid.{InvalidSoFar, invalid-none, invalid-more, invalid-done, read-three, rest-below}
+use Rattle.validity_blocks.proofs.Valid.{FlagSoFar, flag-none, flag-more, flag-done, read-three, rest-between}
 use Rattle.validity_blocks.proofs.blocks.valid_three.Statement.{statement}
 use Rattle.validity_blocks.proofs.blocks.valid_three.Tie as tie
 
 abbrev Inv-loop : tie.InvT-loop
-Inv-loop s s2 s1 s0 bad₀ j₀ bad j = InvalidSoFar s bad j
+Inv-loop s s2 s1 s0 flag₀ j₀ flag j = FlagSoFar s flag j
 
 abbrev μ-loop : tie.MeasureT-loop
-μ-loop s s2 s1 s0 bad₀ j₀ bad j = length s - j
+μ-loop s s2 s1 s0 flag₀ j₀ flag j = length s - j
+
+standing-three-requires : tie.Need-standing-three-requires Inv-loop μ-loop
+standing-three-requires c κs =
+    let pre = c .before .before .before .before .before .before .before .before .before .pre in
+    (rest-between _ 2 _ (pre .1) (pre .2), rest-between _ 3 _ (pre .1) (pre .2))
 
 loop-again : tie.Need-loop-again Inv-loop μ-loop
 loop-again c =
-    let test = c .before .before .before .before in
+    let test = c .before .before .before .before .before in
     let head = test .before in
     let low = head .before .before .before .before .before .pre .1 in
-    invalid-more _ (head .loop .inv) (test .loop-test .taken) (read-three _ _ low (c .invalid-three .ensures))
+    flag-more _ (head .loop .inv) (test .loop-test .taken) (read-three _ _ low (c .before .standing-three .ensures)) (c .min .ensures)
 
 pub valid-three-spec : {M : Type 1} → statement M
 valid-three-spec =
@@ -34,12 +39,13 @@ valid-three-spec =
     (λ c. omega arith)
     (λ c. omega arith)
     (λ c. omega arith)
-    (λ c. invalid-none)
+    (λ c. flag-none)
     (λ c. omega arith)
     (λ c. omega arith)
     (λ c. omega arith)
-    (λ c κs. let low = c .before .before .before .before .before .before .before .before .before .pre .1 in (rest-below _ 2 _ low, rest-below _ 3 _ low))
+    standing-three-requires
+    (λ c κs. omega arith)
     (λ c. omega arith)
     (λ c. omega arith)
     loop-again
-    (λ c. invalid-done (c .before .loop .inv) (c .loop-test .left)))
+    (λ c. flag-done (c .before .loop .inv) (c .loop-test .left)))
