@@ -1,5 +1,5 @@
 -- Laws of `widthOf`, `leadsBelow`, `spansBelow` and `Inside`: an alignment that is one whole character cuts none.
-use Prim.Native.Nat.{ℕ, zero, suc, _+_, _-_, _≤_, _<_}
+use Prim.Native.Nat.{ℕ, zero, suc, _+_, _-_, _/_, _≤_, _<_, max, min}
 use mathlib.Core.Path.{_≡_, _∙_, ap, refl, sym}
 use mathlib.Core.Bool.{Bool, true, false, cond, _&&_, _||_, not}
 use mathlib.Core.List.{List}
@@ -9,7 +9,6 @@ use native.Mathlib.Omega.{arith}
 use lib.Dec.{leb, ltb, eqb}
 use lib.ListN.{length, getD, length-take, length-drop}
 use lib.Bits.{bitOr, bitXor}
-use mir.Val.{boolByte}
 use Rattle.buffers.specs.Every.{everyBelow}
 use Rattle.buffers.specs.Splice.{part}
 use Rattle.buffers.specs.Columns.{Filled}
@@ -17,70 +16,58 @@ use Rattle.buffers.proofs.Cases.{true-or-false, le-or-lt, clash}
 use Rattle.buffers.proofs.Booleans.{and-false-l}
 use Rattle.buffers.proofs.Every.{every-suc, every-add, every-at, every-all, every-ext}
 use Rattle.buffers.proofs.Splice.{part-index}
-use Rattle.utf8.specs.Table.{within}
 use Rattle.utf8.specs.Formed.{announced, continues, boundary, wellFormed}
 use Rattle.utf8.proofs.Boundaries.{boundary-at, boundary-begins, char-at, CharAt}
 use Rattle.boundaries.specs.Monotone.{follows, monotoneAt, monotone, uncut, uncutBelow}
 use Rattle.boundaries.specs.Spanning.{widthOf, leadsBelow, spansBelow, Inside}
 use Rattle.boundaries.proofs.Zeros.{or-none, xor-none}
 
-pub width-flags : (b : ℕ) (x : Bool) → x ≡ continues b → boolByte (not x) + boolByte (leb 0xC0 b) + boolByte (leb 0xE0 b) + boolByte (leb 0xF0 b) ≡ widthOf b
-unfolding widthOf continues within
-width-flags b x is =
-    rw is
-    (le-or-lt 0xC0 b
+-- by a byte's first four bits, counted from C on
+pub width-lead : (b : ℕ) {lead one r : ℕ} → b < 256 → lead ≡ b / 16 - 11 → one ≡ min lead 1 → r ≡ max lead (one + 1) → r ≡ widthOf b
+unfolding widthOf
+width-lead b small far one more =
+    le-or-lt 0xC0 b
     (λ c. le-or-lt 0xE0 b
     (λ e. le-or-lt 0xF0 b
-    (λ f. simp (le-leb 0x80 b (omega arith), lt-leb b 0xBF (omega arith), le-leb 0xC0 b c, le-leb 0xE0 b e, le-leb 0xF0 b f, le-ltb b 0xC0 c, le-ltb b 0xE0 e, le-ltb b 0xF0 f))
-    (λ f. simp (le-leb 0x80 b (omega arith), lt-leb b 0xBF (omega arith), le-leb 0xC0 b c, le-leb 0xE0 b e, lt-leb 0xF0 b f, le-ltb b 0xC0 c, le-ltb b 0xE0 e, lt-ltb b 0xF0 f)))
-    (λ e. simp (le-leb 0x80 b (omega arith), lt-leb b 0xBF (omega arith), le-leb 0xC0 b c, lt-leb 0xE0 b e, lt-leb 0xF0 b (omega arith), le-ltb b 0xC0 c, lt-ltb b 0xE0 e)))
-    (λ c. le-or-lt 0x80 b
-    (λ h. simp (le-leb 0x80 b h, le-leb b 0xBF (omega arith), lt-leb 0xC0 b c, lt-leb 0xE0 b (omega arith), lt-leb 0xF0 b (omega arith)))
-    (λ h. simp (lt-leb 0x80 b h, lt-leb 0xC0 b c, lt-leb 0xE0 b (omega arith), lt-leb 0xF0 b (omega arith), lt-ltb b 0xC0 c))))
-
-pub flag-small : (x : Bool) → boolByte x ≤ 1
-flag-small true = omega arith
-flag-small false = omega arith
+    (λ f. simp (le-ltb b 0xC0 c, le-ltb b 0xE0 e, le-ltb b 0xF0 f) (omega arith))
+    (λ f. simp (le-ltb b 0xC0 c, le-ltb b 0xE0 e, lt-ltb b 0xF0 f) (omega arith)))
+    (λ e. simp (le-ltb b 0xC0 c, lt-ltb b 0xE0 e) (omega arith)))
+    (λ c. simp (lt-ltb b 0xC0 c) (omega arith))
 
 -- a byte that leads a character in a well-formed text
-width-announced : (b : ℕ) → continues b ≡ false → 1 ≤ announced b → widthOf b ≡ announced b
+width-announced : (b : ℕ) → 1 ≤ announced b → widthOf b ≡ announced b
 unfolding widthOf announced
-width-announced b f some =
+width-announced b some =
     le-or-lt 0x80 b
     (λ h. le-or-lt 0xC2 b
     (λ c. le-or-lt 0xE0 b
     (λ e. le-or-lt 0xF0 b
     (λ g. le-or-lt 0xF5 b
     (λ k. absurd (omega (arith, simp (le-ltb b 0x80 h, le-ltb b 0xC2 c, le-ltb b 0xE0 e, le-ltb b 0xF0 g, le-ltb b 0xF5 k) at some)))
-    (λ k. simp (f, le-ltb b 0x80 h, le-ltb b 0xC0 (omega arith), le-ltb b 0xC2 c, le-ltb b 0xE0 e, le-ltb b 0xF0 g, lt-ltb b 0xF5 k)))
-    (λ g. simp (f, le-ltb b 0x80 h, le-ltb b 0xC0 (omega arith), le-ltb b 0xC2 c, le-ltb b 0xE0 e, lt-ltb b 0xF0 g)))
-    (λ e. simp (f, le-ltb b 0x80 h, le-ltb b 0xC0 (omega arith), le-ltb b 0xC2 c, lt-ltb b 0xE0 e)))
+    (λ k. simp (le-ltb b 0x80 h, le-ltb b 0xC0 (omega arith), le-ltb b 0xC2 c, le-ltb b 0xE0 e, le-ltb b 0xF0 g, lt-ltb b 0xF5 k)))
+    (λ g. simp (le-ltb b 0x80 h, le-ltb b 0xC0 (omega arith), le-ltb b 0xC2 c, le-ltb b 0xE0 e, lt-ltb b 0xF0 g)))
+    (λ e. simp (le-ltb b 0x80 h, le-ltb b 0xC0 (omega arith), le-ltb b 0xC2 c, lt-ltb b 0xE0 e)))
     (λ c. absurd (omega (arith, simp (le-ltb b 0x80 h, lt-ltb b 0xC2 c) at some))))
-    (λ h. simp (f, lt-ltb b 0x80 h, lt-ltb b 0xC0 (omega arith)))
+    (λ h. simp (lt-ltb b 0x80 h, lt-ltb b 0xC0 (omega arith)))
 
-width-leads : (b : ℕ) → not (eqb (widthOf b) 0) ≡ true → continues b ≡ false
-unfolding widthOf
-width-leads b some = true-or-false (continues b) (λ t. clash false (rw t at some) refl) (λ f. f)
-
-spans-uncut : (original : List ℕ) (s e : ℕ) {w : ℕ} → wellFormed original ≡ true → s < length original → w ≡ widthOf (getD original s 0) → not (eqb w 0) ≡ true → eqb (e - s) w ≡ true → (uncut original s && uncut original e) ≡ true
+spans-uncut : (original : List ℕ) (s e : ℕ) {w : ℕ} → wellFormed original ≡ true → s < length original → continues (getD original s 0) ≡ false → w ≡ widthOf (getD original s 0) → eqb (e - s) w ≡ true → (uncut original s && uncut original e) ≡ true
 unfolding uncut
-spans-uncut original s e {w} formed h is some spans =
+spans-uncut original s e {w} formed h leads is spans =
     let long : e - s ≡ w = eqb-true (e - s) w spans in
-    let leads : continues (getD original s 0) ≡ false = width-leads _ (rw is at some) in
     let here = char-at original s formed (boundary-at original s (omega arith) leads) h in
-    let wide : w ≡ announced (getD original s 0) = is ∙ width-announced _ leads (here .positive) in
+    let wide : w ≡ announced (getD original s 0) = is ∙ width-announced _ (here .positive) in
     let end : s + announced (getD original s 0) ≡ e = omega (arith, here .positive) in
     and-intro (ap not leads) (ap not (boundary-begins original e (rw end at (here .ends))))
 
 -- the loops over a block
-module _ (widths : List ℕ) where
-  pub leads-none : true ≡ leadsBelow widths 0
+module _ (bytes : List ℕ) where
+  pub leads-none : true ≡ leadsBelow bytes 0
   unfolding leadsBelow everyBelow
   leads-none = refl
 
-  pub leads-more : (j : ℕ) {ok : Bool} → ok ≡ leadsBelow widths j → (ok && not (eqb (getD widths j 0) 0)) ≡ leadsBelow widths (j + 1)
+  pub leads-more : (j : ℕ) {ok more : Bool} → ok ≡ leadsBelow bytes j → more ≡ continues (getD bytes j 0) → (ok && not more) ≡ leadsBelow bytes (j + 1)
   unfolding leadsBelow
-  leads-more j is = rw (is, every-suc j (λ k. not (eqb (getD widths k 0) 0)))
+  leads-more j is here = rw (is, here, every-suc j (λ k. not (continues (getD bytes k 0))))
 
 module _ (widths starts ends : List ℕ) where
   pub spans-none : eqb 0 0 ≡ spansBelow widths starts ends 0
@@ -92,15 +79,16 @@ module _ (widths starts ends : List ℕ) where
   spans-more j apart {r} is far =
       rw (or-none apart (bitXor r (getD widths j 0)), xor-none r (getD widths j 0), is, far, every-suc j (λ k. eqb (getD ends k 0 - getD starts k 0) (getD widths k 0)))
 
-pub all-spans : {original starts bytes₀ bytes widths₀ widths : List ℕ} (ends : List ℕ) → Inside original starts → length starts ≡ 128 → length bytes₀ ≡ 128 → length widths₀ ≡ 128 → Filled (λ k. getD original (getD starts k 0) 0) bytes₀ 0 (length bytes₀) bytes → Filled (λ k. widthOf (getD bytes k 0)) widths₀ 0 (length widths₀) widths → leadsBelow widths (length widths) ≡ true → spansBelow widths starts ends (length widths) ≡ true → uncutBelow original starts ends 128 ≡ true
+pub all-spans : {original starts bytes₀ bytes widths₀ widths : List ℕ} (ends : List ℕ) → Inside original starts → length starts ≡ 64 → length bytes₀ ≡ 64 → length widths₀ ≡ 64 → Filled (λ k. getD original (getD starts k 0) 0) bytes₀ 0 (length bytes₀) bytes → Filled (λ k. widthOf (getD bytes k 0)) widths₀ 0 (length widths₀) widths → leadsBelow bytes (length bytes) ≡ true → spansBelow widths starts ends (length widths) ≡ true → uncutBelow original starts ends 64 ≡ true
 unfolding uncutBelow leadsBelow spansBelow
 all-spans {original} {starts} {bytes = bytes} {widths = widths} ends known long n m read wide leads spans =
-    let size : length widths ≡ 128 = wide .same ∙ m in
-    every-all 128 _
+    let size : length widths ≡ 64 = wide .same ∙ m in
+    let full : length bytes ≡ 64 = read .same ∙ n in
+    every-all 64 _
     (λ k h.
     spans-uncut original (getD starts k 0) (getD ends k 0) (known .formed) (known .below k (omega arith))
+    (ap continues (sym (read .within k (omega arith) (omega arith))) ∙ not-true _ (every-at (length bytes) (λ (i : ℕ). not (continues (getD bytes i 0))) leads k (omega arith)))
     (wide .within k (omega arith) (omega arith) ∙ ap widthOf (read .within k (omega arith) (omega arith)))
-    (every-at (length widths) (λ (i : ℕ). not (eqb (getD widths i 0) 0)) leads k (omega arith))
     (every-at (length widths) (λ (i : ℕ). eqb (getD ends i 0 - getD starts i 0) (getD widths i 0)) spans k (omega arith)))
 
 -- alignments in two parts
@@ -116,13 +104,13 @@ module _ (o s e : List ℕ) (i : ℕ) {r : Bool} where
   block-read : (n : ℕ) → uncutBelow o s e i ≡ true → r ≡ uncutBelow o (part s i (i + n)) (part e i (i + n)) n → uncutBelow o s e (i + n) ≡ r
   block-read n so-far is = uncut-parts o s e i n ∙ rw (so-far, ← is)
 
-  pub blocks-more : uncutBelow o s e i ≡ true → r ≡ uncutBelow o (part s i (i + 128)) (part e i (i + 128)) 128 → not r ≡ false → uncutBelow o s e (i + 128) ≡ true
-  blocks-more so-far is t = block-read 128 so-far is ∙ not-false r t
+  pub blocks-more : uncutBelow o s e i ≡ true → r ≡ uncutBelow o (part s i (i + 64)) (part e i (i + 64)) 64 → not r ≡ false → uncutBelow o s e (i + 64) ≡ true
+  blocks-more so-far is t = block-read 64 so-far is ∙ not-false r t
 
-  pub blocks-cut : uncutBelow o s e i ≡ true → r ≡ uncutBelow o (part s i (i + 128)) (part e i (i + 128)) 128 → not r ≡ true → i + 128 ≤ length s → false ≡ uncutBelow o s e (length s)
+  pub blocks-cut : uncutBelow o s e i ≡ true → r ≡ uncutBelow o (part s i (i + 64)) (part e i (i + 64)) 64 → not r ≡ true → i + 64 ≤ length s → false ≡ uncutBelow o s e (length s)
   blocks-cut so-far is f h =
-      let whole : i + 128 + (length s - (i + 128)) ≡ length s = omega arith in
-      sym (rw whole at (uncut-parts o s e (i + 128) (length s - (i + 128)) ∙ and-false-l _ _ (block-read 128 so-far is ∙ not-true r f)))
+      let whole : i + 64 + (length s - (i + 64)) ≡ length s = omega arith in
+      sym (rw whole at (uncut-parts o s e (i + 64) (length s - (i + 64)) ∙ and-false-l _ _ (block-read 64 so-far is ∙ not-true r f)))
 
   pub blocks-rest : i ≤ length s → length e ≡ length s → uncutBelow o s e i ≡ true → r ≡ uncutBelow o (part s i (length s)) (part e i (length e)) (length (part s i (length s))) → r ≡ uncutBelow o s e (length s)
   blocks-rest h same so-far is =
@@ -130,13 +118,13 @@ module _ (o s e : List ℕ) (i : ℕ) {r : Bool} where
       let left : length (part s i (length s)) ≡ length s - i = simp (length-take, length-drop) (omega arith) in
       is ∙ rw (left, same) (sym (rw (so-far, whole) at (uncut-parts o s e i (length s - i))))
 
-pub inside-part : {o s : List ℕ} (i : ℕ) → Inside o s → i + 128 ≤ length s → Inside o (part s i (i + 128))
+pub inside-part : {o s : List ℕ} (i : ℕ) → Inside o s → i + 64 ≤ length s → Inside o (part s i (i + 64))
 inside-part {o} {s} i known h =
     record {
       formed = known .formed;
       below = λ k b.
-          let low : k < 128 = omega (arith, simp (length-take, length-drop) at b) in
-          rw (part-index s i (i + 128) k (omega arith)) (known .below (i + k) (omega arith));
+          let low : k < 64 = omega (arith, simp (length-take, length-drop) at b) in
+          rw (part-index s i (i + 64) k (omega arith)) (known .below (i + k) (omega arith));
     }
 
 -- starts that never go back are all inside where the last one is

@@ -8,12 +8,12 @@ use lib.ListN.{length, getD}
 use Rattle.buffers.specs.Every.{everyBelow}
 use Rattle.utf8.specs.Formed.{continues, wellFormed}
 
--- how many bytes the character has that b leads in a well-formed text; 0 where b leads none
+-- how many bytes the character has that b leads in a well-formed text
 unfoldable pub widthOf : ℕ → ℕ
-widthOf b = cond (continues b) 0 (cond (ltb b 0xC0) 1 (cond (ltb b 0xE0) 2 (cond (ltb b 0xF0) 3 4)))
+widthOf b = cond (ltb b 0xC0) 1 (cond (ltb b 0xE0) 2 (cond (ltb b 0xF0) 3 4))
 
 unfoldable pub leadsBelow : List ℕ → ℕ → Bool
-leadsBelow widths n = everyBelow n (λ k. not (eqb (getD widths k 0) 0))
+leadsBelow bytes n = everyBelow n (λ k. not (continues (getD bytes k 0)))
 
 unfoldable pub spansBelow : List ℕ → List ℕ → List ℕ → ℕ → Bool
 spansBelow widths starts ends n = everyBelow n (λ k. eqb (getD ends k 0 - getD starts k 0) (getD widths k 0))

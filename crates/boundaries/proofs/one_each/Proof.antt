@@ -11,21 +11,18 @@ use Rattle.boundaries.proofs.one_each.Tie as tie
 returns-2 : tie.Need-returns-2
 returns-2 c t =
     let lead = c .before .before .before in
-    let written = lead .before .before .before in
+    let written = lead .before .before .before .before in
     let read = written .before .before .before .before in
     let entry = read .before .before .before .before .before in
-    all-spans _ (entry .pre .1) (entry .pre .0 .0) refl refl (read .read-at .ensures) (written .write-widths .ensures) (sym (lead .all-lead .ensures) ∙ not-false _ (c .before .before .if1 .left)) (sym (c .all-span .ensures) ∙ t)
+    all-spans _ (entry .pre .1) (entry .pre .0 .0) (read .before .read-at-arg .given .0 .1) refl (read .read-at .ensures) (written .write-widths .ensures) (sym (lead .all-lead .ensures) ∙ not-false _ (c .before .before .if1 .left)) (sym (c .all-span .ensures) ∙ t)
 
 pub one-each-spec : {M : Type 1} → statement M
 one-each-spec =
     tie.close
     (tie.spec
-    (λ c. search needs)
     (λ c κs. search needs)
     (λ c. search needs)
-    (λ c. search needs)
     (λ c κs. search needs)
-    (λ c. search needs)
     (λ c κs. search needs)
     (λ c t. clash false t refl)
     (λ c. search needs)

@@ -11,13 +11,13 @@ use Rattle.boundaries.proofs.uncut_blocks.Statement.{statement}
 use Rattle.boundaries.proofs.uncut_blocks.Tie as tie
 
 abbrev Inv-loop : tie.InvT-loop
-Inv-loop original starts ends i₀ i = (i ≤ length starts) × (uncutBelow original starts ends i ≡ true)
+Inv-loop original starts ends bytes₀ i₀ bytes i = (i ≤ length starts) × (uncutBelow original starts ends i ≡ true)
 
 abbrev μ-loop : tie.MeasureT-loop
-μ-loop original starts ends i₀ i = length starts - i
+μ-loop original starts ends bytes₀ i₀ bytes i = length starts - i
 
 block-uncut-requires : tie.Need-block-uncut-requires Inv-loop μ-loop
-block-uncut-requires c κs = ((simp (length-take, length-drop) (omega arith), simp (length-take, length-drop) (omega arith)), inside-part (c .before .before .before .loop .i) (c .before .before .before .before .before .before .before .pre .1) (omega arith))
+block-uncut-requires c κs = ((simp (length-take, length-drop) (omega arith), simp (length-take, length-drop) (omega arith)), inside-part (c .before .before .before .before .loop .i) (c .before .before .before .before .before .before .before .before .pre .1) (omega arith))
 
 pub uncut-blocks-spec : {M : Type 1} → statement M
 uncut-blocks-spec =
@@ -38,10 +38,10 @@ uncut-blocks-spec =
     (λ c. omega arith)
     (λ c. omega arith)
     block-uncut-requires
-    (λ c. blocks-cut _ _ _ _ (c .before .before .before .before .before .loop .inv .1) (c .before .block-uncut .ensures) (c .if1 .taken) (omega arith))
+    (λ c. blocks-cut _ _ _ _ (c .before .before .before .before .before .before .loop .inv .1) (c .before .block-uncut .ensures) (c .if1 .taken) (omega arith))
     (λ c. omega arith)
     (λ c. omega arith)
-    (λ c. (omega arith, blocks-more _ _ _ _ (c .before .before .before .before .before .loop .inv .1) (c .before .block-uncut .ensures) (c .if1 .left)))
+    (λ c. (omega arith, blocks-more _ _ _ _ (c .before .before .before .before .before .before .loop .inv .1) (c .before .block-uncut .ensures) (c .if1 .left)))
     (λ c. omega arith)
     (λ c. omega arith)
     (λ c. omega arith)
