@@ -5,22 +5,44 @@ use Rattle.filters.proofs.Spanned.{flag-each, spanned-room, copied-room
 use Rattle.filters.proofs.filter_range.Statement.{statement}
 use Rattle.filters.proofs.filter_range.Tie as tie
 
+-- the places that others are told by: the entry, where it is known what the range spans, where all of it is kept, and where the end of what is kept is known
+abbrev entry : tie.After-spans → tie.Start
+entry c = c .before .before .before .before .before .before .before .before .before
+
+abbrev whole : tie.After-keep → tie.Then2
+whole c = c .before .before .before .before
+
+abbrev ended : tie.After-lay-chosen → tie.After-kept-end
+ended c = c .before .before .before .before
+
 keep-requires : tie.Need-keep-requires
-keep-requires c κs = let entry = c .before .before .before .before .before .before .before .before .before .before .before .before .before .before .before in
-    copied-room (entry .pre) limit (entry .args .from) (entry .args .to) (entry .args .out .now) (entry .args .out-starts .now) (entry .args .out-ends .now) (c .before .before .before .before .before .before .before .least-room .ensures) (c .before .before .before .before .before .before .spans .ensures) (c .before .before .before .before .before .if1 .taken)
+keep-requires c κs =
+    let whole = c .before .before .before in
+    let told = whole .before .before .before in
+    let entry = entry told in
+    copied-room (entry .pre) limit (entry .args .from) (entry .args .to) (entry .args .out .now) (entry .args .out-starts .now) (entry .args .out-ends .now) (told .before .least-room .ensures) (told .spans .ensures) (whole .before .before .if1 .taken)
 
 returns : tie.Need-returns
-returns c = let entry = c .before .before .before .before .before .before .before .before .before .before .before .before .before .before .before .before .before .before .before .before .before .before in
-    spanned-made (entry .pre) limit (entry .args .from) (entry .args .to) (entry .args .out .now) (entry .args .out-starts .now) (entry .args .out-ends .now) (c .before .before .before .before .before .before .before .before .before .before .before .before .before .before .least-room .ensures) (c .before .before .before .before .before .before .before .before .before .before .before .before .before .spans .ensures) (c .before .before .before .before .before .before .before .before .before .before .before .before .if1 .taken)
-    (all-copied (flag-each (entry .pre)) (c .before .before .before .before .before .before .before .before .before .before .before .all-kept .ensures (c .before .before .before .before .before .before .before .before .before .before .if2 .taken)) (entry .pre .editable .one-start) (entry .pre .editable .one-end) (c .before .before .before .before .before .before .keep .ensures))
+returns c =
+    let laid = c .before .before .before .before .before .before in
+    let told = whole laid .before .before .before in
+    let entry = entry told in
+    spanned-made (entry .pre) limit (entry .args .from) (entry .args .to) (entry .args .out .now) (entry .args .out-starts .now) (entry .args .out-ends .now) (told .before .least-room .ensures) (told .spans .ensures) (whole laid .before .before .if1 .taken)
+    (all-copied (flag-each (entry .pre)) (whole laid .before .all-kept .ensures (whole laid .if2 .taken)) (entry .pre .editable .one-start) (entry .pre .editable .one-end) (laid .keep .ensures))
 
 lay-chosen-requires : tie.Need-lay-chosen-requires
-lay-chosen-requires c κs = let entry = c .before .before .before .before .before .before .before .before .before .before .before .before .before .before .before .before in
-    spanned-room (entry .pre) limit (entry .args .from) (entry .args .to) (entry .args .out .now) (entry .args .out-starts .now) (entry .args .out-ends .now) (c .before .before .before .before .before .before .before .before .least-room .ensures) (c .before .before .before .before .before .before .before .spans .ensures) (c .before .before .before .before .before .before .if1 .taken) (c .before .before .before .kept-end .ensures)
+lay-chosen-requires c κs =
+    let ended = c .before .before .before in
+    let told = ended .before .before .before .before in
+    let entry = entry told in
+    spanned-room (entry .pre) limit (entry .args .from) (entry .args .to) (entry .args .out .now) (entry .args .out-starts .now) (entry .args .out-ends .now) (told .before .least-room .ensures) (told .spans .ensures) (ended .before .before .before .if1 .taken) (ended .kept-end .ensures)
 
 returns-2 : tie.Need-returns-2
-returns-2 c = let entry = c .before .before .before .before .before .before .before .before .before .before .before .before .before .before .before .before .before .before .before .before .before .before .before in
-    spanned-made (entry .pre) limit (entry .args .from) (entry .args .to) (entry .args .out .now) (entry .args .out-starts .now) (entry .args .out-ends .now) (c .before .before .before .before .before .before .before .before .before .before .before .before .before .before .before .least-room .ensures) (c .before .before .before .before .before .before .before .before .before .before .before .before .before .before .spans .ensures) (c .before .before .before .before .before .before .before .before .before .before .before .before .before .if1 .taken) (c .before .before .before .before .before .before .lay-chosen .ensures)
+returns-2 c =
+    let chosen = c .before .before .before .before .before .before in
+    let told = ended chosen .before .before .before .before in
+    let entry = entry told in
+    spanned-made (entry .pre) limit (entry .args .from) (entry .args .to) (entry .args .out .now) (entry .args .out-starts .now) (entry .args .out-ends .now) (told .before .least-room .ensures) (told .spans .ensures) (ended chosen .before .before .before .if1 .taken) (chosen .lay-chosen .ensures)
 
 pub filter-range-spec : {M : Type 1} → statement M
 filter-range-spec =

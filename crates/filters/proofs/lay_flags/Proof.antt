@@ -16,26 +16,35 @@ abbrev μ-loop : tie.MeasureT-loop
 μ-loop text starts ends to from flags table out₀ out-starts₀ out-ends₀ at q₀ p₀ written₀ i₀ out out-starts out-ends q p written i =
     length flags - i
 
+-- the places that others are told by: the entry, the turn's beginning, and where its character is laid
+abbrev entry : tie.At-loop Inv-loop μ-loop → tie.Start Inv-loop μ-loop
+entry c = c .before .before .before .before .before .before .before .before
+
+abbrev turn : tie.After-lay-flag Inv-loop μ-loop → tie.At-loop Inv-loop μ-loop
+turn c = c .before .before .before .before .before .before .before
+
 lay-flag-requires : tie.Need-lay-flag-requires Inv-loop μ-loop
-lay-flag-requires c κs = flag-room (c .before .before .before .before .before .before .before .before .before .before .before .before .before .before .pre) (c .before .before .before .before .before .before .loop .inv) (c .before .before .before .before .before .loop-test .taken) (c .before .before .before .before .char-len .ensures)
+lay-flag-requires c κs =
+    let turn = c .before .before .before .before .before .before in
+    flag-room (entry turn .pre) (turn .loop .inv) (c .before .before .before .before .before .loop-test .taken) (c .before .before .before .before .char-len .ensures)
 
 skip-requires : tie.Need-skip-requires Inv-loop μ-loop
-skip-requires c κs = record { standing = c .before .before .before .before .before .before .before .before .before .before .before .before .before .loop .inv .beside .standing; lent = c .before .before .before .before .before .before .before .before .before .before .before .before .before .before .before .before .before .before .before .before .before .pre .ready .tabled .lent }
+skip-requires c κs =
+    let laid = c .before .before .before .before .before .before in
+    record { standing = turn laid .loop .inv .beside .standing; lent = entry (turn laid) .pre .ready .tabled .lent }
 
 add-q : tie.Need-add-q Inv-loop μ-loop
 add-q c =
-    let head = c .before .before .before .before .before .before .before .before .before .before .before .before .before .before in
-    let entry = c .before .before .before .before .before .before .before .before .before .before .before .before .before .before .before .before .before .before .before .before .before .before in
-    let long : length (entry .args .text .now) < 2 ^ 64 = entry .good .0 .0 in
-    let inside : head .loop .q + c .before .before .before .before .before .before .before .before .before .before .before .before .char-len .result ≤ length (entry .args .text .now) = c .before .before .before .before .before .before .before .before .before .before .before .before .char-len .ensures .inside in
+    let laid = c .before .before .before .before .before .before .before in
+    let long : length (entry (turn laid) .args .text .now) < 2 ^ 64 = entry (turn laid) .good .0 .0 in
+    let inside : turn laid .loop .q + laid .before .before .before .before .before .char-len .result ≤ length (entry (turn laid) .args .text .now) = laid .before .before .before .before .before .char-len .ensures .inside in
     omega (arith, long, inside)
 
 add-i : tie.Need-add-i Inv-loop μ-loop
 add-i c =
-    let head = c .before .before .before .before .before .before .before .before .before .before .before .before .before .before in
-    let entry = c .before .before .before .before .before .before .before .before .before .before .before .before .before .before .before .before .before .before .before .before .before .before in
-    let long : length (entry .args .flags .now) < 2 ^ 64 = entry .good .1 .1 .1 .1 .1 .0 .0 in
-    let less : head .loop .i < length (entry .args .flags .now) = c .before .before .before .before .before .before .before .before .before .before .before .before .before .loop-test .taken in
+    let laid = c .before .before .before .before .before .before .before in
+    let long : length (entry (turn laid) .args .flags .now) < 2 ^ 64 = entry (turn laid) .good .1 .1 .1 .1 .1 .0 .0 in
+    let less : turn laid .loop .i < length (entry (turn laid) .args .flags .now) = laid .before .before .before .before .before .before .loop-test .taken in
     omega (arith, long, less)
 
 pub lay-flags-spec : {M : Type 1} → statement M
@@ -45,15 +54,15 @@ lay-flags-spec =
     Inv-loop
     μ-loop
     (λ c. none-flagged (c .before .before .before .before .before .before .before .pre))
-    (λ c κs. char-there (c .before .loop .inv .beside) (c .loop-test .taken) (c .before .before .before .before .before .before .before .before .before .pre .ready .tabled))
+    (λ c κs. char-there (c .before .loop .inv .beside) (c .loop-test .taken) (entry (c .before) .pre .ready .tabled))
     (λ c. search needs)
     lay-flag-requires
     skip-requires
     add-q
     add-i
     (λ c. omega arith)
-    (λ c. next-flagged (c .before .before .before .before .before .before .before .before .before .before .before .before .before .before .before .before .before .before .before .before .before .before .pre) (c .before .before .before .before .before .before .before .before .before .before .before .before .before .before .loop .inv) (c .before .before .before .before .before .before .before .before .before .before .before .before .before .loop-test .taken) (c .before .before .before .before .before .before .before .before .before .before .before .before .char-len .ensures) (c .before .before .before .before .before .before .before .lay-flag .ensures) (c .skip .ensures))
+    (λ c. let laid = c .before .before .before .before .before .before .before in next-flagged (entry (turn laid) .pre) (turn laid .loop .inv) (laid .before .before .before .before .before .before .loop-test .taken) (laid .before .before .before .before .before .char-len .ensures) (laid .lay-flag .ensures) (c .skip .ensures))
     (λ c. c .before .loop .inv .going .text-laid .same)
     (λ c. c .before .loop .inv .going .starts-laid .same)
     (λ c. c .before .loop .inv .going .ends-laid .same)
-    (λ c. all-flagged (c .before .before .before .before .before .before .before .before .before .pre) (c .before .loop .inv) (c .loop-test .left)))
+    (λ c. all-flagged (entry (c .before) .pre) (c .before .loop .inv) (c .loop-test .left)))

@@ -13,22 +13,20 @@ Inv-loop text to from flags table q₀ p₀ written₀ i₀ q p written i = Filt
 abbrev μ-loop : tie.MeasureT-loop
 μ-loop text to from flags table q₀ p₀ written₀ i₀ q p written i = length flags - i
 
+-- the places that others are told by: the entry and the turn's beginning
+abbrev entry : tie.At-loop Inv-loop μ-loop → tie.Start Inv-loop μ-loop
+entry c = c .before .before .before
+
 add-written : tie.Need-add-written Inv-loop μ-loop
 add-written c =
-    let head = c .before .before .before .before .before .before .before in
-    let entry = head .before .before .before in
-    let long : length (entry .args .text .now) < 2 ^ 64 = entry .good .0 .0 in
-    omega (arith, long, counts-most _ _ (c .counts .ensures), c .before .before .before .before .before .char-len .ensures .inside, head .loop .inv .small)
-
-skip-requires : tie.Need-skip-requires Inv-loop μ-loop
-skip-requires c κs =
-    let head = c .before .before .before .before .before .before .before in
-    record { standing = head .loop .inv .beside .standing; lent = head .before .before .before .pre .tabled .lent }
+    let turn = c .before .before .before .before .before .before .before in
+    let long : length (entry turn .args .text .now) < 2 ^ 64 = entry turn .good .0 .0 in
+    omega (arith, long, counts-most _ _ (c .counts .ensures), c .before .before .before .before .before .char-len .ensures .inside, turn .loop .inv .small)
 
 add-q : tie.Need-add-q Inv-loop μ-loop
 add-q c =
-    let entry = c .before .before .before .before .before .before .before .before .before .before .before in
-    let long : length (entry .args .text .now) < 2 ^ 64 = entry .good .0 .0 in
+    let turn = c .before .before .before .before .before .before .before .before in
+    let long : length (entry turn .args .text .now) < 2 ^ 64 = entry turn .good .0 .0 in
     omega (arith, long, c .before .before .before .before .before .before .char-len .ensures .inside)
 
 pub measure-flags-spec : {M : Type 1} → statement M
@@ -38,14 +36,14 @@ measure-flags-spec =
     Inv-loop
     μ-loop
     (λ c. none-filtered (c .before .before .pre))
-    (λ c κs. char-there (c .before .loop .inv .beside) (c .loop-test .taken) (c .before .before .before .before .pre .tabled))
+    (λ c κs. char-there (c .before .loop .inv .beside) (c .loop-test .taken) (entry (c .before) .pre .tabled))
     (λ c. search needs)
     (λ c κs. search needs)
     (λ c. flag-starves (c .before .before .before .before .before .loop .inv) (c .before .before .before .before .loop-test .taken) (c .before .before .before .char-len .ensures) (c .before .wants .ensures) (c .if1 .taken))
     (λ c. search needs)
     (λ c κs. search needs)
     add-written
-    skip-requires
+    (λ c κs. let turn = c .before .before .before .before .before .before .before in record { standing = turn .loop .inv .beside .standing; lent = entry turn .pre .tabled .lent })
     add-q
     (λ c. omega arith)
     (λ c. omega arith)

@@ -4,10 +4,15 @@ use Rattle.joins.proofs.Joined.{column-laid}
 use Rattle.joins.proofs.lay_column.Statement.{statement}
 use Rattle.joins.proofs.lay_column.Tie as tie
 
+-- the places that others are told by: the entry, and where the front is filled
+abbrev entry : tie.After-fill-offsets → tie.Start
+entry c = c .before .before .before .before
+
 returns : tie.Need-returns
 returns c =
-    let given = c .before .before .before .before .before .before .before .before .before .before .before .args in
-    column-laid (given .front) (given .count) (given .wide) (given .column .now) (given .out .now) (c .before .before .before .before .before .before .before .fill-offsets .ensures) (c .before .before .copy-offsets .ensures)
+    let filled = c .before .before .before .before .before .before .before in
+    let given = entry filled .args in
+    column-laid (given .front) (given .count) (given .wide) (given .column .now) (given .out .now) (filled .fill-offsets .ensures) (c .before .before .copy-offsets .ensures)
 
 pub lay-column-spec : {M : Type 1} → statement M
 lay-column-spec =

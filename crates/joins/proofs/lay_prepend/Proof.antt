@@ -8,27 +8,33 @@ use Rattle.joins.proofs.Joined.{prepend-laid}
 use Rattle.joins.proofs.lay_prepend.Statement.{statement}
 use Rattle.joins.proofs.lay_prepend.Tie as tie
 
-char-len-requires : tie.Need-char-len-requires
-char-len-requires c κs =
-    let room = c .before .before .before .before .before .before .before .before .before .pre in
-    record { formed = room .formed; begins = boundary-zero _ (room .formed); more = room .some; lent = c .before .lengths .ensures }
+-- the places that others are told by: the entry, where the widths are known, where the first character is, where the text is copied, and where the first column is laid
+abbrev entry : tie.After-lengths → tie.Start
+entry c = c .before .before .before .before .before .before .before .before
+
+abbrev told : tie.After-copy-bytes2 → tie.After-char-len
+told c = c .before .before .before .before .before .before
+
+abbrev copied : tie.After-lay-column → tie.After-copy-bytes2
+copied c = c .before .before .before .before .before
 
 add-result : tie.Need-add-result
 add-result c =
-    let entry = c .before .before .before .before .before .before .before .before .before .before .before .before .before .before .before .before .before .before .before .before .before .before .before .before .before .before .before .before in
-    let long : length (entry .args .out .now) < 2 ^ 64 = entry .good .1 .1 .1 .1 .0 .0 in
-    omega (arith, long, entry .pre .rooms .text-room)
+    let started = c .before .before .before .before .before .before .before in
+    let long : length (entry (told (copied started) .before .before) .args .out .now) < 2 ^ 64 = entry (told (copied started) .before .before) .good .1 .1 .1 .1 .0 .0 in
+    omega (arith, long, entry (told (copied started) .before .before) .pre .rooms .text-room)
 
 returns : tie.Need-returns
 returns c =
-    prepend-laid (c .before .before .before .before .before .before .before .before .before .before .before .before .before .before .before .before .before .before .char-len .ensures .long) (c .before .before .before .before .before .before .before .before .before .before .before .before .before .before .before .before .copy-bytes .ensures) (c .before .before .before .before .before .before .before .before .before .before .before .before .copy-bytes2 .ensures) (c .before .before .before .before .before .before .before .before .before .front-of .ensures) (c .before .before .before .before .before .before .before .lay-column .ensures) (c .before .before .before .before .front-of2 .ensures) (c .before .before .lay-column2 .ensures)
+    let started = c .before .before .before .before .before .before .before in
+    prepend-laid (told (copied started) .char-len .ensures .long) (copied started .before .before .before .before .copy-bytes .ensures) (copied started .copy-bytes2 .ensures) (started .before .before .front-of .ensures) (started .lay-column .ensures) (c .before .before .before .before .front-of2 .ensures) (c .before .before .lay-column2 .ensures)
 
 pub lay-prepend-spec : {M : Type 1} → statement M
 lay-prepend-spec =
     tie.close
     (tie.spec
     (λ c κs. search needs)
-    char-len-requires
+    (λ c κs. let room = entry (c .before) .pre in record { formed = room .formed; begins = boundary-zero _ (room .formed); more = room .some; lent = c .before .lengths .ensures })
     (λ c κs. search needs)
     (λ c κs. search needs)
     (λ c κs. search needs)
