@@ -15,6 +15,10 @@ use Rattle.piece_lines.proofs.Answering.{laid-as, shapeless-printed, li
 use Rattle.piece_lines.proofs.answer.Statement.{statement}
 use Rattle.piece_lines.proofs.answer.Tie as tie
 
+-- the places that others are told by: the entry, and where the input is known to be sound
+abbrev entry : tie.Else2 → tie.Start
+entry c = c .before .before .before .before .before .before .before
+
 not-whole : (s : Seen) → OneOf (0 ∷ 1 ∷ 2 ∷ 3 ∷ 5 ∷ []) (Declared.tagOf seens.the-type s) → isWhole s ≡ false
 not-whole (Literal n) h = refl
 not-whole (Behavior n) h = refl
@@ -26,9 +30,9 @@ not-whole (Whole n d m) h =
 
 cut-requires : tie.Need-cut-requires
 cut-requires c κs =
-    let entry = c .before .before .before .before .before .before .before .before .before .before .before in
-    let short = lines-short (entry .pre .0 .is-kept) (c .before .before .before .before .before .before .before .seen .given .1) (omega arith) (omega arith) in
-    (short .0, short .1, entry .pre .1)
+    let sound = c .before .before .before .before in
+    let short = lines-short (entry sound .pre .0 .is-kept) (sound .before .before .before .seen .given .1) (omega arith) (omega arith) in
+    (short .0, short .1, entry sound .pre .1)
 
 pub answer-spec : {M : Type 1} → statement M
 answer-spec =
@@ -46,11 +50,11 @@ answer-spec =
     (λ c input k. laid-as (note-long k (c .before .before .before .before .before .before .before .seen .given .1) (omega arith)) (c .before .before .write-refusal3 .ensures))
     (λ c. search needs)
     (λ c. search needs)
-    (λ c. literal-sized (c .before .before .before .before .before .before .before .before .pre .0 .is-kept) (c .before .before .before .before .seen .given .1) (omega arith) (omega arith))
+    (λ c. literal-sized (entry (c .before) .pre .0 .is-kept) (c .before .before .before .before .seen .given .1) (omega arith) (omega arith))
     (λ c κs. search needs)
     (λ c. search needs)
     (λ c. search needs)
-    (λ c. omega (arith, head-enough (c .before .before .before .before .before .before .before .before .before .pre .0 .is-kept) (c .before .before .before .before .before .seen .given .1) (omega arith) (omega arith)))
+    (λ c. omega (arith, head-enough (entry (c .before .before) .pre .0 .is-kept) (c .before .before .before .before .before .seen .given .1) (omega arith) (omega arith)))
     cut-requires
     (λ c. search needs)
-    (λ c input k. laid-as (cut-printed k (c .before .before .before .before .before .before .before .before .before .before .seen .given .1) (omega arith) (omega arith) (c .before .before .before .before .before .behavior-of .ensures)) (c .before .before .cut .ensures)))
+    (λ c input k. let told = c .before .before .before .before .before in laid-as (cut-printed k (told .before .before .before .before .before .seen .given .1) (omega arith) (omega arith) (told .behavior-of .ensures)) (c .before .before .cut .ensures)))

@@ -13,23 +13,24 @@ Inv-loop spans starts₀ ends₀ k₀ starts ends k = Unpacking spans starts₀ 
 abbrev μ-loop : tie.MeasureT-loop
 μ-loop spans starts₀ ends₀ k₀ starts ends k = length spans - k
 
-cast-ends : tie.Need-cast-ends Inv-loop μ-loop
-cast-ends c = omega (arith, end-small _ (c .span-end .ensures) (omega (arith, c .before .shared-slice-known3 .given (c .before .before .before .before .before .loop .k))))
+-- the places that others are told by: the entry and the turn's beginning
+abbrev entry : tie.At-loop Inv-loop μ-loop → tie.Start Inv-loop μ-loop
+entry c = c .before .before .before .before
 
 mul-starts : tie.Need-mul-starts Inv-loop μ-loop
 mul-starts c =
-    let head = c .before .before .before in
-    omega (arith, head .before .before .before .before .good .1 .0, head .loop .inv .starts-laid .same, unpack-room (head .before .before .before .before .pre) (head .loop .inv) (c .before .before .loop-test .taken) .0)
+    let turn = c .before .before .before in
+    omega (arith, entry turn .good .1 .0, turn .loop .inv .starts-laid .same, unpack-room (entry turn .pre) (turn .loop .inv) (c .before .before .loop-test .taken) .0)
 
 mul-ends : tie.Need-mul-ends Inv-loop μ-loop
 mul-ends c =
-    let head = c .before .before .before .before .before in
-    omega (arith, head .before .before .before .before .good .1 .1 .0, head .loop .inv .ends-laid .same, unpack-room (head .before .before .before .before .pre) (head .loop .inv) (c .before .before .before .before .loop-test .taken) .1)
+    let turn = c .before .before .before .before .before in
+    omega (arith, entry turn .good .1 .1 .0, turn .loop .inv .ends-laid .same, unpack-room (entry turn .pre) (turn .loop .inv) (c .before .before .before .before .loop-test .taken) .1)
 
 loop-again : tie.Need-loop-again Inv-loop μ-loop
 loop-again c =
-    let head = c .before .before .before .before .before in
-    one-unpacked (head .before .before .before .before .pre) (head .loop .inv) (c .before .before .before .before .loop-test .taken) (c .before .before .span-start .ensures) (c .span-end .ensures)
+    let turn = c .before .before .before .before .before in
+    one-unpacked (entry turn .pre) (turn .loop .inv) (c .before .before .before .before .loop-test .taken) (c .before .before .span-start .ensures) (c .span-end .ensures)
 
 pub unpack-spec : {M : Type 1} → statement M
 unpack-spec =
@@ -43,16 +44,16 @@ unpack-spec =
     (λ c κs. search needs)
     (λ c. omega (arith, start-small _ (c .span-start .ensures)))
     mul-starts
-    (λ c. unpack-room (c .before .before .before .before .before .before .before .pre) (c .before .before .before .loop .inv) (c .before .before .loop-test .taken) .0)
+    (λ c. let turn = c .before .before .before in unpack-room (entry turn .pre) (turn .loop .inv) (c .before .before .loop-test .taken) .0)
     (λ c. omega arith)
     (λ c. omega arith)
     (λ c κs. search needs)
-    cast-ends
+    (λ c. omega (arith, end-small _ (c .span-end .ensures) (omega (arith, c .before .shared-slice-known3 .given (c .before .before .before .before .before .loop .k)))))
     mul-ends
-    (λ c. unpack-room (c .before .before .before .before .before .before .before .before .before .pre) (c .before .before .before .before .before .loop .inv) (c .before .before .before .before .loop-test .taken) .1)
+    (λ c. let turn = c .before .before .before .before .before in unpack-room (entry turn .pre) (turn .loop .inv) (c .before .before .before .before .loop-test .taken) .1)
     (λ c. omega arith)
     (λ c. omega arith)
     loop-again
     (λ c. c .before .loop .inv .starts-laid .same)
     (λ c. c .before .loop .inv .ends-laid .same)
-    (λ c. all-unpacked (c .before .before .before .before .before .pre) (c .before .loop .inv) (c .loop-test .left)))
+    (λ c. all-unpacked (entry (c .before) .pre) (c .before .loop .inv) (c .loop-test .left)))

@@ -19,24 +19,33 @@ Inv-loop list behavior empty spans₀ second table run₀ i₀ at₀ spans run i
 abbrev μ-loop : tie.MeasureT-loop
 μ-loop list behavior empty spans₀ second table run₀ i₀ at₀ spans run i at = length list - i
 
+-- the places that others are told by: the entry, the turn's beginning, where its place is read, and where its run is written
+abbrev entry : tie.At-loop Inv-loop μ-loop → tie.Start Inv-loop μ-loop
+entry c = c .before .before .before .before .before .before .before .before
+
+abbrev turn : tie.After-place Inv-loop μ-loop → tie.At-loop Inv-loop μ-loop
+turn c = c .before .before .before .before
+
+abbrev there : tie.After-write-run Inv-loop μ-loop → tie.After-place Inv-loop μ-loop
+there c = c .before .before .before .before .before .before
+
 write-run-requires : tie.Need-write-run-requires Inv-loop μ-loop
 write-run-requires c κs =
     let there = c .before .before .before .before .before in
-    let joins = joined-by _ _ _ (there .before .before .before .before .before .join-table .ensures) (c .before .before .joined .ensures) in
-    next-room (there .before .before .before .before .loop .inv) (there .before .before .entry-at2 .ensures) (there .place .given .1) (over-by _ _ _ _ joins (c .before .stays .ensures))
+    let joins = joined-by _ _ _ (turn there .before .join-table .ensures) (c .before .before .joined .ensures) in
+    next-room (turn there .loop .inv) (there .before .before .entry-at2 .ensures) (there .place .given .1) (over-by _ _ _ _ joins (c .before .stays .ensures))
 
 loop-less : tie.Need-loop-less Inv-loop μ-loop
 loop-less c =
-    let there = c .before .before .before .before .before .before .before .before .before in
-    let step = entry-step _ (there .before .before .entry-at2 .ensures) (there .place .given .1) in
+    let step = entry-step _ (there (c .before .before .before) .before .before .entry-at2 .ensures) (there (c .before .before .before) .place .given .1) in
     omega (arith, step .onward, step .most)
 
 loop-again : tie.Need-loop-again Inv-loop μ-loop
 loop-again c =
-    let there = c .before .before .before .before .before .before .before .before .before in
-    let joins = joined-by _ _ _ (there .before .before .before .before .before .join-table .ensures) (c .before .before .before .before .before .before .joined .ensures) in
-    next-placed (there .before .before .before .before .loop .inv) (there .before .before .entry-at2 .ensures) (there .place .given .1)
-    (over-by _ _ _ _ joins (c .before .before .before .before .before .stays .ensures)) (c .before .before .before .write-run .ensures) (onward-by _ _ _ joins (c .onward .ensures))
+    let run = c .before .before .before in
+    let joins = joined-by _ _ _ (turn (there run) .before .join-table .ensures) (run .before .before .before .joined .ensures) in
+    next-placed (turn (there run) .loop .inv) (there run .before .before .entry-at2 .ensures) (there run .place .given .1)
+    (over-by _ _ _ _ joins (run .before .before .stays .ensures)) (run .write-run .ensures) (onward-by _ _ _ joins (c .onward .ensures))
 
 write-run-requires-2 : tie.Need-write-run-requires-2 Inv-loop μ-loop
 write-run-requires-2 c κs =
@@ -45,9 +54,8 @@ write-run-requires-2 c κs =
 
 returns-2 : tie.Need-returns-2 Inv-loop μ-loop
 returns-2 c =
-    let past = c .before .before .before .before .before in
-    let done = ⊎-elim (λ w. done-past _ (w .left)) (λ w. done-broken _ (w .0 .taken) (w .1 .ensures) (w .3 .given .1)) (past .loop-test .came) in
-    all-placed (past .before .loop .inv) done (c .before .before .before .before .stays2 .ensures) (c .before .before .before .before .before .before .before .before .before .before .before .before .before .before .pre) (omega arith) (c .before .before .write-run2 .ensures)
+    let done = ⊎-elim (λ w. done-past _ (w .left)) (λ w. done-broken _ (w .0 .taken) (w .1 .ensures) (w .3 .given .1)) (c .before .before .before .before .before .loop-test .came) in
+    all-placed (c .before .before .before .before .before .before .loop .inv) done (c .before .before .before .before .stays2 .ensures) (entry (c .before .before .before .before .before .before) .pre) (omega arith) (c .before .before .write-run2 .ensures)
 
 pub write-runs-spec : {M : Type 1} → statement M
 write-runs-spec =

@@ -13,28 +13,33 @@ Inv-loop starts ends from to shift until shifts₀ lengths₀ out-starts₀ out-
 abbrev μ-loop : tie.MeasureT-loop
 μ-loop starts ends from to shift until shifts₀ lengths₀ out-starts₀ out-ends₀ at₀ k₀ shifts lengths out-starts out-ends at k = length from - k
 
-original-end-requires : tie.Need-original-end-requires Inv-loop μ-loop
-original-end-requires c κs =
-    let pre = c .before .before .before .before .before .before .before .before .before .before .before .before .before .pre in
-    inside-of (pre .shifts-room .spans .each _ (c .before .before .before .loop-test .taken)) (pre .lengths-room .one-end)
+-- the places that others are told by: the entry, the turn's beginning, where its piece's start is known, and where the piece is lowered
+abbrev entry : tie.At-loop Inv-loop μ-loop → tie.Start Inv-loop μ-loop
+entry c = c .before .before .before .before .before .before .before .before .before
+
+abbrev turn : tie.After-original-start Inv-loop μ-loop → tie.At-loop Inv-loop μ-loop
+turn c = c .before .before .before .before
+
+abbrev told : tie.After-lower-piece Inv-loop μ-loop → tie.After-original-start Inv-loop μ-loop
+told c = c .before .before .before .before
 
 lower-piece-requires : tie.Need-lower-piece-requires Inv-loop μ-loop
 lower-piece-requires c κs =
-    let head = c .before .before .before .before .before .before .before in
-    piece-room (head .before .before .before .before .before .before .before .before .before .pre) (head .loop .inv) (c .before .before .before .before .before .before .loop-test .taken) (c .before .before .before .original-start .ensures)
+    let told = c .before .before .before in
+    piece-room (entry (turn told) .pre) (turn told .loop .inv) (told .before .before .before .loop-test .taken) (told .original-start .ensures)
 
 add-at : tie.Need-add-at Inv-loop μ-loop
 add-at c =
-    let head = c .before .before .before .before .before .before .before .before .before .before .before .before in
-    let entry = head .before .before .before .before .before .before .before .before .before in
-    let room = piece-room (entry .pre) (head .loop .inv) (c .before .before .before .before .before .before .before .before .before .before .before .loop-test .taken) (c .before .before .before .before .before .before .before .before .original-start .ensures) .starts-room .source .room in
-    let long : length (entry .args .out-starts .now) < 2 ^ 64 = entry .good .1 .1 .1 .1 .1 .1 .1 .1 .0 .0 in
-    omega (arith, room, head .loop .inv .starts-on .laid .same)
+    let told = told (c .before .before .before .before) in
+    let room = piece-room (entry (turn told) .pre) (turn told .loop .inv) (told .before .before .before .loop-test .taken) (told .original-start .ensures) .starts-room .source .room in
+    let long : length (entry (turn told) .args .out-starts .now) < 2 ^ 64 = entry (turn told) .good .1 .1 .1 .1 .1 .1 .1 .1 .0 .0 in
+    omega (arith, room, turn told .loop .inv .starts-on .laid .same)
 
 loop-again : tie.Need-loop-again Inv-loop μ-loop
 loop-again c =
-    let head = c .before .before .before .before .before .before .before .before .before .before .before .before in
-    next-gone (head .before .before .before .before .before .before .before .before .before .pre) (head .loop .inv) (c .before .before .before .before .before .before .before .before .before .before .before .loop-test .taken) (c .before .before .before .before .before .before .before .before .original-start .ensures) (c .before .before .before .before .before .before .before .original-end .ensures) (c .before .before .before .before .lower-piece .ensures)
+    let lowered = c .before .before .before .before in
+    let told = told lowered in
+    next-gone (entry (turn told) .pre) (turn told .loop .inv) (told .before .before .before .loop-test .taken) (told .original-start .ensures) (lowered .before .before .before .original-end .ensures) (lowered .lower-piece .ensures)
 
 pub write-columns-spec : {M : Type 1} → statement M
 write-columns-spec =
@@ -46,26 +51,26 @@ write-columns-spec =
     (λ c. search needs)
     (λ c. search needs)
     (λ c. search needs)
-    (λ c. omega (arith, c .before .before .before .before .before .before .before .before .before .before .before .before .pre .shifts-room .spans .paired, c .before .before .loop-test .taken))
-    (λ c κs. c .before .before .before .before .before .before .before .before .before .before .before .before .pre .shifts-room .spans .each _ (c .before .before .loop-test .taken))
-    original-end-requires
+    (λ c. omega (arith, entry (c .before .before .before) .pre .shifts-room .spans .paired, c .before .before .loop-test .taken))
+    (λ c κs. entry (c .before .before .before) .pre .shifts-room .spans .each _ (c .before .before .loop-test .taken))
+    (λ c κs. let pre = entry (turn c) .pre in inside-of (pre .shifts-room .spans .each _ (c .before .before .before .loop-test .taken)) (pre .lengths-room .one-end))
     (λ c. omega arith)
-    (λ c. omega (arith, c .before .before .before .before .before .before .before .before .before .before .before .before .before .before .pre .shifts-room .low))
+    (λ c. omega (arith, entry (turn (c .before)) .pre .shifts-room .low))
     (λ c. search needs)
-    (λ c. omega (arith, c .before .before .before .before .before .before .before .before .before .before .before .before .before .before .pre .shifts-room .room, c .before .before .before .before .before .loop .inv .shifts-on .laid .same))
-    (λ c. omega (arith, c .before .original-start .ensures, c .original-end .ensures, c .before .before .before .before .before .before .before .before .before .before .before .before .before .before .pre .lengths-room .ordered _ (c .before .before .before .before .loop-test .taken)))
+    (λ c. omega (arith, entry (turn (c .before)) .pre .shifts-room .room, turn (c .before) .loop .inv .shifts-on .laid .same))
+    (λ c. omega (arith, c .before .original-start .ensures, c .original-end .ensures, entry (turn (c .before)) .pre .lengths-room .ordered _ (c .before .before .before .before .loop-test .taken)))
     (λ c. search needs)
-    (λ c. omega (arith, c .before .before .before .before .before .before .before .before .before .before .before .before .before .before .pre .lengths-room .room, c .before .before .before .before .before .loop .inv .lengths-on .laid .same))
-    (λ c. omega (arith, c .before .before .before .shared-slice-known5 .given (c .before .before .before .before .before .loop .k)))
-    (λ c. omega (arith, c .before .before .shared-slice-known6 .given (c .before .before .before .before .before .loop .k)))
+    (λ c. omega (arith, entry (turn (c .before)) .pre .lengths-room .room, turn (c .before) .loop .inv .lengths-on .laid .same))
+    (λ c. omega (arith, c .before .before .before .shared-slice-known5 .given (turn (c .before) .loop .k)))
+    (λ c. omega (arith, c .before .before .shared-slice-known6 .given (turn (c .before) .loop .k)))
     lower-piece-requires
-    (λ c. omega (arith, c .before .before .before .before .before .before .before .before .before .before .before .before .before .before .before .before .before .before .before .before .before .pre .shifts-room .spans .each _ (c .before .before .before .before .before .before .before .before .before .before .before .loop-test .taken) .forward))
+    (λ c. omega (arith, entry (turn (told (c .before .before .before .before))) .pre .shifts-room .spans .each _ (told (c .before .before .before .before) .before .before .before .loop-test .taken) .forward))
     add-at
-    (λ c. omega (arith, c .before .before .before .before .before .before .before .before .before .before .before .loop-test .taken, c .before .before .before .before .before .before .before .before .before .before .before .before .before .before .before .before .before .before .before .before .before .good .1 .1 .0 .0))
-    (λ c. omega (arith, c .before .before .before .before .before .before .before .before .before .before .before .loop-test .taken))
+    (λ c. omega (arith, told (c .before .before .before .before) .before .before .before .loop-test .taken, entry (turn (told (c .before .before .before .before))) .good .1 .1 .0 .0))
+    (λ c. omega (arith, told (c .before .before .before .before) .before .before .before .loop-test .taken))
     loop-again
     (λ c. c .before .loop .inv .shifts-on .laid .same)
     (λ c. c .before .loop .inv .lengths-on .laid .same)
     (λ c. c .before .loop .inv .starts-on .laid .same)
     (λ c. c .before .loop .inv .ends-on .laid .same)
-    (λ c. all-laid (c .before .before .before .before .before .before .before .before .before .before .pre) (c .before .loop .inv) (c .loop-test .left)))
+    (λ c. all-laid (entry (c .before) .pre) (c .before .loop .inv) (c .loop-test .left)))

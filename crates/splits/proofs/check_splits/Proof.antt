@@ -6,14 +6,28 @@ use Rattle.splits.proofs.Judged.{judged-note, judged-list, judged-roomy
 use Rattle.splits.proofs.check_splits.Statement.{statement}
 use Rattle.splits.proofs.check_splits.Tie as tie
 
+-- the places that others are told by: the entry, where the note is checked, where the list is known to cover the text, and where its pieces are measured
+abbrev entry : tie.After-check-note → tie.Start
+entry c = c .before .before .before .before .before .before
+
+abbrev covered : tie.After-measure → tie.Else1
+covered c = c .before .before .before
+
 returns-3 : tie.Need-returns-3
-returns-3 c = judged-roomy limit _ _ _ _ (c .before .before .before .before .before .before .check-note .ensures) (c .before .before .before .before .enum-told .given .1) (c .before .before .before .covers .ensures) (not-false _ (c .before .before .if1 .left)) (c .before .most-places .ensures .0) (c .if2 .taken)
+returns-3 c =
+    let covered = c .before .before in
+    judged-roomy limit _ _ _ _ (covered .before .before .before .before .check-note .ensures) (covered .before .before .enum-told .given .1) (covered .before .covers .ensures) (not-false _ (covered .if1 .left)) (c .before .most-places .ensures .0) (c .if2 .taken)
 
 measure-requires : tie.Need-measure-requires
-measure-requires c κs = listed limit _ _ (c .before .before .before .before .before .before .before .before .before .before .before .before .args .behavior) (c .before .before .before .before .before .before .before .before .before .before .before .before .args .room) (c .before .before .before .before .before .before .check-note .ensures) (c .before .before .before .before .enum-told .given .1) (c .before .before .before .covers .ensures) (not-false _ (c .before .before .if1 .left))
+measure-requires c κs =
+    let covered = c .before .before in
+    let checked = covered .before .before .before .before in
+    listed limit _ _ (entry checked .args .behavior) (entry checked .args .room) (checked .check-note .ensures) (covered .before .before .enum-told .given .1) (covered .before .covers .ensures) (not-false _ (covered .if1 .left))
 
 returns-4 : tie.Need-returns-4
-returns-4 c = judged-room limit _ _ _ _ (c .before .before .before .before .before .before .before .before .before .check-note .ensures) (c .before .before .before .before .before .before .before .enum-told .given .1) (c .before .before .before .before .before .before .covers .ensures) (not-false _ (c .before .before .before .before .before .if1 .left)) (c .before .before .measure .ensures) (c .refused-if .ensures)
+returns-4 c =
+    let covered = covered (c .before .before) in
+    judged-room limit _ _ _ _ (covered .before .before .before .before .check-note .ensures) (covered .before .before .enum-told .given .1) (covered .before .covers .ensures) (not-false _ (covered .if1 .left)) (c .before .before .measure .ensures) (c .refused-if .ensures)
 
 pub check-splits-spec : {M : Type 1} → statement M
 check-splits-spec =

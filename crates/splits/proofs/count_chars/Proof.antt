@@ -14,20 +14,24 @@ Inv-loop text count from₀ to₀ flags first₀ last₀ k₀ from to first last
 abbrev μ-loop : tie.MeasureT-loop
 μ-loop text count from₀ to₀ flags first₀ last₀ k₀ from to first last k = count - k
 
+-- the places that others are told by: the entry and the turn's beginning
+abbrev entry : tie.At-loop Inv-loop μ-loop → tie.Start Inv-loop μ-loop
+entry c = c .before .before .before .before .before .before .before
+
 mul-starts : tie.Need-mul-out-starts Inv-loop μ-loop
 mul-starts c =
-    let head = c .before .before .before .before .before in
-    omega (arith, head .before .before .before .before .before .before .before .good .1 .1 .0, head .loop .inv .starts-on .same, in-both (head .before .before .before .before .before .before .before .pre) (head .loop .inv) (c .before .before .before .before .loop-test .taken) .0)
+    let turn = c .before .before .before .before .before in
+    omega (arith, entry turn .good .1 .1 .0, turn .loop .inv .starts-on .same, in-both (entry turn .pre) (turn .loop .inv) (c .before .before .before .before .loop-test .taken) .0)
 
 mul-ends : tie.Need-mul-out-ends Inv-loop μ-loop
 mul-ends c =
-    let head = c .before .before .before .before .before in
-    omega (arith, head .before .before .before .before .before .before .before .good .1 .1 .1 .0, head .loop .inv .ends-on .same, in-both (head .before .before .before .before .before .before .before .pre) (head .loop .inv) (c .before .before .before .before .loop-test .taken) .1)
+    let turn = c .before .before .before .before .before in
+    omega (arith, entry turn .good .1 .1 .1 .0, turn .loop .inv .ends-on .same, in-both (entry turn .pre) (turn .loop .inv) (c .before .before .before .before .loop-test .taken) .1)
 
 loop-again : tie.Need-loop-again Inv-loop μ-loop
 loop-again c =
-    let head = c .before .before .before .before .before .before .before in
-    one-counted (head .before .before .before .before .before .before .before .pre) (head .loop .inv) (c .before .before .before .before .before .before .loop-test .taken) (c .before .before .in-chars .ensures)
+    let turn = c .before .before .before .before .before .before .before in
+    one-counted (entry turn .pre) (turn .loop .inv) (c .before .before .before .before .before .before .loop-test .taken) (c .before .before .in-chars .ensures)
 
 pub count-chars-spec : {M : Type 1} → statement M
 count-chars-spec =
@@ -39,17 +43,17 @@ count-chars-spec =
     (λ c κs. search needs)
     (λ c. none-counted (c .before .before .before .before .before .before .pre))
     (λ c. omega arith)
-    (λ c. in-both (c .before .before .before .before .before .before .before .before .before .before .pre) (c .before .before .before .loop .inv) (c .before .before .loop-test .taken) .0)
+    (λ c. let turn = c .before .before .before in in-both (entry turn .pre) (turn .loop .inv) (c .before .before .loop-test .taken) .0)
     (λ c. omega arith)
-    (λ c. in-both (c .before .before .before .before .before .before .before .before .before .before .before .pre) (c .before .before .before .before .loop .inv) (c .before .before .before .loop-test .taken) .1)
-    (λ c κs. (c .before .before .before .before .loop .inv .known, flags-made (c .before .before .before .before .before .before .fill-bytes .ensures)))
+    (λ c. let turn = c .before .before .before .before in in-both (entry turn .pre) (turn .loop .inv) (c .before .before .before .loop-test .taken) .1)
+    (λ c κs. let turn = c .before .before .before .before in (turn .loop .inv .known, flags-made (turn .before .before .fill-bytes .ensures)))
     mul-starts
-    (λ c. in-both (c .before .before .before .before .before .before .before .before .before .before .before .before .pre) (c .before .before .before .before .before .loop .inv) (c .before .before .before .before .loop-test .taken) .0)
+    (λ c. let turn = c .before .before .before .before .before in in-both (entry turn .pre) (turn .loop .inv) (c .before .before .before .before .loop-test .taken) .0)
     mul-ends
-    (λ c. in-both (c .before .before .before .before .before .before .before .before .before .before .before .before .pre) (c .before .before .before .before .before .loop .inv) (c .before .before .before .before .loop-test .taken) .1)
-    (λ c. omega (arith, c .before .before .before .before .before .before .loop-test .taken, c .before .before .before .before .before .before .before .before .before .before .before .before .before .before .fits .count))
+    (λ c. let turn = c .before .before .before .before .before in in-both (entry turn .pre) (turn .loop .inv) (c .before .before .before .before .loop-test .taken) .1)
+    (λ c. omega (arith, c .before .before .before .before .before .before .loop-test .taken, entry (c .before .before .before .before .before .before .before) .fits .count))
     (λ c. omega arith)
     loop-again
     (λ c. c .before .loop .inv .starts-on .same)
     (λ c. c .before .loop .inv .ends-on .same)
-    (λ c. all-counted (c .before .before .before .before .before .before .before .before .pre) (c .before .loop .inv) (c .loop-test .left)))
+    (λ c. all-counted (entry (c .before) .pre) (c .before .loop .inv) (c .loop-test .left)))
