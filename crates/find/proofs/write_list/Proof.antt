@@ -44,8 +44,9 @@ write-place-requires-2 c κs =
 
 loop-less : tie.Need-loop-less Inv-loop μ-loop
 loop-less c =
-    let s = turn (c .before .before .before .before .before .before .before .before) .loop .inv .stands in
-    omega (arith, s .some, first-there s .from, match-inside s (c .before .before .before .before .before .before .before .before .before .before .loop-test .taken))
+    let passed = c .before .before .before .before .before .before .before .before in
+    let s = turn passed .loop .inv .stands in
+    omega (arith, s .some, first-there s .from, match-inside s (passed .before .before .loop-test .taken))
 
 pub write-list-spec : {M : Type 1} → statement M
 write-list-spec =
@@ -56,7 +57,7 @@ write-list-spec =
     (λ c κs. (omega arith, omega arith))
     write-place-requires
     (λ c. search needs)
-    (λ c. whole-listed _ _ (c .before .before .before .before .before .before .before .before .before .pre .1) (c .before .before .before .before .before .if1 .taken) (c .before .before .before .before .place-from .ensures) (c .before .before .write-place .ensures))
+    (λ c. let whole = c .before .before .before .before .before in whole-listed _ _ (whole .before .before .before .before .pre .1) (whole .if1 .taken) (c .before .before .before .before .place-from .ensures) (c .before .before .write-place .ensures))
     (λ c. let entry = c .before .before .before .before in none-listed (entry .pre .1) (c .if1 .left) (entry .pre .2))
     (λ c κs. room-between (c .before .before .loop .inv) (entry (c .before .before) .pre .0))
     (λ c. omega (arith, match-inside (turn (c .before .before) .loop .inv .stands) (c .before .before .before .before .loop-test .taken)))

@@ -4,25 +4,20 @@ use Rattle.kept_letters.proofs.Letters.{letters-room, rest-room, rest-k
 use Rattle.kept_letters.proofs.lay_chosen.Statement.{statement}
 use Rattle.kept_letters.proofs.lay_chosen.Tie as tie
 
--- the places that others are told by: the entry, where the end of the letters is known, and where they and the rest are laid
+-- the places that others are told by: the entry, where the end of the letters is known, and where they are laid
 abbrev entry : tie.After-before-four → tie.Start
 entry c = c .before .before .before .before .before .before .before .before
 
 abbrev four : tie.After-lay-letters → tie.After-before-four
 four c = c .before .before .before .before
 
-abbrev letters : tie.After-lay-kept → tie.After-lay-letters
-letters c = c .before .before .before .before .before .before .before .before .before .before
-
-lay-kept-requires : tie.Need-lay-kept-requires
-lay-kept-requires c κs =
-    let letters = c .before .before .before .before .before .before .before .before .before in
-    rest-room (entry (four letters) .pre) (four letters .before-four .ensures) (letters .lay-letters .ensures)
+abbrev letters : tie.After-lay-kept-arg3 → tie.After-lay-letters
+letters c = c .before .before .before .before .before .before .before .before .before
 
 returns : tie.Need-returns
 returns c =
-    let rest = c .before .before .before .before .before .before in
-    rest-kept (entry (four (letters rest)) .pre) (four (letters rest) .before-four .ensures) (letters rest .lay-letters .ensures) (rest .lay-kept .ensures)
+    let asked = c .before .before .before .before .before .before .before in
+    rest-kept (entry (four (letters asked)) .pre) (four (letters asked) .before-four .ensures) (letters asked .lay-letters .ensures) (c .before .before .before .before .before .before .lay-kept .ensures)
 
 pub lay-chosen-spec : {M : Type 1} → statement M
 lay-chosen-spec =
@@ -30,7 +25,7 @@ lay-chosen-spec =
     (tie.spec
     (λ c κs. search needs)
     (λ c κs. let four = c .before .before .before in letters-room (entry four .pre) (four .before-four .ensures))
-    lay-kept-requires
+    (λ c κs. rest-room (entry (four (letters c)) .pre) (four (letters c) .before-four .ensures) (letters c .lay-letters .ensures))
     (λ c. search needs)
     (λ c. search needs)
     (λ c. search needs)

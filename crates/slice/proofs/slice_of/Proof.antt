@@ -5,18 +5,21 @@ use Rattle.slice.proofs.Sides.{shifted, no-original, no-normalized, pas
 use Rattle.slice.proofs.slice_of.Statement.{statement}
 use Rattle.slice.proofs.slice_of.Tie as tie
 
--- the places that others are told by: the entry, and where both ranges are known
-abbrev entry : tie.Else1 → tie.Start
-entry c = c .before .before .before .before .before .before .before .before
+-- the places that others are told by: the entry, where the original range is known, and where both are
+abbrev entry : tie.After-in-original → tie.Start
+entry c = c .before .before
+
+abbrev original : tie.Else1 → tie.After-in-original
+original c = c .before .before .before .before .before .before
 
 add-shift : tie.Need-add-t21
 add-shift c =
-    omega (arith, shifted (entry (c .before .before .before .before .before) .pre) (c .before .before .before .before .before .before .before .before .before .before .before .in-original .given .1) (c .start-of3 .ensures))
+    omega (arith, shifted (entry (original (c .before .before .before .before .before)) .pre) (original (c .before .before .before .before .before) .in-original .given .1) (c .start-of3 .ensures))
 
 returns-4 : tie.Need-returns-4
 returns-4 c =
     let made = c .before .before .before .before .before in
-    both-placed _ _ _ _ (made .before .before .before .in-normalized .given .1) (made .before .end-of .ensures) (made .before .before .before .before .before .before .in-original .given .1) (made .if1 .left)
+    both-placed _ _ _ _ (made .before .before .before .in-normalized .given .1) (made .before .end-of .ensures) (original made .in-original .given .1) (made .if1 .left)
     (c .before .before .before .before .start-of .ensures) (c .before .before .before .end-of2 .ensures) (c .before .before .start-of2 .ensures) (c .before .end-of3 .ensures) (c .start-of3 .ensures)
 
 pub slice-of-spec : {M : Type 1} → statement M

@@ -16,14 +16,17 @@ Inv-loop text from fours₀ j₀ fours j = (j ≤ length fours₀) × Filled (fo
 abbrev μ-loop : tie.MeasureT-loop
 μ-loop text from fours₀ j₀ fours j = length fours₀ - j
 
--- the places that others are told by: the entry and the turn's beginning
+-- the places that others are told by: the entry, the turn's beginning, and where half of its bytes are known
 abbrev entry : tie.At-loop Inv-loop μ-loop → tie.Start Inv-loop μ-loop
 entry c = c .before .before .before
 
+abbrev turn : tie.After-continues2 Inv-loop μ-loop → tie.At-loop Inv-loop μ-loop
+turn c = c .before .before .before .before .before
+
 loop-again : tie.Need-loop-again Inv-loop μ-loop
 loop-again c =
-    let turn = c .before .before .before .before .before .before .before .before .before in
-    (omega arith, filled-up _ _ _ _ _ _ (turn .loop .inv .1) (omega arith) (four-flags (entry turn .args .text .now) (entry turn .args .from) (turn .loop .j) (omega arith) (c .before .before .before .before .before .before .continues .ensures) (c .before .before .before .before .continues2 .ensures) (c .before .before .continues3 .ensures) (c .continues4 .ensures)))
+    let half = c .before .before .before .before in
+    (omega arith, filled-up _ _ _ _ _ _ (turn half .loop .inv .1) (omega arith) (four-flags (entry (turn half) .args .text .now) (entry (turn half) .args .from) (turn half .loop .j) (omega arith) (half .before .before .continues .ensures) (half .continues2 .ensures) (c .before .before .continues3 .ensures) (c .continues4 .ensures)))
 
 pub write-fours-spec : {M : Type 1} → statement M
 write-fours-spec =
@@ -41,19 +44,19 @@ write-fours-spec =
     (λ c. omega arith)
     (λ c κs. search needs)
     (λ c. search needs)
-    (λ c. omega (arith, two-fit (entry (c .before .before .before .before .before) .args .text .now) (entry (c .before .before .before .before .before) .args .from) (c .before .before .before .before .before .loop .j) (omega arith) (c .before .before .continues .ensures) (c .continues2 .ensures)))
+    (λ c. omega (arith, two-fit (entry (turn c) .args .text .now) (entry (turn c) .args .from) (turn c .loop .j) (omega arith) (c .before .before .continues .ensures) (c .continues2 .ensures)))
     (λ c. omega arith)
     (λ c. omega arith)
     (λ c. omega arith)
     (λ c κs. search needs)
     (λ c. search needs)
-    (λ c. let turn = c .before .before .before .before .before .before .before in omega (arith, three-fit (entry turn .args .text .now) (entry turn .args .from) (turn .loop .j) (omega arith) (c .before .before .before .before .continues .ensures) (c .before .before .continues2 .ensures) (c .continues3 .ensures)))
+    (λ c. let half = c .before .before in omega (arith, three-fit (entry (turn half) .args .text .now) (entry (turn half) .args .from) (turn half .loop .j) (omega arith) (half .before .before .continues .ensures) (half .continues2 .ensures) (c .continues3 .ensures)))
     (λ c. omega arith)
     (λ c. omega arith)
     (λ c. omega arith)
     (λ c κs. search needs)
     (λ c. search needs)
-    (λ c. let turn = c .before .before .before .before .before .before .before .before .before in omega (arith, four-flags (entry turn .args .text .now) (entry turn .args .from) (turn .loop .j) (omega arith) (c .before .before .before .before .before .before .continues .ensures) (c .before .before .before .before .continues2 .ensures) (c .before .before .continues3 .ensures) (c .continues4 .ensures), four-small (entry turn .args .text .now) (entry turn .args .from) (turn .loop .j)))
+    (λ c. let half = c .before .before .before .before in omega (arith, four-flags (entry (turn half) .args .text .now) (entry (turn half) .args .from) (turn half .loop .j) (omega arith) (half .before .before .continues .ensures) (half .continues2 .ensures) (c .before .before .continues3 .ensures) (c .continues4 .ensures), four-small (entry (turn half) .args .text .now) (entry (turn half) .args .from) (turn half .loop .j)))
     (λ c. omega arith)
     (λ c. omega arith)
     (λ c. omega arith)
