@@ -29,6 +29,6 @@ write-line-spec =
     (λ c κs. let second = c .before .before .before in bytes-room _ _ _ _ _ (entry (first second) .pre) (first second .write-field .ensures) (second .write-field2 .ensures))
     (λ c. omega (arith, ending-room _ _ _ _ _ (entry (first (second (c .before .before))) .pre) (first (second (c .before .before)) .write-field .ensures) (second (c .before .before) .write-field2 .ensures) (c .before .before .copy-bytes .ensures)))
     (λ c κs. let copied = c .before .before .before in ending-room _ _ _ _ _ (entry (first (second copied)) .pre) (first (second copied) .write-field .ensures) (second copied .write-field2 .ensures) (copied .copy-bytes .ensures))
-    (λ c. let copied = c .before .before .before .before .before .before in omega (arith, ending-room _ _ _ _ _ (entry (first (second copied)) .pre) (first (second copied) .write-field .ensures) (second copied .write-field2 .ensures) (copied .copy-bytes .ensures)))
+    (λ c. omega (arith, ending-room _ _ _ _ _ (entry (first (second (c .before .before .before .before .before .before))) .pre) (first (second (c .before .before .before .before .before .before)) .write-field .ensures) (second (c .before .before .before .before .before .before) .write-field2 .ensures) (c .before .before .before .before .before .before .copy-bytes .ensures)))
     (λ c. search needs)
     returns)
