@@ -26,8 +26,7 @@ copy-bytes-requires c κs =
 blank-all-requires : tie.Need-blank-all-requires
 blank-all-requires c κs =
     let copied = c .before .before .before .before in
-    let noted = noted copied in
-    (
+    let noted = noted copied in (
       started-held (noted .from-text .ensures) (copied .before .before .enum-told .given .1) _ (noted .before .before .before .before .column-buffer .ensures) (noted .before .before .before .column-buffer2 .ensures) (noted .before .before .before .before .before .text-buffer .ensures) (copied .copy-bytes .ensures),
       entry noted .pre,
     )

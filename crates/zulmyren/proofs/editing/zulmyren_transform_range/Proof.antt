@@ -10,16 +10,28 @@ use Rattle.zulmyren.proofs.Edited.{edited-short, range-edit}
 use Rattle.zulmyren.proofs.editing.zulmyren_transform_range.Statement.{statement}
 use Rattle.zulmyren.proofs.editing.zulmyren_transform_range.Tie as tie
 
+-- the places that others are told by: the entry, where the range is known, and where the text is edited
+abbrev entry : tie.After-range-of → tie.Start
+entry c = c .before .before .before .before .before .before .before .before .before .before
+
+abbrev told : tie.After-transform-range → tie.After-range-of
+told c = c .before .before .before .before
+
+abbrev note : tie.Start → Note
+note c = lent (c .args .original .now) (c .args .normalized .now) (c .args .starts .now) (c .args .ends .now) (c .args .original-shift)
+
 edited-told-requires : tie.Need-edited-told-requires
 edited-told-requires c κs =
-    let given = c .before .before .before .before .before .before .before .before .before .before .before .before .before .before .before .before .before .before .before .before .args in
-    let note : Note = (lent (given .original .now) (given .normalized .now) (given .starts .now) (given .ends .now) (given .original-shift)) in
-    edited-short note (also (noteFaults limit note) (scriptFaults (given .script .now))) (scriptEdit note (c .before .before .before .before .before .before .before .before .before .before .range-of .result) (given .script .now) (given .initial-offset)) (least (length (given .out .now)) (length (given .out-starts .now)) (length (given .out-ends .now))) _ (c .before .before .before .before .before .before .transform-range .ensures)
+    let edited = c .before .before .before .before .before .before in
+    let given = entry (told edited) .args in
+    let note = note (entry (told edited)) in
+    edited-short note (also (noteFaults limit note) (scriptFaults (given .script .now))) (scriptEdit note (told edited .range-of .result) (given .script .now) (given .initial-offset)) (least (length (given .out .now)) (length (given .out-starts .now)) (length (given .out-ends .now))) _ (edited .transform-range .ensures)
 
 returns : tie.Need-returns
 returns c =
-    let given = c .before .before .before .before .before .before .before .before .before .before .before .before .before .before .before .before .before .before .before .before .before .args in
-    range-edit (lent (given .original .now) (given .normalized .now) (given .starts .now) (given .ends .now) (given .original-shift)) (given .of-original) (given .start) (given .end) (given .script .now) (given .initial-offset) (given .out .now) (given .out-starts .now) (given .out-ends .now) (c .before .before .before .before .before .before .before .before .before .before .before .before .side-of .ensures) (c .before .before .before .before .before .before .before .before .before .before .before .range-of .ensures) (c .before .before .before .before .before .before .before .transform-range .ensures) (c .edited-told .ensures)
+    let edited = c .before .before .before .before .before .before .before in
+    let given = entry (told edited) .args in
+    range-edit (note (entry (told edited))) (given .of-original) (given .start) (given .end) (given .script .now) (given .initial-offset) (given .out .now) (given .out-starts .now) (given .out-ends .now) (told edited .before .side-of .ensures) (told edited .range-of .ensures) (edited .transform-range .ensures) (c .edited-told .ensures)
 
 pub zulmyren-transform-range-spec : {M : Type 1} → statement M
 zulmyren-transform-range-spec =
