@@ -33,7 +33,7 @@ use Rattle.edits.specs.Plain.{sifted}
 use Rattle.edits.proofs.Head.{is-placed}
 use Rattle.edits.proofs.Shares.{starts-part, ends-part}
 use Rattle.edits.proofs.Sifted.{given-sifted, starved-sifted, column-sifted, codes-letters}
-use Rattle.filters.specs.Flags.{skips, begun, kept, OneValue, RangeReady}
+use Rattle.filters.specs.Flags.{skips, begun, kept, flagEdit, FlagsRewritten, OneValue, RangeReady}
 use Rattle.kept_letters.specs.Chosen.{chosen, EachKept, FlagEach, KeptEnd, KeptRoom, KeptLaid, spans}
 use Rattle.filters.proofs.Kept.{begun-starved, begun-given}
 use Rattle.kept_letters.proofs.Chosen.{chosen-most}
@@ -56,7 +56,7 @@ module _ {s starts ends flags : List ℕ} (r : RangeReady s starts ends flags) w
   flag-each = record { formed = r .editable .formed; counted = r .counted }
 
   e : Edit
-  e = record { from = 0; to = length s; skip = skips flags; commands = kept s flags }
+  e = flagEdit s 0 (length s) flags
 
   standing : Standing s (length s) 0
   standing = record { formed = r .editable .formed; ends = boundary-length s; stands = boundary-zero s (r .editable .formed); most = omega arith }
@@ -145,7 +145,7 @@ module _ {s starts ends flags : List ℕ} (r : RangeReady s starts ends flags) w
         (l .starts-are ∙ ap (λ (x : List ℕ). overlay x starts₀) (sym (column-made starts (r .editable .one-start) (r .one-start))))
         (l .ends-are ∙ ap (λ (x : List ℕ). overlay x ends₀) (sym (column-made ends (r .editable .one-end) (r .one-end))))
 
-    pub spanned-made : {k : ℕ} {out starts₁ ends₁ : List ℕ} → KeptLaid s starts ends flags out₀ starts₀ ends₀ k out starts₁ ends₁ → Rewritten (verdict (editFaults most s (record { from = from; to = to; skip = skips flags; commands = kept s flags }) (least (length out₀) (length starts₀) (length ends₀)))) (transformed (lent [] s starts ends 0) (record { from = from; to = to; skip = skips flags; commands = kept s flags })) out₀ starts₀ ends₀ (Edited k) out starts₁ ends₁
+    pub spanned-made : {k : ℕ} {out starts₁ ends₁ : List ℕ} → KeptLaid s starts ends flags out₀ starts₀ ends₀ k out starts₁ ends₁ → FlagsRewritten most s starts ends (flagEdit s from to flags) out₀ starts₀ ends₀ (Edited k) out starts₁ ends₁
     unfolding e
     spanned-made l = rw (first, last) (made l)
 

@@ -8,10 +8,14 @@ use lib.ListN.{length, getD, replicate}
 use Rattle.buffers.specs.Splice.{part, splice}
 use Rattle.utf8.specs.Formed.{announced, boundary}
 use Rattle.utf8.specs.Letters.{letters}
+use Rattle.note.specs.Notes.{lent}
+use Rattle.note.specs.Refusals.{least, verdict}
 use Rattle.script.specs.declared.Command.{Command}
-use Rattle.edit_steps.specs.Edits.{skipped}
+use Rattle.edit_steps.specs.Edits.{skipped, Edit, transformed}
 use Rattle.edit_steps.specs.Walking.{Tabled}
 use Rattle.edit_steps.specs.Laying.{CommandsRoom, Editable, EditRoom}
+use Rattle.transform.specs.declared.Editing.{Editing}
+use Rattle.transform.specs.Transforming.{editFaults, Rewritten}
 use Rattle.edits.specs.Characters.{codesOf}
 use Rattle.edits.specs.Whole.{droppedAhead, anyKept, keptCommands}
 
@@ -25,6 +29,16 @@ begun s b from flags = skipped s b (skips flags) from
 -- the commands of the flags beside a text
 unfoldable pub kept : List ℕ → List ℕ → List Command
 kept s flags = keptCommands (codesOf s) flags
+
+-- the edit of a range by flags, and what is left in the lent buffers of a note whose range is so edited
+abbrev pub flagEdit : List ℕ → ℕ → ℕ → List ℕ → Edit
+flagEdit s from to flags = record { from = from; to = to; skip = skips flags; commands = kept s flags }
+
+abbrev pub FlagsRewritten : ℕ → List ℕ → List ℕ → List ℕ → Edit → List ℕ → List ℕ → List ℕ → Editing
+    → List ℕ → List ℕ → List ℕ → Type 0
+FlagsRewritten most s starts ends e out₀ starts₀ ends₀ =
+    Rewritten (verdict (editFaults most s e (least (length out₀) (length starts₀) (length ends₀))))
+    (transformed (lent [] s starts ends 0) e) out₀ starts₀ ends₀
 
 -- a flag that keeps its character finds no character left at the position
 unfoldable pub wants : ℕ → ℕ → ℕ → Bool

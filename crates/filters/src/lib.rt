@@ -28,18 +28,17 @@ use utf8::count::count_leads;
 use utf8::lead::char_len;
 use utf8::lead::lengths;
 ghost use mathlib.Core.Path.{_≡_};
-ghost use mathlib.Core.List.{[]};
 ghost use lib.ListN.{length};
 ghost use Rattle.utf8.specs.Letters.{letters};
 ghost use Rattle.note.specs.Notes.{lent, limit};
 ghost use Rattle.note.specs.Refusals.{least, verdict};
 ghost use Rattle.edit_steps.specs.Edits.{transformed};
 ghost use Rattle.edit_steps.specs.Laying.{CommandsLaid, Editable, EditLaid};
-ghost use Rattle.transform.specs.Transforming.{editFaults, Rewritten};
+ghost use Rattle.transform.specs.Transforming.{Rewritten};
 ghost use Rattle.edit_steps.specs.Walking.{measured};
 ghost use Rattle.edits.specs.Whole.{filterEdit, filterFaults};
-ghost use Rattle.filters.specs.Flags.{begun, counts, FilterRoom, FlagLaid, FlagRoom, FlagsReady, FlagsRoom};
-ghost use Rattle.filters.specs.Flags.{kept, RangeReady, skips, wants};
+ghost use Rattle.filters.specs.Flags.{begun, counts, FilterRoom, flagEdit, FlagLaid, FlagRoom, FlagsReady};
+ghost use Rattle.filters.specs.Flags.{FlagsRewritten, FlagsRoom, kept, RangeReady, wants};
 
 // Whether a flag keeps its character though none is left at the position.
 fn wants(flag: u8, to: usize, position: usize) -> bool
@@ -223,22 +222,8 @@ fn edit_flags(
     out_ends: &mut [Offset],
 ) -> Editing
     requires { ⌜ (Editable (now text) (now starts) (now ends)) × (length (now flags) ≡ letters (now text)) ⌝ }
-    ensures { λ r. ⌜ Rewritten
-        (verdict (editFaults limit (now (text .entry))
-        (record {
-          from = from;
-          to = to;
-          skip = skips (now (flags .entry));
-          commands = kept (now (text .entry)) (now (flags .entry));
-        })
-        (least (length (now (out .entry))) (length (now («out_starts» .entry))) (length (now («out_ends» .entry))))))
-        (transformed (lent [] (now (text .entry)) (now (starts .entry)) (now (ends .entry)) 0)
-        (record {
-          from = from;
-          to = to;
-          skip = skips (now (flags .entry));
-          commands = kept (now (text .entry)) (now (flags .entry));
-        }))
+    ensures { λ r. ⌜ FlagsRewritten limit (now (text .entry)) (now (starts .entry)) (now (ends .entry))
+        (flagEdit (now (text .entry)) from to (now (flags .entry)))
         (now (out .entry)) (now («out_starts» .entry)) (now («out_ends» .entry))
         r (now (out .exit)) (now («out_starts» .exit)) (now («out_ends» .exit)) ⌝ }
 {
@@ -290,22 +275,8 @@ fn filter_range(
     out_ends: &mut [Offset],
 ) -> Editing
     requires { ⌜ RangeReady (now text) (now starts) (now ends) (now flags) ⌝ }
-    ensures { λ r. ⌜ Rewritten
-        (verdict (editFaults limit (now (text .entry))
-        (record {
-          from = from;
-          to = to;
-          skip = skips (now (flags .entry));
-          commands = kept (now (text .entry)) (now (flags .entry));
-        })
-        (least (length (now (out .entry))) (length (now («out_starts» .entry))) (length (now («out_ends» .entry))))))
-        (transformed (lent [] (now (text .entry)) (now (starts .entry)) (now (ends .entry)) 0)
-        (record {
-          from = from;
-          to = to;
-          skip = skips (now (flags .entry));
-          commands = kept (now (text .entry)) (now (flags .entry));
-        }))
+    ensures { λ r. ⌜ FlagsRewritten limit (now (text .entry)) (now (starts .entry)) (now (ends .entry))
+        (flagEdit (now (text .entry)) from to (now (flags .entry)))
         (now (out .entry)) (now («out_starts» .entry)) (now («out_ends» .entry))
         r (now (out .exit)) (now («out_starts» .exit)) (now («out_ends» .exit)) ⌝ }
 {
