@@ -3,10 +3,10 @@
 use Prim.Native.Nat.{ℕ, zero, suc, _+_, _-_, _*_, _/_, _≤_, _<_, min}
 use mathlib.Core.Path.{_≡_, _∙_, ap, refl, sym}
 use mathlib.Core.Bool.{Bool}
-use mathlib.Core.List.{List, append-nil}
+use mathlib.Core.List.{List, [], _∷_, append-nil}
 use native.Mathlib.Nat.{mul-add, mul-comm, mul-le-mul-left, lt-of-mul-lt-mul-left, le-div-iff-mul-le}
 use native.Mathlib.Omega.{arith}
-use lib.ListN.{length}
+use lib.ListN.{length, getD}
 use lib.Seq.{take-length}
 use Rattle.buffers.specs.Splice.{part, splice, overlay}
 use Rattle.buffers.proofs.Cases.{le-or-lt}
@@ -129,7 +129,7 @@ module _ {text literal content : List ℕ} {first : ℕ} {out starts ends : List
   pub literal-short : length literal ≤ limit
   literal-short = omega (arith, first-there from-start .most, match-inside from-start (le-or-lt (length text) first (λ h. absurd (met (omega (arith, first-there from-start .most)))) (λ h. h)), f .short)
 
-  module _ {most : ℕ} {share margin until : ℕ} (known : most ≡ largest text) (w : Margin (length text) (length literal) (length content) share) (wide : (length literal + 80 ≤ margin) × (share ≤ 1024 → share ≤ margin)) (below : 1024 < share → until ≤ sizes (length content) (foundPlaces text literal)) where
+  module _ {most : ℕ} {share margin until : ℕ} (known : largest text ≤ most) (w : Margin (length text) (length literal) (length content) share) (wide : (length literal + 80 ≤ margin) × (share ≤ 1024 → share ≤ margin)) (below : 1024 < share → until ≤ sizes (length content) (foundPlaces text literal)) where
     bounded : (filler : List ℕ) → part filler 0 (length content) ≡ content → length content ≤ length filler → Bounded text most literal content filler 0 0 margin until
     bounded filler front long =
         record {
@@ -158,3 +158,9 @@ module _ {text literal content : List ℕ} {first : ℕ} {out starts ends : List
         starts-are = l .starts-are ∙ rw is;
         ends-are = l .ends-are ∙ rw is;
       }
+
+-- no byte is larger than FF
+pub bytes-most : (s : List ℕ) → ((k : ℕ) → getD s k 0 ≤ 0xFF) → largest s ≤ 0xFF
+unfolding largest
+bytes-most [] each = omega arith
+bytes-most (b ∷ s) each = omega (arith, each 0, bytes-most s (λ k. each (suc k)))

@@ -22,6 +22,7 @@ use validity_blocks::extremes::largest;
 ghost use mathlib.Core.Path.{_≡_};
 ghost use Prim.Native.Nat.{_+_, _≤_, _<_, min};
 ghost use lib.Dec.{leb};
+ghost use Rattle.validity_blocks.specs.Extremes.{largest};
 ghost use Rattle.note.specs.Notes.{limit};
 ghost use Rattle.note.specs.Refusals.{verdict};
 ghost use Rattle.find.specs.Matching.{foundPlaces};
@@ -135,6 +136,18 @@ fn lay_whole(text: &[u8], out: &mut [u8], out_starts: &mut [Offset], out_ends: &
     write_ends(text, out_ends);
 }
 
+// What no byte of the text is larger than: its largest byte, or any byte's bound where its first bytes have a character
+// of four bytes already.
+fn most_of(text: &[u8]) -> u8
+    ensures { λ r. ⌜ largest (now (text .entry)) ≤ r ⌝ }
+{
+    let few = least_of_two(1024, text.len());
+    if 0xF0 <= largest(&text[0..few]) {
+        return 0xFF;
+    }
+    largest(text)
+}
+
 // Every match gives way to the content; a short one is padded, so that a block of it can be laid.
 fn blank_found(
     text: &[u8],
@@ -155,7 +168,7 @@ fn blank_found(
         lay_whole(text, out, out_starts, out_ends);
         return first;
     }
-    let most = largest(text);
+    let most = most_of(text);
     let share = share_of(text.len(), literal.len(), content.len());
     let margin = margin_of(share, literal.len());
     let until = bound_of(text, literal, first, content.len(), share);

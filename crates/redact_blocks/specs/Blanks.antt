@@ -58,7 +58,7 @@ pub record Blanked (text literal content : List ℕ) (i at : ℕ) (out starts en
 -- says, and 80 elements end below `until`, the result has them
 pub record Bounded (text : List ℕ) (most : ℕ) (literal content filler : List ℕ) (i at margin until : ℕ)
     : Type 0 where
-  pub most-is : most ≡ largest text
+  pub most-is : largest text ≤ most
   pub filler-is : part filler 0 (length content) ≡ content
   pub filler-long : length content ≤ length filler
   pub window : length literal + 80 ≤ margin
@@ -83,7 +83,7 @@ pub record FrontAt (text literal front : List ℕ) (p : ℕ) : Type 0 where
 -- a block of 64 from i on, with the bytes that it is searched and counted by
 pub record BlockRoom (text : List ℕ) (most : ℕ) (literal : List ℕ) (first last i : ℕ) (out starts ends : List ℕ)
     (at : ℕ) : Type 0 where
-  pub most-is : most ≡ largest text
+  pub most-is : largest text ≤ most
   pub some : 0 < length literal
   pub first-is : first ≡ getD literal 0 0
   pub last-is : last ≡ getD literal (length literal - 1) 0

@@ -42,8 +42,8 @@ pub fn lay_byte(
     out_ends[at] = end as Offset;
 }
 
-// The 64 bytes from `i` on with their alignments. `most` is the text's largest byte: it tells how long its characters
-// are at most.
+// The 64 bytes from `i` on with their alignments. No byte of the text is larger than `most`: it tells how long its
+// characters are at most.
 pub fn lay_block(
     text: &[u8],
     most: u8,
@@ -55,7 +55,7 @@ pub fn lay_block(
 )
     requires { ⌜ StretchRoom (now text) i (i + 64) (now out) (now «out_starts») (now «out_ends») at
         × ((3 ≤ i) × (i + 67 ≤ length (now text))) ⌝ }
-    requires { ⌜ most ≡ largest (now text) ⌝ }
+    requires { ⌜ largest (now text) ≤ most ⌝ }
     ensures { λ _. ⌜ Stretch (now (text .entry)) i (i + 64)
         (now (out .entry)) (now («out_starts» .entry)) (now («out_ends» .entry)) at 0
         (now (out .exit)) (now («out_starts» .exit)) (now («out_ends» .exit)) ⌝ }

@@ -26,14 +26,14 @@ blank-requires c κs =
     let bound = c .before .before .before .before in
     let f = entry (partial bound .before) .pre in
     let met = partial bound .if1 .left in
-    (blankable f met, bounded-alone f met (bound .before .before .before .largest .ensures) (bound .before .before .share-of .ensures) (bound .before .margin-of .ensures) (bound .bound-of .ensures))
+    (blankable f met, bounded-alone f met (bound .before .before .before .most-of .ensures) (bound .before .before .share-of .ensures) (bound .before .margin-of .ensures) (bound .bound-of .ensures))
 
 blank-requires-2 : tie.Need-blank-requires-2
 blank-requires-2 c κs =
     let copied = c .before .before .before .before .before in
     let f = entry (partial (bound copied) .before) .pre in
     let met = partial (bound copied) .if1 .left in
-    (blankable f met, bounded-padded f met (bound copied .before .before .before .largest .ensures) (bound copied .before .before .share-of .ensures) (bound copied .before .margin-of .ensures) (bound copied .bound-of .ensures) _ (omega arith) (copied .copy-bytes .ensures))
+    (blankable f met, bounded-padded f met (bound copied .before .before .before .most-of .ensures) (bound copied .before .before .share-of .ensures) (bound copied .before .margin-of .ensures) (bound copied .bound-of .ensures) _ (omega arith) (copied .copy-bytes .ensures))
 
 pub blank-found-spec : {M : Type 1} → statement M
 blank-found-spec =
