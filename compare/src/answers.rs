@@ -1,7 +1,7 @@
 //! The answers that crates/replay replays (`compare/run list`): what the Rust original and `core::str` answer, and,
-//! where they refuse nothing, the second check. The same in every run. `list.rs` has the layout; a new call is a name
-//! and a function here or below `answers`, and one in crates/replay, which reads the fields in the order in which
-//! they are written here.
+//! where they refuse nothing, the second check. The same in every run. `list.rs` has the layout and the calls' names; a
+//! new call is a name there, a function here or below `answers`, and one in crates/replay, which reads the fields in
+//! the order in which they are written here.
 
 mod calls;
 mod cutting;
@@ -11,10 +11,11 @@ mod slicing;
 
 use crate::characters::{self, sequences};
 use crate::every;
-use crate::list::{field, Answers};
-use crate::note::Note;
+use crate::list::{field, Answers, Replayed};
+use crate::note::{offset, Note, Offset};
 use crate::notes::{self, rooms, FAULTS};
 use crate::random::Random;
+use crate::refusals::NO_ROOM;
 use crate::samples::{self, DAMAGES, DAMAGES_AT};
 use crate::texts::{self, KINDS, LIMIT, UNITS};
 use std::process::ExitCode;
@@ -25,43 +26,16 @@ use tokenizers::NormalizedString;
 /// From the repository's root.
 const FOLDER: &str = "crates/replay/data";
 
-/// The names of the calls: crates/replay numbers them by their places here.
-const CALLS: [&str; 26] = [
-    "well_formed",
-    "letter_count",
-    "char_offsets",
-    "char_offsets_all",
-    "from_text",
-    "check_note",
-    "convert_offsets",
-    "get_range",
-    "get_range_original",
-    "convert_all",
-    "replace",
-    "published_alike",
-    "part",
-    "find_matches",
-    "redact",
-    "slice",
-    "split",
-    "get_splits",
-    "pieces",
-    "transform_range",
-    "transform",
-    "map",
-    "filter",
-    "append",
-    "prepend",
-    "clear",
-];
-
 pub fn write() -> ExitCode {
     let lists = [well_formed(), letter_counts(), starting_notes(), checked_notes()];
     let cut = [slicing::slices()].into_iter().chain(cutting::answers()).chain([printing::printed()]);
-    write_file("calls", &CALLS.iter().flat_map(|name| field(name.as_bytes())).collect::<Vec<u8>>());
-    for answers in lists.into_iter().chain(calls::answers()).chain(cut).chain(editing::answers()) {
-        assert!(CALLS.contains(&answers.name), "{} has no number", answers.name);
-        write_file(answers.name, &answers.file());
+    let all: Vec<Answers> = lists.into_iter().chain(calls::answers()).chain(cut).chain(editing::answers()).collect();
+    for call in Replayed::ALL {
+        assert!(all.iter().any(|answers| answers.call == *call), "{} has no answers", call.name());
+    }
+    write_file("calls", &Replayed::ALL.iter().flat_map(|call| field(call.name().as_bytes())).collect::<Vec<u8>>());
+    for answers in all {
+        write_file(answers.call.name(), &answers.file());
         println!("{answers}");
     }
     ExitCode::SUCCESS
@@ -77,7 +51,7 @@ fn worked() -> [Vec<u8>; 4] {
     [vec![b'a'; LIMIT], vec![b'a'; LIMIT + 1], vec![0xED, 0x9F, 0xBF], vec![0xED, 0xA0, 0x80]]
 }
 
-/// Texts of 65,535 and 65,536 bytes in characters of 2 to 4 bytes, whole and with the last byte damaged.
+/// Texts at the limit and one past it, in characters of 2 to 4 bytes, whole and with the last byte damaged.
 fn around_the_limit() -> Vec<Vec<u8>> {
     let mut around = vec![];
     for unit in ["é", "漢", "😀", "a漢é😀"] {
@@ -135,7 +109,7 @@ fn in_blocks() -> Vec<Vec<u8>> {
 
 /// A text; 1 where it is well-formed, 0 where it is not.
 fn well_formed() -> Answers {
-    let mut answers = Answers::new("well_formed");
+    let mut answers = Answers::new(Replayed::WellFormed);
     let bytes = (0..=255).map(|byte| vec![byte]);
     let texts = worked().into_iter().chain(around_the_limit()).chain(bytes).chain(edges_of_rows()).chain(in_blocks());
     for text in texts {
@@ -152,7 +126,7 @@ fn letter_count(answers: &mut Answers, text: &[u8], start: usize, end: usize) {
 }
 
 fn letter_counts() -> Answers {
-    let mut answers = Answers::new("letter_count");
+    let mut answers = Answers::new(Replayed::LetterCount);
     for text in worked().into_iter().chain(around_the_limit()) {
         for (start, end) in [(0, text.len()), (0, 0), (text.len(), text.len()), (0, text.len() + 1), (9, 3)] {
             letter_count(&mut answers, &text, start, end);
@@ -191,19 +165,19 @@ fn letter_counts_anywhere(answers: &mut Answers) {
     }
 }
 
-/// A text, the lent starts and ends; the refusal, the two columns.
+/// A text, the passed starts and ends; the refusal, the two columns.
 fn starting_note(answers: &mut Answers, text: &[u8], room: (usize, usize)) {
     let (refusal, starts, ends) = match notes::expected_from_text(text) {
         Err(refusal) => (refusal, vec![], vec![]),
-        Ok(_) if room.0.min(room.1) < text.len() => (9, vec![], vec![]),
+        Ok(_) if room.0.min(room.1) < text.len() => (NO_ROOM, vec![], vec![]),
         Ok(note) => (0, note.starts, note.ends),
     };
-    answers.answer().text(text).lent_column(room.0).lent_column(room.1);
+    answers.answer().text(text).passed_column(room.0).passed_column(room.1);
     answers.number(refusal).left_column(room.0, &starts).left_column(room.1, &ends);
 }
 
 fn starting_notes() -> Answers {
-    let mut answers = Answers::new("from_text");
+    let mut answers = Answers::new(Replayed::FromText);
     for text in worked().into_iter().chain(around_the_limit()) {
         let len = text.len();
         for room in [(len, len), (LIMIT + 1, LIMIT + 1), (len - 1, len), (len, len - 1)] {
@@ -233,7 +207,7 @@ fn checked_note(answers: &mut Answers, note: &Note) {
 }
 
 fn checked_notes() -> Answers {
-    let mut answers = Answers::new("check_note");
+    let mut answers = Answers::new(Replayed::CheckNote);
     for note in edited_notes() {
         checked_note(&mut answers, &note);
     }
@@ -272,9 +246,10 @@ fn edited_notes() -> Vec<Note> {
     notes
 }
 
-/// Starting notes of 65,535 and 65,536 bytes, whole and with each damage that needs no byte.
+/// Starting notes at the limit and one past it, whole and with each damage that needs no byte.
 fn notes_at_the_limit(answers: &mut Answers) {
-    let (column, next): (Vec<u16>, Vec<u16>) = ((0..=u16::MAX).collect(), (1..=u16::MAX).chain([u16::MAX]).collect());
+    let column: Vec<Offset> = (0..=LIMIT).map(offset).collect();
+    let next: Vec<Offset> = (1..=LIMIT).chain([LIMIT]).map(offset).collect();
     for (original, normalized) in every::pair(1) {
         let (original, normalized) = (LIMIT + original, LIMIT + normalized);
         let note = Note {
@@ -288,7 +263,7 @@ fn notes_at_the_limit(answers: &mut Answers) {
         for (_, damage) in DAMAGES {
             let mut damaged = note.clone();
             damage(&mut damaged);
-            // A lent column of the list has at most 65,536 numbers.
+            // A column of the list has at most one number more than the limit.
             if damaged.starts.len().max(damaged.ends.len()).max(damaged.original.len()) <= LIMIT + 1 {
                 checked_note(answers, &damaged);
             }
@@ -320,11 +295,11 @@ fn damaged_notes(answers: &mut Answers) {
 
 /// Every fault beside every other: the order of checks decides.
 fn notes_with_two_faults(answers: &mut Answers) {
-    for one in 0..FAULTS.len() {
-        for other in one..FAULTS.len() {
+    for (i, one) in FAULTS.iter().enumerate() {
+        for other in &FAULTS[i..] {
             let mut note = Note::from(&NormalizedString::from("aéb"));
-            FAULTS[one](&mut note);
-            FAULTS[other](&mut note);
+            one(&mut note);
+            other(&mut note);
             checked_note(answers, &note);
         }
     }

@@ -1,5 +1,12 @@
 //! Times of our calls beside others that a user could pick: same process, same texts, buffers prepared before. What is
 //! printed is the table of docs/BENCHMARKS.md. A cell with an aim counts as a test, and fails where the aim is missed.
+//!
+//! The aims are below `bench`, beside the rows: `RUST.at_most([0.61, 0.11, 0.14, 0.29])` for ASCII, mixed, CJK and
+//! emoji text in the regular layout, `.in_rotation([..])` for the other, and after the row `.of_regular([..])` for ours
+//! in one beside ours in the other. An aim is what two runs on a quiet machine held, with a tenth to spare. A row with
+//! an aim of another kind, or without one because ours is slower than the Rust, says why: `.because("..")`.
+//!
+//! The aims that are here now are of one run only, the one of docs/BENCHMARKS.md at 18a81de.
 
 mod buffers;
 mod characters;
@@ -27,10 +34,8 @@ const ENOUGH: Duration = Duration::from_millis(250);
 const RUNS: usize = 24;
 
 /// Measures the calls whose name has `word` in it, and prints two tables in Markdown.
-pub fn measure(word: String) -> ExitCode {
-    let mut bench =
-        Bench { texts: layouts::texts(), sizes: layouts::sizes(), word, growth: vec![], report: Report::default() };
-    heading();
+pub fn measure(word: &str) -> ExitCode {
+    let mut bench = Bench::new(word);
     characters::bench(&mut bench);
     notes::bench(&mut bench);
     convert::bench(&mut bench);
@@ -40,24 +45,18 @@ pub fn measure(word: String) -> ExitCode {
     edits::bench(&mut bench);
     slice::bench(&mut bench);
     split::bench(&mut bench);
-    println!(
-        "\n| Mixed text: µs at so many bytes | {} | Of linear, ≤ {LINEAR} |",
-        layouts::SIZES.map(|size| size.to_string()).join(" | ")
-    );
-    println!("|---|--:|--:|--:|--:|--:|");
-    bench.growth.iter().for_each(|line| println!("{line}"));
-    println!();
-    bench.report.finish()
+    bench.finish()
 }
 
 fn heading() {
     let commit = std::env::var("ZULMYREN_COMMIT").unwrap_or_else(|_| "unknown".into());
     println!(
-        "Commit {commit}. Texts of up to {} bytes; times in µs. A cell of another has ours / theirs, and theirs in brackets.
+        "Commit {commit}. Texts of up to {} bytes; times in µs. A cell of another has ours / theirs, theirs in brackets.
 regular: a literal every 45 bytes; the best of up to {} runs, {RUNS} of ours and {RUNS} of theirs by turns.
 rotation: 12 texts with 13 to 63 bytes between literals, one after the other, so that none is learned; the mean over
 them of the best half of each one's runs. From `replace` on, what is freed stays with the process: theirs takes no fresh
-pages from the system. A number after ≤ is an aim; a cell in bold misses it.\n",
+pages from the system. A number after ≤ is an aim: what two runs held, with a tenth to spare, where no other reason is
+named below the table. A cell in bold misses it.\n",
         layouts::LEN,
         ROUNDS * RUNS
     );
@@ -65,20 +64,8 @@ pages from the system. A number after ≤ is an aim; a cell in bold misses it.\n
     println!("|---|---|---|--:|{}--:|", "--:|".repeat(OTHERS.len()));
 }
 
-/// What ours may take of another's time: on ASCII, mixed, CJK and emoji.
-type Aims = [Option<f64>; 4];
-
-const NO_AIM: Aims = [None; 4];
-
-/// On ASCII, mixed and CJK; on emoji there is no aim.
-const fn at_most(ratio: f64) -> Aims {
-    [Some(ratio), Some(ratio), Some(ratio), None]
-}
-
-/// On every text.
-const fn everywhere(ratio: f64) -> Aims {
-    [Some(ratio); 4]
-}
+/// What a ratio may be on ASCII, mixed, CJK and emoji text.
+type Aims = [f64; 4];
 
 /// What ours may take of the linear as a text grows from the least of the sizes.
 const LINEAR: f64 = 1.3;
@@ -86,26 +73,71 @@ const LINEAR: f64 = 1.3;
 /// The columns of the table: who else is measured. A row says in its name what exactly.
 const OTHERS: [&str; 5] =
     ["The Rust", "simdutf8 and the Rust or memmem", "memmem alone", "Copying", "Ours, an eighth of the pieces"];
-const RUST: usize = 0;
-const SIMDUTF8: usize = 1;
-const MEMMEM: usize = 2;
-const COPYING: usize = 3;
-const FEWER: usize = 4;
+const RUST: Other = Other::in_column(0);
+const SIMDUTF8: Other = Other::in_column(1);
+const MEMMEM: Other = Other::in_column(2);
+const COPYING: Other = Other::in_column(3);
+const FEWER: Other = Other::in_column(4);
 
-/// Another call than ours: its column and the aims beside it.
-type Other = (usize, Aims);
+#[derive(Clone, Copy)]
+enum Layout {
+    Regular,
+    Rotation,
+}
+
+/// Another call than ours: its column, and what ours may take of its time.
+#[derive(Clone, Copy)]
+struct Other {
+    column: usize,
+    regular: Option<Aims>,
+    rotation: Option<Aims>,
+}
+
+impl Other {
+    const fn in_column(column: usize) -> Self {
+        Other { column, regular: None, rotation: None }
+    }
+
+    /// In the regular layout.
+    const fn at_most(self, aims: Aims) -> Self {
+        Other { regular: Some(aims), ..self }
+    }
+
+    const fn in_rotation(self, aims: Aims) -> Self {
+        Other { rotation: Some(aims), ..self }
+    }
+
+    fn aims(&self, layout: Layout) -> Option<Aims> {
+        match layout {
+            Layout::Regular => self.regular,
+            Layout::Rotation => self.rotation,
+        }
+    }
+}
 
 /// One side of a row: runs on the row's text of that number, and answers its time.
 type Side<'a> = Box<dyn FnMut(usize) -> Duration + 'a>;
 
 struct Table {
     name: &'static str,
-    /// What is taken off the time of ours, if anything: then its side stands behind ours.
+    /// What is taken off the time of ours, if anything: then its side is after ours.
     beyond: Option<&'static str>,
     others: &'static [Other],
-    /// Whether the aims hold in rotation too.
-    in_rotation: bool,
-    /// What the rotation may take of the regular layout.
+    /// What ours in rotation may take of ours in the regular layout.
+    of_regular: Option<Aims>,
+    /// Why there is no aim, or one of another kind than two runs held with a tenth to spare.
+    reason: Option<&'static str>,
+}
+
+/// One line of a table.
+struct Line<'a> {
+    text: &'a str,
+    /// The text's place among those that aims are given for.
+    kind: Option<usize>,
+    layout: Layout,
+    /// Ours, and each other's.
+    times: Vec<f64>,
+    /// Ours in rotation beside ours in the regular layout.
     of_regular: Option<f64>,
 }
 
@@ -113,31 +145,51 @@ struct Bench {
     texts: Vec<Texts>,
     /// A text of each size, to see how times grow.
     sizes: Vec<Marked>,
-    word: String,
+    /// Whether a row was printed, and the heading before it.
+    begun: bool,
+    reasons: Vec<String>,
     growth: Vec<String>,
     report: Report,
 }
 
 impl Bench {
+    fn new(word: &str) -> Self {
+        Bench {
+            texts: layouts::texts(),
+            sizes: layouts::sizes(),
+            begun: false,
+            reasons: vec![],
+            growth: vec![],
+            report: Report::of(word),
+        }
+    }
+
+    /// Whether a table is asked for; before the first that is, the heading is printed.
+    fn begins(&mut self, table: &Table) -> bool {
+        let asked = self.report.asks_for(table.name);
+        if asked && !self.begun {
+            heading();
+            self.begun = true;
+        }
+        asked
+    }
+
     /// Our call beside others, on every text in both layouts, and as the text grows. The sides are ours, then theirs.
     fn table(&mut self, table: &Table, sides: impl for<'a> Fn(&'a [Marked]) -> Vec<Side<'a>>) {
-        if !table.name.contains(&self.word) {
+        if !self.begins(table) {
             return;
         }
         for (kind, texts) in self.texts.iter().enumerate() {
             let regular = table.times(&mut sides(&texts.regular), 1);
             let rotation = table.times(&mut sides(&texts.irregular), texts.irregular.len());
             let of_regular = rotation[0] / regular[0];
-            let aims = |held: bool| if held { kind } else { usize::MAX };
-            table.print(&mut self.report, &[texts.name, "regular"], &regular, aims(true), None);
-            table.print(
-                &mut self.report,
-                &[texts.name, "rotation"],
-                &rotation,
-                aims(table.in_rotation),
-                Some(of_regular),
-            );
+            let (text, kind) = (texts.name, Some(kind));
+            let regular = Line { text, kind, layout: Layout::Regular, times: regular, of_regular: None };
+            let rotation = Line { text, kind, layout: Layout::Rotation, times: rotation, of_regular: Some(of_regular) };
+            table.print(&mut self.report, &regular);
+            table.print(&mut self.report, &rotation);
         }
+        self.reasons.extend(table.reason.map(|reason| format!("- {}: {reason}.", table.name)));
         let growth = growth(&mut sides(&self.sizes)[0], &self.sizes);
         self.grown(table.name, growth);
     }
@@ -152,23 +204,45 @@ impl Bench {
         self.growth.push(format!("| {name} | {} | {worst} |", times.join(" | ")));
     }
 
-    /// A row of a table on one text of its own.
-    fn row(&mut self, table: &Table, name: &str, mut sides: Vec<Side>) {
-        if table.name.contains(&self.word) {
+    /// A row of a table on one text of its own, for which no aims are given.
+    fn row(&mut self, table: &Table, text: &str, mut sides: Vec<Side>) {
+        if self.begins(table) {
             let times = table.times(&mut sides, 1);
-            table.print(&mut self.report, &[name, "regular"], &times, usize::MAX, None);
+            let line = Line { text, kind: None, layout: Layout::Regular, times, of_regular: None };
+            table.print(&mut self.report, &line);
         }
+    }
+
+    /// The reasons, the second table, and how many aims were held.
+    fn finish(self) -> ExitCode {
+        if !self.reasons.is_empty() {
+            println!("\nWhy a row has no aim beside the Rust, or one of another kind:\n\n{}", self.reasons.join("\n"));
+        }
+        if !self.growth.is_empty() {
+            let sizes = layouts::SIZES.map(|size| size.to_string()).join(" | ");
+            println!("\n| Mixed text: µs at so many bytes | {sizes} | Of linear, ≤ {LINEAR} |");
+            println!("|---|--:|--:|--:|--:|--:|\n{}\n", self.growth.join("\n"));
+        }
+        self.report.finish()
     }
 }
 
 impl Table {
     const fn new(name: &'static str, others: &'static [Other]) -> Self {
-        Table { name, beyond: None, others, in_rotation: false, of_regular: None }
+        Table { name, beyond: None, others, of_regular: None, reason: None }
     }
 
-    /// Ours without the time of what is named first.
-    const fn beyond(beyond: &'static str, name: &'static str, others: &'static [Other]) -> Self {
-        Table { name, beyond: Some(beyond), others, in_rotation: false, of_regular: None }
+    /// Ours without the time of what is named.
+    const fn beyond(self, beyond: &'static str) -> Self {
+        Table { beyond: Some(beyond), ..self }
+    }
+
+    const fn of_regular(self, aims: Aims) -> Self {
+        Table { of_regular: Some(aims), ..self }
+    }
+
+    const fn because(self, reason: &'static str) -> Self {
+        Table { reason: Some(reason), ..self }
     }
 
     /// The time of ours, without what is taken off it, and of each other.
@@ -182,34 +256,34 @@ impl Table {
         times
     }
 
-    /// A row; where an aim is given for this kind of text, it is counted as met or missed.
-    fn print(&self, report: &mut Report, names: &[&str; 2], times: &[f64], kind: usize, of_regular: Option<f64>) {
+    /// A line; where an aim is given for its text and layout, it is counted as held or missed.
+    fn print(&self, report: &mut Report, line: &Line) {
         let beyond = self.beyond.map_or(String::new(), |beyond| format!(", beyond {beyond}"));
+        let aim = |aims: Option<Aims>| line.kind.and_then(|kind| aims.map(|aims| aims[kind]));
+        let ours = line.times[0];
         let mut cells = vec![String::new(); OTHERS.len()];
-        for ((column, aims), time) in self.others.iter().zip(&times[1..]) {
-            let aim = aims.get(kind).copied().flatten();
-            cells[*column] = cell(report, times[0] / time, &format!(" ({time:.2})"), aim);
+        for (other, time) in self.others.iter().zip(&line.times[1..]) {
+            cells[other.column] = cell(report, ours / time, &format!(" ({time:.2})"), aim(other.aims(line.layout)));
         }
-        let regular = of_regular.map_or(String::new(), |ratio| cell(report, ratio, "", self.of_regular));
-        println!(
-            "| {}{beyond} | {} | {} | {:.2} | {} | {regular} |",
-            self.name,
-            names[0],
-            names[1],
-            times[0],
-            cells.join(" | ")
-        );
+        let regular = line.of_regular.map_or(String::new(), |ratio| cell(report, ratio, "", aim(self.of_regular)));
+        let layout = match line.layout {
+            Layout::Regular => "regular",
+            Layout::Rotation => "rotation",
+        };
+        let (name, text, cells) = (self.name, line.text, cells.join(" | "));
+        println!("| {name}{beyond} | {text} | {layout} | {ours:.2} | {cells} | {regular} |");
     }
 }
 
 /// A ratio, what is said beside it, and its aim.
 fn cell(report: &mut Report, ratio: f64, beside: &str, aim: Option<f64>) -> String {
-    let Some(aim) = aim else { return format!("{ratio:.3}{beside}") };
+    let digits = if ratio < 0.1 { 4 } else { 3 };
+    let Some(aim) = aim else { return format!("{ratio:.digits$}{beside}") };
     report.test(ratio <= aim);
     if ratio <= aim {
-        format!("{ratio:.3}{beside} ≤ {aim}")
+        format!("{ratio:.digits$}{beside} ≤ {aim}")
     } else {
-        format!("**{ratio:.3}{beside} > {aim} MISSED**")
+        format!("**{ratio:.digits$}{beside} > {aim} MISSED**")
     }
 }
 

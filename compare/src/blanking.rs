@@ -2,7 +2,7 @@
 //! `replace`, both ways, on pairs of notes, and the call that answers for both.
 
 use crate::library::{self, Comparison, Count, Publishing};
-use crate::note::Note;
+use crate::note::{Note, Offset};
 use crate::notes::{self, FAULTS};
 use crate::places::{self, Place};
 use crate::random::Random;
@@ -25,14 +25,14 @@ pub fn compare(report: &mut Report) {
 }
 
 /// The result's cleaned text and alignments.
-type Published = (Vec<u8>, Vec<u16>, Vec<u16>);
+type Published = (Vec<u8>, Vec<Offset>, Vec<Offset>);
 
 /// What our call publishes, where it accepts.
 fn published(note: &Note, list: &[u8], filler: &[u8]) -> Option<Published> {
     let room = note.normalized.len() + filler.len() * list.len() / 5;
     let (mut text, mut starts, mut ends) = (vec![0; room], vec![0; room], vec![0; room]);
-    let lent = Publishing { text: &mut text, starts: &mut starts, ends: &mut ends };
-    let answer = library::replace(note, list, filler, lent);
+    let passed = Publishing { text: &mut text, starts: &mut starts, ends: &mut ends };
+    let answer = library::replace(note, list, filler, passed);
     text.truncate(answer.count as usize);
     starts.truncate(answer.count as usize);
     ends.truncate(answer.count as usize);
@@ -217,7 +217,7 @@ fn altered(text: &str, note: &Note, places: &[Place], random: &mut Random) -> No
         2 if at + character.len_utf8() < text.len() => {
             align(&mut other, at..at + character.len_utf8(), at + character.len_utf8());
         }
-        3 => other.original_shift = random.below(65_536 - other.original.len()) as u32,
+        3 => other.original_shift = random.below(LIMIT + 1 - other.original.len()) as u32,
         4 => other.original.extend("漢".bytes().take(if other.original_shift < 60_000 { 3 } else { 0 })),
         5 => {
             let original = String::from_utf8(note.original.clone()).expect("a sound note");

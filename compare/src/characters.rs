@@ -74,7 +74,7 @@ fn four_bytes_at_a_block_edge(tally: &mut Tally) {
     }
 }
 
-/// The first and last characters of Table 3-7's rows, what stands just outside them, and characters that are cut short.
+/// The first and last characters of Table 3-7's rows, what is just outside them, and characters that are cut short.
 pub fn sequences() -> Vec<Vec<u8>> {
     let rows = "\u{0}\u{7F}\u{80}\u{7FF}\u{800}\u{FFF}\u{1000}\u{CFFF}\u{D000}\u{D7FF}\u{E000}\u{FFFF}\
         \u{10000}\u{3FFFF}\u{40000}\u{FFFFF}\u{100000}\u{10FFFF}";

@@ -11,7 +11,7 @@ mod slicing;
 mod splitting;
 
 use crate::library::{self, Cutting, Offsets};
-use crate::note::Note;
+use crate::note::{position, Note};
 use crate::split;
 use crate::tally::{Report, Tally};
 use std::fmt::Debug;
@@ -86,8 +86,8 @@ fn split_here(note: &Note, list: &[u8], behavior: SplitDelimiterBehavior, drop_e
     if answer.refusal > 0 {
         return Err(answer.refusal);
     }
-    let places = starts.into_iter().zip(ends).take(answer.pieces as usize);
-    Ok(places.map(|(start, end)| (start.into(), end.into())).collect())
+    let places = starts.into_iter().zip(ends).take(answer.pieces);
+    Ok(places.map(|(start, end)| (position(start), position(end))).collect())
 }
 
 /// The split offsets that this library answers, or its refusal.
@@ -115,7 +115,7 @@ fn lengths(tally: &mut Tally) {
 
 fn lengths_of_ranges(tally: &mut Tally) {
     tally.family("Range::len subtracts and adds without a check");
-    code_answers(tally, "5..3", true, panics(|| Range::Original(5..3).len()));
+    code_answers(tally, "5..3", true, panics(|| Range::Original(ops::Range { start: 5, end: 3 }).len()));
     code_answers(tally, "0..=MAX", true, panics(|| Range::Original(0..=usize::MAX).len()));
 }
 

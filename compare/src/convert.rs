@@ -2,9 +2,9 @@
 //! beside `str::get`.
 
 use crate::every;
-use crate::library::{self, lend, Offsets, RangeCall};
+use crate::library::{self, pass, Offsets, RangeCall};
 use crate::lists::{self, List};
-use crate::note::Note;
+use crate::note::{Note, Offset};
 use crate::random::Random;
 use crate::ranges::{range, ranges_to, samples_with_faults, sound_notes, Bytes, Sample, FAR};
 use crate::refusals::{ILL_FORMED, MISSING, TOO_LONG};
@@ -52,7 +52,7 @@ pub const GET_RANGE_ORIGINAL: Call = Call {
     reads: |note| &note.original,
 };
 
-/// Where the part stands in the text that it is a part of.
+/// Where the part is in the text that it is a part of.
 fn place(text: &str, part: &str) -> Bytes {
     let start = part.as_ptr() as usize - text.as_ptr() as usize;
     start..start + part.len()
@@ -104,13 +104,13 @@ pub fn expected<'a>(
 }
 
 fn convert(tally: &mut Tally, call: &Call, sample: &Sample, of_original: bool, (start, end): (u32, u32)) {
-    let ours = library::on_range(call.ours, &sample.lent, of_original, start, end);
+    let ours = library::on_range(call.ours, &sample.note, of_original, start, end);
     let (theirs, part) = expected(sample, call, of_original, (start, end));
-    let our_part = (call.reads)(&sample.lent).get(ours.start as usize..ours.end as usize);
+    let our_part = (call.reads)(&sample.note).get(ours.start as usize..ours.end as usize);
     let parts_differ = part.is_some_and(|part| our_part != Some(part.as_bytes()));
     tally.case(tally::refusal(ours.refusal), ours != theirs || parts_differ, || {
         let text = if of_original { "original" } else { "normalized" };
-        let note = &sample.lent;
+        let note = &sample.note;
         format!(
             "ours {ours:?}, theirs {theirs:?} with the part {part:?}, on {start}..{end} of the {text} text of {note}"
         )
@@ -137,7 +137,7 @@ fn convert_any_ranges(tally: &mut Tally, call: &Call, sample: &Sample, count: us
 fn every_sound_note(tally: &mut Tally, call: &Call) {
     tally.family("every sound note with texts of up to 4 bytes, every range to two past each text and far ones");
     for sample in sound_notes() {
-        assert_eq!(sample.refusal(), 0, "{}", sample.lent);
+        assert_eq!(sample.refusal(), 0, "{}", sample.note);
         convert_every_range(tally, call, &sample);
     }
 }
@@ -165,16 +165,23 @@ fn every_set_of_faults(tally: &mut Tally, call: &Call) {
 }
 
 fn sizes_around_the_limit(tally: &mut Tally, call: &Call) {
-    tally.family("texts of 65534 to 65537 bytes, shifts to the limit, ranges at their ends");
-    const LAST: u16 = u16::MAX - 1;
+    tally.family("texts about the limit, shifts to the limit, ranges at their ends");
+    const LAST: Offset = LIMIT as Offset - 1;
+    let limit = LIMIT as u32;
     for (original, normalized) in every::pair(3) {
         let (original, normalized) = (LIMIT - 1 + original, LIMIT - 1 + normalized);
         for alignment in [(0, 0), (9, LAST), (LAST, LAST)] {
             let note = samples::uniform(original, normalized, alignment);
             for shift in [0, (LIMIT + 1).saturating_sub(original), usize::MAX] {
                 let sample = Sample::from(Note { original_shift: shift as u32, ..note.clone() });
-                for range in [(0, 65_533), (9, 65_534), (65_534, 65_535), (9, 65_536), (65_536, 65_536), (0, u32::MAX)]
-                {
+                for range in [
+                    (0, limit - 2),
+                    (9, limit - 1),
+                    (limit - 1, limit),
+                    (9, limit + 1),
+                    (limit + 1, limit + 1),
+                    (0, u32::MAX),
+                ] {
                     convert(tally, call, &sample, false, range);
                     convert(tally, call, &sample, true, range);
                 }
@@ -231,10 +238,10 @@ fn long_notes(tally: &mut Tally, call: &Call) {
 }
 
 fn nothing_anywhere(tally: &mut Tally, call: &Call) {
-    tally.family("nothing lent, at any pointer");
+    tally.family("nothing passed, at any pointer");
     let nothing = Sample::from(NormalizedString::from(""));
     for address in ADDRESSES {
-        let (text, column) = (address as *const u8, address as *const u16);
+        let (text, column) = (address as *const u8, address as *const Offset);
         for of_original in [false, true] {
             for (start, end) in ranges_to(2) {
                 let ours = unsafe { (call.ours)(text, 0, text, 0, column, 0, column, 0, 0, of_original, start, end) };
@@ -303,7 +310,7 @@ fn parts_of_four_characters(tally: &mut Tally) {
 }
 
 fn parts_around_the_limit(tally: &mut Tally) {
-    tally.family("texts of 65533 to 65538 bytes, whole and with the last byte damaged, ranges at their ends");
+    tally.family("texts about the limit, whole and with the last byte damaged, ranges at their ends");
     let mut random = Random::new(14);
     for (one, other) in every::pair(5) {
         for kind in KINDS {
@@ -368,10 +375,10 @@ fn convert_list(tally: &mut Tally, sample: &Sample, of_original: bool, list: &Li
         tally,
         list,
         sample.refusal(),
-        |from, to, out| library::convert_all(&sample.lent, of_original, from, to, out),
-        |from, to| library::convert_offsets(&sample.lent, of_original, from, to),
+        |from, to, out| library::convert_all(&sample.note, of_original, from, to, out),
+        |from, to| library::convert_offsets(&sample.note, of_original, from, to),
         |from, to| expected(sample, &CONVERT_OFFSETS, of_original, (from, to)).0,
-        || format!("the {text} text of {}", sample.lent),
+        || format!("the {text} text of {}", sample.note),
     );
 }
 
@@ -389,7 +396,7 @@ fn lists_in_every_room(tally: &mut Tally) {
     tally.family("every set of faults out of nine, lists of every two lengths to 3 in every three rooms to 4");
     for sample in samples_with_faults() {
         // Overlong texts once more with each list would only take time.
-        let long = sample.lent.original.len().max(sample.lent.normalized.len()) > LIMIT;
+        let long = sample.note.original.len().max(sample.note.normalized.len()) > LIMIT;
         for list in lists::every_size([(0, 3), (5, 4), (900, 900)]).step_by(if long { 97 } else { 1 }) {
             convert_list(tally, &sample, false, &list);
             convert_list(tally, &sample, true, &list);
@@ -449,7 +456,7 @@ fn no_list_anywhere(tally: &mut Tally) {
         let (list, numbers, column) = (address as *const u32, address as *mut u8, address as *mut u32);
         for of_original in [false, true] {
             let ours = unsafe {
-                lend!(library::zulmyren_convert_all; note sample.lent, plain of_original, plain list, plain 0,
+                pass!(library::zulmyren_convert_all; note sample.note, plain of_original, plain list, plain 0,
                     plain list, plain 0, plain numbers, plain 0, plain column, plain 0, plain column, plain 0)
             };
             tally.case(tally::refusal(ours), ours != 0, || format!("ours {ours} on no list at {address:#x}"));

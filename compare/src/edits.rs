@@ -1,5 +1,5 @@
 //! Editing beside `transform_range`, `transform`, `map`, `filter`, `append`, `prepend` and `clear`. Where a replacing
-//! command finds no character left, the Rust panics or reads behind its range: there the characters are counted.
+//! command finds no character left, the Rust panics or reads past its range: there the characters are counted.
 
 mod carried;
 mod edit;

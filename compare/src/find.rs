@@ -1,7 +1,7 @@
 //! Finding a literal beside `&str`'s `find_matches`, with `core::str`'s `match_indices` as the second implementation.
 
 use crate::every;
-use crate::lent::Lent;
+use crate::guarded::Guarded;
 use crate::library::{self, Count};
 use crate::places::{self, Place};
 use crate::random::Random;
@@ -75,7 +75,7 @@ fn find(tally: &mut Tally, text: &[u8], literal: &[u8], rooms: impl FnOnce(usize
     let their_list = both.and_then(|(text, literal)| theirs(text, literal)).map(|places| places::bytes(&places));
     let agree = their_list.is_none_or(|theirs| list.as_ref() == Ok(&theirs));
     for room in rooms(list.as_ref().map_or(text.len().min(300), Vec::len)) {
-        let mut out = Lent::new(room);
+        let mut out = Guarded::new(room);
         let ours = library::find_matches(text, literal, out.part());
         let (refusal, bytes): (u32, &[u8]) = match &list {
             Err(refusal) => (*refusal, &[]),
@@ -168,9 +168,7 @@ fn any_texts(tally: &mut Tally) {
 }
 
 fn around_the_limit(tally: &mut Tally) {
-    tally.family(
-        "texts of 65533 to 65538 bytes: a match at the end, at every byte, nowhere; beside an ill-formed literal",
-    );
+    tally.family("texts about the limit: a match at the end, at every byte, nowhere; beside an ill-formed literal");
     for len in LIMIT - 2..=LIMIT + 3 {
         let mut text = vec![b'a'; len];
         for literal in [&b"a"[..], b"aa", b"b", b"", b"\xFF"] {
@@ -196,7 +194,7 @@ fn long_literals(tally: &mut Tally) {
 
 /// The list of an empty text has one place: there is always something to write.
 fn nothing_anywhere(tally: &mut Tally) {
-    tally.family("nothing lent, at any pointer");
+    tally.family("nothing passed, at any pointer");
     for address in ADDRESSES {
         let (text, out) = (address as *const u8, address as *mut u8);
         let ours = Count::from(unsafe { library::zulmyren_find_matches(text, 0, text, 0, out, 0) });

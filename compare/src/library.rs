@@ -1,13 +1,13 @@
 //! The calls of the proved library: include/zulmyren.h in Rust, and each call over slices.
 
-use crate::note::Note;
+use crate::note::{Note, Offset};
 use crate::refusals::MISSING;
 
-/// Declares calls, or the type of some, by what they are lent: `note` for a note's nine arguments, `read` and `write`
+/// Declares calls, or the type of some, by what they are passed: `note` for a note's nine arguments, `read` and `write`
 /// for a buffer's pointer and length, `plain` for a number.
 macro_rules! calls {
-    ($($what:tt $name:ident($($lent:tt)*) -> $answer:ty;)*) => {
-        $(calls!(@ $what $name -> $answer, [] $($lent)*);)*
+    ($($what:tt $name:ident($($passed:tt)*) -> $answer:ty;)*) => {
+        $(calls!(@ $what $name -> $answer, [] $($passed)*);)*
     };
     (@ fn $name:ident -> $answer:ty, [$($c:ty),*]) => {
         #[link(name = "zulmyren", kind = "static")]
@@ -18,53 +18,53 @@ macro_rules! calls {
     (@ type $name:ident -> $answer:ty, [$($c:ty),*]) => {
         pub type $name = unsafe extern "C" fn($($c),*) -> $answer;
     };
-    (@ $what:tt $name:ident -> $answer:ty, [$($c:ty),*] note $(, $($lent:tt)*)?) => {
+    (@ $what:tt $name:ident -> $answer:ty, [$($c:ty),*] note $(, $($passed:tt)*)?) => {
         calls!(@ $what $name -> $answer, [$($c,)*
-            *const u8, usize, *const u8, usize, *const u16, usize, *const u16, usize, u32
-        ] $($($lent)*)?);
+            *const u8, usize, *const u8, usize, *const Offset, usize, *const Offset, usize, u32
+        ] $($($passed)*)?);
     };
-    (@ $what:tt $name:ident -> $answer:ty, [$($c:ty),*] read $t:ty $(, $($lent:tt)*)?) => {
-        calls!(@ $what $name -> $answer, [$($c,)* *const $t, usize] $($($lent)*)?);
+    (@ $what:tt $name:ident -> $answer:ty, [$($c:ty),*] read $t:ty $(, $($passed:tt)*)?) => {
+        calls!(@ $what $name -> $answer, [$($c,)* *const $t, usize] $($($passed)*)?);
     };
-    (@ $what:tt $name:ident -> $answer:ty, [$($c:ty),*] write $t:ty $(, $($lent:tt)*)?) => {
-        calls!(@ $what $name -> $answer, [$($c,)* *mut $t, usize] $($($lent)*)?);
+    (@ $what:tt $name:ident -> $answer:ty, [$($c:ty),*] write $t:ty $(, $($passed:tt)*)?) => {
+        calls!(@ $what $name -> $answer, [$($c,)* *mut $t, usize] $($($passed)*)?);
     };
-    (@ $what:tt $name:ident -> $answer:ty, [$($c:ty),*] plain $t:ty $(, $($lent:tt)*)?) => {
-        calls!(@ $what $name -> $answer, [$($c,)* $t] $($($lent)*)?);
+    (@ $what:tt $name:ident -> $answer:ty, [$($c:ty),*] plain $t:ty $(, $($passed:tt)*)?) => {
+        calls!(@ $what $name -> $answer, [$($c,)* $t] $($($passed)*)?);
     };
 }
 
-/// A call, lent what the same words say.
-macro_rules! lend {
+/// A call, passed what the same words say.
+macro_rules! pass {
     (@ $call:expr, [$($c:expr),*]) => {
         $call($($c),*)
     };
-    (@ $call:expr, [$($c:expr),*] note $note:expr $(, $($lent:tt)*)?) => {
-        lend!(@ $call, [$($c),*]
+    (@ $call:expr, [$($c:expr),*] note $note:expr $(, $($passed:tt)*)?) => {
+        pass!(@ $call, [$($c),*]
             read $note.original, read $note.normalized, read $note.starts, read $note.ends, plain $note.original_shift
-            $(, $($lent)*)?)
+            $(, $($passed)*)?)
     };
-    (@ $call:expr, [$($c:expr),*] read $buffer:expr $(, $($lent:tt)*)?) => {
-        lend!(@ $call, [$($c,)* $buffer.as_ptr(), $buffer.len()] $($($lent)*)?)
+    (@ $call:expr, [$($c:expr),*] read $buffer:expr $(, $($passed:tt)*)?) => {
+        pass!(@ $call, [$($c,)* $buffer.as_ptr(), $buffer.len()] $($($passed)*)?)
     };
-    (@ $call:expr, [$($c:expr),*] write $buffer:expr $(, $($lent:tt)*)?) => {
-        lend!(@ $call, [$($c,)* $buffer.as_mut_ptr(), $buffer.len()] $($($lent)*)?)
+    (@ $call:expr, [$($c:expr),*] write $buffer:expr $(, $($passed:tt)*)?) => {
+        pass!(@ $call, [$($c,)* $buffer.as_mut_ptr(), $buffer.len()] $($($passed)*)?)
     };
-    (@ $call:expr, [$($c:expr),*] plain $number:expr $(, $($lent:tt)*)?) => {
-        lend!(@ $call, [$($c,)* $number] $($($lent)*)?)
+    (@ $call:expr, [$($c:expr),*] plain $number:expr $(, $($passed:tt)*)?) => {
+        pass!(@ $call, [$($c,)* $number] $($($passed)*)?)
     };
-    ($call:expr; $($lent:tt)*) => {
-        lend!(@ $call, [] $($lent)*)
+    ($call:expr; $($passed:tt)*) => {
+        pass!(@ $call, [] $($passed)*)
     };
 }
 
-pub(crate) use lend;
+pub(crate) use pass;
 
 calls! {
     fn zulmyren_well_formed(read u8) -> bool;
     fn zulmyren_letter_count(read u8, plain u32, plain u32) -> Count;
     fn zulmyren_check_note(note) -> u32;
-    fn zulmyren_from_text(read u8, write u16, write u16) -> u32;
+    fn zulmyren_from_text(read u8, write Offset, write Offset) -> u32;
     type RangeCall(note, plain bool, plain u32, plain u32) -> Offsets;
     fn zulmyren_convert_offsets(note, plain bool, plain u32, plain u32) -> Offsets;
     fn zulmyren_get_range(note, plain bool, plain u32, plain u32) -> Offsets;
@@ -74,23 +74,24 @@ calls! {
     fn zulmyren_char_offsets(read u8, plain u32, plain u32) -> Offsets;
     fn zulmyren_char_offsets_all(read u8, read u32, read u32, write u8, write u32, write u32) -> u32;
     fn zulmyren_find_matches(read u8, read u8, write u8) -> Listed;
-    fn zulmyren_replace(note, read u8, read u8, write u8, write u16, write u16) -> Count;
-    fn zulmyren_redact(read u8, read u8, read u8, write u8, write u16, write u16) -> Count;
+    fn zulmyren_replace(note, read u8, read u8, write u8, write Offset, write Offset) -> Count;
+    fn zulmyren_redact(read u8, read u8, read u8, write u8, write Offset, write Offset) -> Count;
     fn zulmyren_published_alike(note, note, read u8, read u8) -> Comparison;
-    fn zulmyren_slice(note, plain bool, plain u32, plain u32, write u16, write u16) -> Sliced;
+    fn zulmyren_slice(note, plain bool, plain u32, plain u32, write Offset, write Offset) -> Sliced;
     fn zulmyren_split(
-        note, read u8, plain u32, plain bool, write u16, write u16, write u32, write u16, write u16, write u16
+        note, read u8, plain u32, plain bool,
+        write Offset, write Offset, write u32, write Offset, write Offset, write Offset
     ) -> Cut;
     fn zulmyren_get_splits(note, read u8, plain u32, plain bool, plain bool, write u32, write u32) -> Listed;
     fn zulmyren_transform_range(
-        note, plain bool, plain u32, plain u32, read u8, plain u32, write u8, write u16, write u16
+        note, plain bool, plain u32, plain u32, read u8, plain u32, write u8, write Offset, write Offset
     ) -> Count;
-    fn zulmyren_transform(note, read u8, plain u32, write u8, write u16, write u16) -> Count;
-    fn zulmyren_map(note, read u32, write u8, write u16, write u16) -> Count;
-    fn zulmyren_filter(note, read u8, write u8, write u16, write u16) -> Count;
-    fn zulmyren_append(note, read u8, write u8, write u16, write u16) -> Count;
-    fn zulmyren_prepend(note, read u8, write u8, write u16, write u16) -> Count;
-    fn zulmyren_clear(note, write u8, write u16, write u16) -> Lengths;
+    fn zulmyren_transform(note, read u8, plain u32, write u8, write Offset, write Offset) -> Count;
+    fn zulmyren_map(note, read u32, write u8, write Offset, write Offset) -> Count;
+    fn zulmyren_filter(note, read u8, write u8, write Offset, write Offset) -> Count;
+    fn zulmyren_append(note, read u8, write u8, write Offset, write Offset) -> Count;
+    fn zulmyren_prepend(note, read u8, write u8, write Offset, write Offset) -> Count;
+    fn zulmyren_clear(note, write u8, write Offset, write Offset) -> Lengths;
 }
 
 #[repr(C)]
@@ -194,44 +195,44 @@ impl From<Listed> for Count {
     }
 }
 
-/// The buffers lent for the answers to a list: one of each per pair.
+/// The buffers for the answers to a list: one of each per pair.
 pub struct Columns<'a> {
     pub numbers: &'a mut [u8],
     pub starts: &'a mut [u32],
     pub ends: &'a mut [u32],
 }
 
-/// The buffers lent for a published note.
+/// The buffers for a published note.
 pub struct Publishing<'a> {
     pub text: &'a mut [u8],
-    pub starts: &'a mut [u16],
-    pub ends: &'a mut [u16],
+    pub starts: &'a mut [Offset],
+    pub ends: &'a mut [Offset],
 }
 
-/// The buffers lent for pieces: a number of each for every piece, and two for every alignment.
+/// The buffers for pieces: a number of each for every piece, and two for every alignment.
 pub struct Cutting<'a> {
-    pub starts: &'a mut [u16],
-    pub ends: &'a mut [u16],
+    pub starts: &'a mut [Offset],
+    pub ends: &'a mut [Offset],
     pub shifts: &'a mut [u32],
-    pub lengths: &'a mut [u16],
-    pub alignment_starts: &'a mut [u16],
-    pub alignment_ends: &'a mut [u16],
+    pub lengths: &'a mut [Offset],
+    pub alignment_starts: &'a mut [Offset],
+    pub alignment_ends: &'a mut [Offset],
 }
 
 pub fn well_formed(text: &[u8]) -> bool {
-    unsafe { lend!(zulmyren_well_formed; read text) }
+    unsafe { pass!(zulmyren_well_formed; read text) }
 }
 
 pub fn letter_count(text: &[u8], start: u32, end: u32) -> Count {
-    unsafe { lend!(zulmyren_letter_count; read text, plain start, plain end) }
+    unsafe { pass!(zulmyren_letter_count; read text, plain start, plain end) }
 }
 
 pub fn check_note(note: &Note) -> u32 {
-    unsafe { lend!(zulmyren_check_note; note note) }
+    unsafe { pass!(zulmyren_check_note; note note) }
 }
 
-pub fn from_text(text: &[u8], starts: &mut [u16], ends: &mut [u16]) -> u32 {
-    unsafe { lend!(zulmyren_from_text; read text, write starts, write ends) }
+pub fn from_text(text: &[u8], starts: &mut [Offset], ends: &mut [Offset]) -> u32 {
+    unsafe { pass!(zulmyren_from_text; read text, write starts, write ends) }
 }
 
 pub fn convert_offsets(note: &Note, of_original: bool, start: u32, end: u32) -> Offsets {
@@ -239,33 +240,33 @@ pub fn convert_offsets(note: &Note, of_original: bool, start: u32, end: u32) -> 
 }
 
 pub fn on_range(call: RangeCall, note: &Note, of_original: bool, start: u32, end: u32) -> Offsets {
-    unsafe { lend!(call; note note, plain of_original, plain start, plain end) }
+    unsafe { pass!(call; note note, plain of_original, plain start, plain end) }
 }
 
 pub fn part_verdict(original: &[u8], normalized: &[u8], of_original: bool, start: u32, end: u32) -> u32 {
-    unsafe { lend!(zulmyren_part_verdict; read original, read normalized, plain of_original, plain start, plain end) }
+    unsafe { pass!(zulmyren_part_verdict; read original, read normalized, plain of_original, plain start, plain end) }
 }
 
 pub fn convert_all(note: &Note, of_original: bool, from: &[u32], to: &[u32], out: Columns) -> u32 {
     unsafe {
-        lend!(zulmyren_convert_all; note note, plain of_original, read from, read to,
+        pass!(zulmyren_convert_all; note note, plain of_original, read from, read to,
             write out.numbers, write out.starts, write out.ends)
     }
 }
 
 pub fn char_offsets(text: &[u8], start: u32, end: u32) -> Offsets {
-    unsafe { lend!(zulmyren_char_offsets; read text, plain start, plain end) }
+    unsafe { pass!(zulmyren_char_offsets; read text, plain start, plain end) }
 }
 
 pub fn char_offsets_all(text: &[u8], starts: &[u32], ends: &[u32], out: Columns) -> u32 {
     unsafe {
-        lend!(zulmyren_char_offsets_all; read text, read starts, read ends,
+        pass!(zulmyren_char_offsets_all; read text, read starts, read ends,
             write out.numbers, write out.starts, write out.ends)
     }
 }
 
 pub fn find_matches(text: &[u8], literal: &[u8], out: &mut [u8]) -> Count {
-    Count::from(unsafe { lend!(zulmyren_find_matches; read text, read literal, write out) })
+    Count::from(unsafe { pass!(zulmyren_find_matches; read text, read literal, write out) })
 }
 
 pub fn transform_range(
@@ -276,61 +277,67 @@ pub fn transform_range(
     out: Publishing,
 ) -> Count {
     unsafe {
-        lend!(zulmyren_transform_range; note note, plain of_original, plain start, plain end, read script,
+        pass!(zulmyren_transform_range; note note, plain of_original, plain start, plain end, read script,
             plain initial_offset, write out.text, write out.starts, write out.ends)
     }
 }
 
 pub fn transform(note: &Note, script: &[u8], initial_offset: u32, out: Publishing) -> Count {
     unsafe {
-        lend!(zulmyren_transform; note note, read script, plain initial_offset, write out.text, write out.starts,
+        pass!(zulmyren_transform; note note, read script, plain initial_offset, write out.text, write out.starts,
             write out.ends)
     }
 }
 
 pub fn map(note: &Note, codes: &[u32], out: Publishing) -> Count {
-    unsafe { lend!(zulmyren_map; note note, read codes, write out.text, write out.starts, write out.ends) }
+    unsafe { pass!(zulmyren_map; note note, read codes, write out.text, write out.starts, write out.ends) }
 }
 
 pub fn filter(note: &Note, flags: &[u8], out: Publishing) -> Count {
-    unsafe { lend!(zulmyren_filter; note note, read flags, write out.text, write out.starts, write out.ends) }
+    unsafe { pass!(zulmyren_filter; note note, read flags, write out.text, write out.starts, write out.ends) }
 }
 
 pub fn append(note: &Note, string: &[u8], out: Publishing) -> Count {
-    unsafe { lend!(zulmyren_append; note note, read string, write out.text, write out.starts, write out.ends) }
+    unsafe { pass!(zulmyren_append; note note, read string, write out.text, write out.starts, write out.ends) }
 }
 
 pub fn prepend(note: &Note, string: &[u8], out: Publishing) -> Count {
-    unsafe { lend!(zulmyren_prepend; note note, read string, write out.text, write out.starts, write out.ends) }
+    unsafe { pass!(zulmyren_prepend; note note, read string, write out.text, write out.starts, write out.ends) }
 }
 
 pub fn clear(note: &Note, out: Publishing) -> Lengths {
-    unsafe { lend!(zulmyren_clear; note note, write out.text, write out.starts, write out.ends) }
+    unsafe { pass!(zulmyren_clear; note note, write out.text, write out.starts, write out.ends) }
 }
 
 pub fn replace(note: &Note, list: &[u8], filler: &[u8], out: Publishing) -> Count {
     unsafe {
-        lend!(zulmyren_replace; note note, read list, read filler, write out.text, write out.starts, write out.ends)
+        pass!(zulmyren_replace; note note, read list, read filler, write out.text, write out.starts, write out.ends)
     }
 }
 
 pub fn redact(text: &[u8], literal: &[u8], filler: &[u8], out: Publishing) -> Count {
     unsafe {
-        lend!(zulmyren_redact; read text, read literal, read filler, write out.text, write out.starts, write out.ends)
+        pass!(zulmyren_redact; read text, read literal, read filler, write out.text, write out.starts, write out.ends)
     }
 }
 
 pub fn published_alike(one: &Note, other: &Note, list: &[u8], filler: &[u8]) -> Comparison {
-    unsafe { lend!(zulmyren_published_alike; note one, note other, read list, read filler) }
+    unsafe { pass!(zulmyren_published_alike; note one, note other, read list, read filler) }
 }
 
-pub fn slice(note: &Note, of_original: bool, (start, end): (u32, u32), starts: &mut [u16], ends: &mut [u16]) -> Sliced {
-    unsafe { lend!(zulmyren_slice; note note, plain of_original, plain start, plain end, write starts, write ends) }
+pub fn slice(
+    note: &Note,
+    of_original: bool,
+    (start, end): (u32, u32),
+    starts: &mut [Offset],
+    ends: &mut [Offset],
+) -> Sliced {
+    unsafe { pass!(zulmyren_slice; note note, plain of_original, plain start, plain end, write starts, write ends) }
 }
 
 pub fn split(note: &Note, list: &[u8], behavior: u32, drop_empty: bool, out: Cutting) -> Cut {
     unsafe {
-        lend!(zulmyren_split; note note, read list, plain behavior, plain drop_empty, write out.starts, write out.ends,
+        pass!(zulmyren_split; note note, read list, plain behavior, plain drop_empty, write out.starts, write out.ends,
             write out.shifts, write out.lengths, write out.alignment_starts, write out.alignment_ends)
     }
 }
@@ -344,7 +351,7 @@ pub fn get_splits(
     ends: &mut [u32],
 ) -> Count {
     let answer = unsafe {
-        lend!(zulmyren_get_splits; note note, read list, plain behavior, plain of_original, plain characters,
+        pass!(zulmyren_get_splits; note note, read list, plain behavior, plain of_original, plain characters,
             write starts, write ends)
     };
     Count::from(answer)

@@ -3,14 +3,14 @@
 //! - field: its length (4 bytes, little-endian), its bytes
 //! - the file `calls`: fields, the names of the calls in the order of their numbers
 //! - file: fields, each a case, packed
-//! - packed case: fields, each a part: times (4 bytes), a unit, which stands there that many times
-//! - case: fields; what the call is lent, in the order of its arguments, a buffer to be written with what it holds at
+//! - packed case: fields, each a part: times (4 bytes), a unit, which is there that many times
+//! - case: fields; what the call is passed, in the order of its arguments, a buffer to be written with what it holds at
 //!   entry; then the answer's numbers, and each of those buffers, whole, with what it holds then
 //! - number: 4 bytes
 //! - text: as it is
-//! - column, numbers: the differences of its elements, each a number, the first from 0; modulo 65,536, or 2 to the 32
+//! - column, numbers: the differences of its elements, each a number, the first from 0; modulo 2 to its bits
 
-use crate::note::Note;
+use crate::note::{position, Note, Offset};
 use std::collections::HashSet;
 use std::fmt;
 
@@ -22,15 +22,65 @@ const FEWEST: usize = 32;
 const FILE: usize = 65_535;
 const CASE: usize = 3_145_728;
 
+/// The calls by their names, which are those of their files too.
+macro_rules! replayed {
+    ($($call:ident $name:literal,)*) => {
+        #[derive(Clone, Copy, PartialEq, Eq)]
+        pub enum Replayed {
+            $($call,)*
+        }
+
+        impl Replayed {
+            pub const ALL: &[Replayed] = &[$(Replayed::$call,)*];
+
+            pub fn name(self) -> &'static str {
+                match self {
+                    $(Replayed::$call => $name,)*
+                }
+            }
+        }
+    };
+}
+
+// In the order of their numbers, which are nowhere else: crates/replay has them by the file `calls`.
+replayed! {
+    WellFormed "well_formed",
+    LetterCount "letter_count",
+    CharOffsets "char_offsets",
+    CharOffsetsAll "char_offsets_all",
+    FromText "from_text",
+    CheckNote "check_note",
+    ConvertOffsets "convert_offsets",
+    GetRange "get_range",
+    GetRangeOriginal "get_range_original",
+    ConvertAll "convert_all",
+    Replace "replace",
+    PublishedAlike "published_alike",
+    Part "part",
+    FindMatches "find_matches",
+    Redact "redact",
+    Slice "slice",
+    Split "split",
+    GetSplits "get_splits",
+    Pieces "pieces",
+    TransformRange "transform_range",
+    Transform "transform",
+    Map "map",
+    Filter "filter",
+    Append "append",
+    Prepend "prepend",
+    Clear "clear",
+}
+
 /// The answers of one call.
 pub struct Answers {
-    pub name: &'static str,
+    pub call: Replayed,
     cases: Vec<Vec<u8>>,
 }
 
 impl Answers {
-    pub fn new(name: &'static str) -> Self {
-        Answers { name, cases: vec![] }
+    pub fn new(call: Replayed) -> Self {
+        Answers { call, cases: vec![] }
     }
 
     /// Begins a case, whose fields follow.
@@ -52,9 +102,9 @@ impl Answers {
         self.text(&differences(numbers).flat_map(u32::to_le_bytes).collect::<Vec<u8>>())
     }
 
-    pub fn column(&mut self, column: &[u16]) -> &mut Self {
-        let wide: Vec<u32> = column.iter().copied().map(u32::from).collect();
-        let narrow = differences(&wide).map(|difference| difference % 65_536);
+    pub fn column(&mut self, column: &[Offset]) -> &mut Self {
+        let wide: Vec<u32> = column.iter().map(|&offset| position(offset) as u32).collect();
+        let narrow = differences(&wide).map(|difference| position(difference as Offset) as u32);
         self.text(&narrow.flat_map(u32::to_le_bytes).collect::<Vec<u8>>())
     }
 
@@ -66,7 +116,7 @@ impl Answers {
 
     /// Buffers of this length at entry, and with a result in the place of their first elements. What they hold at
     /// entry differs from place to place, so that a copy of it elsewhere is seen too.
-    pub fn lent_text(&mut self, room: usize) -> &mut Self {
+    pub fn passed_text(&mut self, room: usize) -> &mut Self {
         self.left_text(room, &[])
     }
 
@@ -74,15 +124,15 @@ impl Answers {
         self.text(&left(room, result, |i| (i % 13 * 17 + 40) as u8))
     }
 
-    pub fn lent_column(&mut self, room: usize) -> &mut Self {
+    pub fn passed_column(&mut self, room: usize) -> &mut Self {
         self.left_column(room, &[])
     }
 
-    pub fn left_column(&mut self, room: usize, result: &[u16]) -> &mut Self {
-        self.column(&left(room, result, |i| (i * 40_503 + 26_267) as u16))
+    pub fn left_column(&mut self, room: usize, result: &[Offset]) -> &mut Self {
+        self.column(&left(room, result, |i| (i * 40_503 + 26_267) as Offset))
     }
 
-    pub fn lent_numbers(&mut self, room: usize) -> &mut Self {
+    pub fn passed_numbers(&mut self, room: usize) -> &mut Self {
         self.left_numbers(room, &[])
     }
 
@@ -95,7 +145,7 @@ impl Answers {
         let mut known = HashSet::new();
         let distinct = self.cases.iter().filter(|case| known.insert(*case));
         let file: Vec<u8> = distinct.flat_map(|case| field(&packed(case))).collect();
-        assert!(file.len() <= FILE, "{} has {} bytes", self.name, file.len());
+        assert!(file.len() <= FILE, "{} has {} bytes", self.call.name(), file.len());
         file
     }
 }
@@ -103,7 +153,7 @@ impl Answers {
 impl fmt::Display for Answers {
     fn fmt(&self, f: &mut fmt::Formatter<'_>) -> fmt::Result {
         let known: HashSet<&Vec<u8>> = self.cases.iter().collect();
-        write!(f, "{}: {} answers, {} bytes", self.name, known.len(), self.file().len())
+        write!(f, "{}: {} answers, {} bytes", self.call.name(), known.len(), self.file().len())
     }
 }
 
@@ -151,7 +201,7 @@ fn once(bytes: &[u8]) -> Vec<u8> {
     part(bytes, 1)
 }
 
-/// The unit that saves the most at the beginning, if that is enough, and how many times it stands there.
+/// The unit that saves the most at the beginning, if that is enough, and how many times it is there.
 fn repeating(bytes: &[u8]) -> Option<(&[u8], usize)> {
     let candidates = (1..=UNIT.min(bytes.len())).map(|len| {
         let more = (len..bytes.len()).take_while(|&i| bytes[i] == bytes[i - len]).count();

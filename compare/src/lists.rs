@@ -1,12 +1,13 @@
 //! Lists of pairs that are answered in three columns: what `convert_all` and `char_offsets_all` share.
 
 use crate::every;
-use crate::lent::Lent;
+use crate::guarded::Guarded;
 use crate::library::{Columns, Offsets};
 use crate::random::Random;
+use crate::refusals::{LENGTH_MISMATCH, NO_ROOM, TOO_LONG};
 use crate::tally::{self, Tally};
 
-/// Both ends of each pair, and the sizes of the buffers lent for numbers, starts and ends.
+/// Both ends of each pair, and the sizes of the buffers for numbers, starts and ends.
 pub struct List {
     pub from: Vec<u32>,
     pub to: Vec<u32>,
@@ -37,14 +38,14 @@ impl List {
         list
     }
 
-    /// The refusal of a call that is lent this list, and beside it something that gives `lent` by itself.
-    pub fn refusal(&self, lent: u32) -> u32 {
+    /// The refusal of a call that is passed this list, and beside it something that gives `beside` by itself.
+    pub fn refusal(&self, beside: u32) -> u32 {
         let shortest = self.rooms.into_iter().min().expect("three rooms");
-        match lent {
-            2 | 3 => lent,
-            _ if self.from.len() != self.to.len() => 3,
-            0 if shortest < self.from.len() => 9,
-            _ => lent,
+        match beside {
+            TOO_LONG | LENGTH_MISMATCH => beside,
+            _ if self.from.len() != self.to.len() => LENGTH_MISMATCH,
+            0 if shortest < self.from.len() => NO_ROOM,
+            _ => beside,
         }
     }
 
@@ -72,22 +73,22 @@ pub fn every_size(pairs: [(u32, u32); 3]) -> impl Iterator<Item = List> {
     })
 }
 
-/// One call on a list: `ours` in guarded buffers, with the refusal that `lent` and the list give, each pair as
+/// One call on a list: `ours` in guarded buffers, with the refusal that `beside` and the list give, each pair as
 /// `single`, our call on that pair alone, and `theirs` answer it.
 pub fn case(
     tally: &mut Tally,
     list: &List,
-    lent: u32,
+    beside: u32,
     ours: impl FnOnce(&[u32], &[u32], Columns) -> u32,
     single: impl Fn(u32, u32) -> Offsets,
     theirs: impl Fn(u32, u32) -> Offsets,
     describe: impl FnOnce() -> String,
 ) {
-    let [mut starts, mut ends] = [list.rooms[1], list.rooms[2]].map(Lent::new);
-    let mut numbers = Lent::new(list.rooms[0]);
+    let [mut starts, mut ends] = [list.rooms[1], list.rooms[2]].map(Guarded::new);
+    let mut numbers = Guarded::new(list.rooms[0]);
     let out = Columns { numbers: numbers.part(), starts: starts.part(), ends: ends.part() };
     let refusal = ours(&list.from, &list.to, out);
-    let expected = list.refusal(lent);
+    let expected = list.refusal(beside);
     let answers: Vec<Offsets> = match expected {
         0 => list.pairs().map(|(from, to)| theirs(from, to)).collect(),
         _ => vec![],

@@ -1,7 +1,7 @@
 //! What this library makes of a note, as a note of its own, in the room that is always enough; or its refusal.
 
 use crate::library::{self, Cutting, Publishing};
-use crate::note::Note;
+use crate::note::{position, Note, Offset};
 use crate::places::{self, Place};
 use crate::texts::LIMIT;
 use std::ops;
@@ -64,12 +64,13 @@ pub fn pieces(note: &Note, list: &[u8], behavior: u32) -> Result<Vec<Note>, u32>
     }
     let mut at = 0;
     let piece = |i: usize| {
-        let normalized = part(&note.normalized, (starts[i].into(), ends[i].into()));
+        let wide = |column: &[Offset]| position(column[i]) as u32;
+        let normalized = part(&note.normalized, (wide(&starts), wide(&ends)));
         let from = shifts[i] - note.original_shift;
         let columns = at..at + normalized.len();
         at = columns.end;
         Note {
-            original: part(&note.original, (from, from + u32::from(lengths[i]))),
+            original: part(&note.original, (from, from + wide(&lengths))),
             normalized,
             starts: alignment_starts[columns.clone()].to_vec(),
             ends: alignment_ends[columns].to_vec(),

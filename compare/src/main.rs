@@ -1,6 +1,6 @@
 //! Compares the proved library and the programs `redact` and `pieces` with the Rust original, call by call, measures
 //! the library (`bench`), and writes the list of the original's answers that crates/replay replays (`list`).
-//! Each module of calls has a file whose function `compare` has the families; the bench's tables stand below `bench`.
+//! Each module of calls has a file whose function `compare` has the families; the bench's tables are below `bench`.
 
 mod answers;
 mod bench;
@@ -11,7 +11,7 @@ mod convert;
 mod edits;
 mod every;
 mod find;
-mod lent;
+mod guarded;
 mod library;
 mod list;
 mod lists;
@@ -37,23 +37,22 @@ mod texts;
 use std::process::ExitCode;
 
 fn main() -> ExitCode {
-    match std::env::args().nth(1).as_deref() {
-        None => compare(String::new()),
-        Some("only") => compare(word()),
-        Some("bench") => bench::measure(word()),
-        Some("list") => answers::write(),
-        Some(_) => {
-            eprintln!("usage: compare/run [only WORD | bench [WORD] | list]");
+    let arguments: Vec<String> = std::env::args().skip(1).collect();
+    let arguments: Vec<&str> = arguments.iter().map(String::as_str).collect();
+    match arguments[..] {
+        [] => compare(""),
+        ["only", word] => compare(word),
+        ["bench"] => bench::measure(""),
+        ["bench", word] => bench::measure(word),
+        ["list"] => answers::write(),
+        _ => {
+            eprintln!("The arguments are those of compare/run.");
             ExitCode::from(2)
         }
     }
 }
 
-fn word() -> String {
-    std::env::args().nth(2).unwrap_or_default()
-}
-
-fn compare(word: String) -> ExitCode {
+fn compare(word: &str) -> ExitCode {
     let mut report = tally::Report::of(word);
     characters::compare(&mut report);
     notes::compare(&mut report);

@@ -1,9 +1,9 @@
 //! The calls on notes: the starting note beside `NormalizedString::from`, and soundness beside a second check.
 
 use crate::every;
-use crate::lent::Lent;
+use crate::guarded::Guarded;
 use crate::library;
-use crate::note::Note;
+use crate::note::{Note, Offset};
 use crate::random::Random;
 use crate::refusals::{ILL_FORMED, NO_ROOM, TOO_LONG};
 use crate::samples::{self, ADDRESSES, DAMAGES, DAMAGES_AT};
@@ -47,9 +47,9 @@ pub fn expected_from_text(text: &[u8]) -> Result<Note, u32> {
 fn from_text(tally: &mut Tally, text: &[u8], rooms: impl IntoIterator<Item = (usize, usize)>) {
     let note = expected_from_text(text);
     for room in rooms {
-        let (mut starts, mut ends) = (Lent::new(room.0), Lent::new(room.1));
+        let (mut starts, mut ends) = (Guarded::new(room.0), Guarded::new(room.1));
         let ours = library::from_text(text, starts.part(), ends.part());
-        let (theirs, their_starts, their_ends): (u32, &[u16], &[u16]) = match &note {
+        let (theirs, their_starts, their_ends): (u32, &[Offset], &[Offset]) = match &note {
             Err(refusal) => (*refusal, &[], &[]),
             Ok(_) if room.0.min(room.1) < text.len() => (NO_ROOM, &[], &[]),
             Ok(note) => (0, &note.starts, &note.ends),
@@ -115,7 +115,7 @@ fn character_at_every_offset(tally: &mut Tally) {
 }
 
 fn texts_around_the_limit(tally: &mut Tally) {
-    tally.family("texts of 65533 to 65538 bytes and of 131072, whole and with the last byte damaged");
+    tally.family("texts about the limit and of 131072 bytes, whole and with the last byte damaged");
     let mut random = Random::new(4);
     for len in (LIMIT - 2..=LIMIT + 3).chain([131_072]) {
         for kind in KINDS {
@@ -163,12 +163,12 @@ fn check_damage_at(tally: &mut Tally, note: &Note, offset: usize) {
 }
 
 fn every_column(tally: &mut Tally) {
-    tally.family("texts of up to 3 bytes with every two columns of 0 to 4 and 65535");
+    tally.family("texts of up to 3 bytes with every two columns of 0 to 4 and the largest number");
     let texts = ["", "a", "ab", "abc", "é", "éa", "aé", "漢"];
     for original in texts {
         for normalized in texts {
             let len = normalized.len();
-            for columns in every::list(&[0, 1, 2, 3, 4, u16::MAX], 2 * len) {
+            for columns in every::list(&[0, 1, 2, 3, 4, Offset::MAX], 2 * len) {
                 let (starts, ends) = columns.split_at(len);
                 let note = Note {
                     original: original.into(),
@@ -237,11 +237,11 @@ fn every_set_of_faults(tally: &mut Tally) {
 }
 
 fn sizes_around_the_limit(tally: &mut Tally) {
-    tally.family("texts and columns of 65534 to 65537, shifts to the limit");
-    const LAST: u16 = u16::MAX - 1;
+    tally.family("texts and columns about the limit, shifts to the limit");
+    const LAST: Offset = LIMIT as Offset - 1;
     for (original, normalized) in every::pair(3) {
         let (original, normalized) = (LIMIT - 1 + original, LIMIT - 1 + normalized);
-        for alignment in [(0, 0), (9, LAST), (LAST, LAST), (9, u16::MAX)] {
+        for alignment in [(0, 0), (9, LAST), (LAST, LAST), (9, LAST + 1)] {
             check_and_damage(tally, &samples::uniform(original, normalized, alignment));
         }
     }
@@ -339,9 +339,9 @@ fn long_notes(tally: &mut Tally) {
 }
 
 fn nothing_anywhere(tally: &mut Tally) {
-    tally.family("nothing lent, at any pointer");
+    tally.family("nothing passed, at any pointer");
     for address in ADDRESSES {
-        let (text, column) = (address as *const u8, address as *const u16);
+        let (text, column) = (address as *const u8, address as *const Offset);
         let ours = unsafe { library::zulmyren_check_note(text, 0, text, 0, column, 0, column, 0, 0) };
         tally.case(tally::refusal(ours), ours != 0, || format!("ours {ours} on nothing at {address:#x}"));
     }

@@ -1,6 +1,6 @@
 //! The Rust original: files of the folder that TOKENIZERS_SRC names, each included whole and unchanged, and thin
 //! stand-ins for what they lean on that the folder does not have. They only let the files compile; no comparison runs
-//! one.
+//! one. The included modules are linted for nothing, since they stay as they are; their child modules are ours again.
 
 use std::iter::Empty;
 
@@ -19,14 +19,17 @@ macro_rules! trace {
     };
 }
 
+#[allow(clippy::all, dead_code)]
 pub mod pattern {
     include!(concat!(env!("TOKENIZERS_SRC"), "/src/tokenizer/pattern.rs"));
 }
 
+#[allow(clippy::all, dead_code)]
 pub mod normalizer {
     include!(concat!(env!("TOKENIZERS_SRC"), "/src/tokenizer/normalizer.rs"));
 
     /// A child module, since only such a one reaches the private fields.
+    #[deny(clippy::all, dead_code)]
     mod fields {
         use super::NormalizedString;
         use crate::Offsets;
@@ -52,12 +55,14 @@ pub mod normalizer {
     }
 }
 
+#[allow(clippy::all, dead_code)]
 pub mod pre_tokenizer {
     include!(concat!(env!("TOKENIZERS_SRC"), "/src/tokenizer/pre_tokenizer.rs"));
 
     pub use converter::Converter;
 
     /// A child module, since only such a one reaches the private struct.
+    #[deny(clippy::all, dead_code)]
     mod converter {
         use super::BytesToCharOffsetConverter;
         use crate::Offsets;
@@ -76,6 +81,7 @@ pub mod pre_tokenizer {
     }
 
     /// A child module, since only such a one reaches the private fields.
+    #[deny(clippy::all, dead_code)]
     mod pieces {
         use super::PreTokenizedString;
         use crate::NormalizedString;

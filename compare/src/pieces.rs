@@ -1,9 +1,10 @@
-//! The built program `pieces`, whose name PIECES_PROGRAM is: what it prints of a literal, a behaviour and a note, beside
-//! the Rust original's `split`, and refusals beside a second judge.
+//! The built program `pieces`, whose name PIECES_PROGRAM is: what it prints of a literal, a behaviour and a note,
+//! beside the Rust original's `split`, and refusals beside a second judge.
 
 use crate::every;
 use crate::places::{Given, Place};
 use crate::random::Random;
+use crate::refusals::{BAD_SCRIPT, ILL_FORMED, TOO_LONG};
 use crate::samples;
 use crate::split::BEHAVIORS;
 use crate::tally::{hex, Report, Tally};
@@ -18,7 +19,10 @@ use tokenizers::pattern::Pattern;
 use tokenizers::NormalizedString;
 
 /// The most bytes of the literal and of the note.
-const LONGEST: usize = 8_192;
+pub const LONGEST: usize = 8_192;
+
+/// How many bytes the program reads at once.
+pub const READ: usize = 1 << 16;
 
 pub fn compare(report: &mut Report) {
     report.call("the program pieces", "NormalizedString::split and a second judge", |tally| {
@@ -48,13 +52,13 @@ pub fn expected(input: &[u8]) -> Vec<u8> {
     let refused = |number: u32| format!("refused {number}\n").into_bytes();
     let lines: Vec<&[u8]> = input.split(|&byte| byte == b'\n').collect();
     let [literal, [digit @ b'1'..=b'5'], note, []] = lines[..] else {
-        return refused(6);
+        return refused(BAD_SCRIPT);
     };
     if literal.len().max(note.len()) > LONGEST {
-        return refused(2);
+        return refused(TOO_LONG);
     }
     let (Ok(literal), Ok(note)) = (from_utf8(literal), from_utf8(note)) else {
-        return refused(1);
+        return refused(ILL_FORMED);
     };
     let behavior = BEHAVIORS[usize::from(digit - b'1')];
     let pieces = NormalizedString::from(note).split(Given(places(literal, note)), behavior);
@@ -144,7 +148,7 @@ fn every_short_note(tally: &mut Tally) {
 }
 
 fn every_short_input(tally: &mut Tally) {
-    tally.family("every input of up to 4 of 5 bytes, and each of up to 3 with LF, 1 and LF behind the first");
+    tally.family("every input of up to 4 of 5 bytes, and each of up to 3 with LF, 1 and LF after the first");
     for bytes in every::texts(b"a1\n\xC3\xA9", 4) {
         pieces(tally, &bytes);
     }
@@ -226,7 +230,7 @@ fn around_the_limit(tally: &mut Tally) {
 
 fn long_inputs(tally: &mut Tally) {
     tally.family("inputs of up to 1000000 bytes: one line, many lines, a shape that breaks at the last byte");
-    for len in [16_384, 16_388, 16_389, 65_535, 65_536, 65_537, 131_072, 1_000_000] {
+    for len in [16_384, 16_388, 16_389, READ - 1, READ, READ + 1, 2 * READ, 1_000_000] {
         let long = vec![b'a'; len];
         for whole in [
             long.clone(),

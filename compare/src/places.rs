@@ -35,7 +35,7 @@ impl Pattern for Handed {
     }
 }
 
-/// The commands of a list. An end past the limit, in a text that is refused for it, becomes the limit.
+/// The commands of a list. An end that two bytes do not hold, in a text that is refused for it, becomes the largest.
 pub fn bytes(places: &[Place]) -> Vec<u8> {
     let operand = |at: usize| u16::try_from(at).unwrap_or(u16::MAX).to_le_bytes();
     let command = |&((start, end), matched): &Place| {
@@ -57,7 +57,7 @@ pub fn read(list: &[u8]) -> Option<Vec<Place>> {
     list.chunks(5).map(place).collect()
 }
 
-/// Whether the places cover the text in order, and none ends before it starts or stands inside a character.
+/// Whether the places cover the text in order, and none ends before it starts or is inside a character.
 pub fn cover(text: &str, places: &[Place]) -> bool {
     let starts = places.iter().map(|&((start, _), _)| start);
     let ends = places.iter().map(|&((_, end), _)| end);
@@ -105,7 +105,7 @@ pub fn any(text: &str, cuts: usize, random: &mut Random) -> Vec<Place> {
     of_ends(ends, || random.below(one_matched_in) == 0)
 }
 
-/// The places that end at these, one behind the other.
+/// The places that end at these, one after the other.
 fn of_ends(ends: Vec<usize>, mut matched: impl FnMut() -> bool) -> Vec<Place> {
     let starts: Vec<usize> = once(0).chain(ends.iter().copied()).collect();
     starts.into_iter().zip(ends).map(|offsets| (offsets, matched())).collect()
@@ -162,11 +162,11 @@ pub fn damaged(list: &[u8]) -> Vec<(String, Vec<u8>)> {
         }
     }
     for i in (0..list.len()).step_by(5) {
-        let (before, place, behind) = (&list[..i], &list[i..i + 5], &list[i + 5..]);
-        damaged("place left out", i, [before, behind].concat());
-        damaged("place doubled", i, [before, place, place, behind].concat());
-        if let Some((next, behind)) = behind.split_at_checked(5) {
-            damaged("places swapped", i, [before, next, place, behind].concat());
+        let (before, place, after) = (&list[..i], &list[i..i + 5], &list[i + 5..]);
+        damaged("place left out", i, [before, after].concat());
+        damaged("place doubled", i, [before, place, place, after].concat());
+        if let Some((next, after)) = after.split_at_checked(5) {
+            damaged("places swapped", i, [before, next, place, after].concat());
         }
     }
     lists

@@ -125,9 +125,8 @@ fn blocks(tally: &mut Tally) {
 }
 
 fn texts_around_the_limit(tally: &mut Tally) {
-    tally.family(
-        "texts of 65533 to 65538 bytes and of 131072, whole and with the last byte damaged, pairs at their ends",
-    );
+    tally
+        .family("texts about the limit and of 131072 bytes, whole and with the last byte damaged, pairs at their ends");
     let mut random = Random::new(20);
     for len in (LIMIT - 2..=LIMIT + 3).chain([131_072]) {
         for kind in KINDS {

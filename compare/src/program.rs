@@ -1,9 +1,9 @@
-//! The built program `redact`, whose name REDACT_PROGRAM is, and the script that a ringer runs, REDACT_SCRIPT: what they
-//! print of a note, text or alignments, beside the Rust original's; what they say of each literal; and the status.
+//! The built program `redact`, whose name REDACT_PROGRAM is, and the script that a ringer runs, REDACT_SCRIPT: what
+//! they print of a note, text or alignments, beside the Rust original's; what they say of each literal; and the status.
 
 use crate::every;
 use crate::find;
-use crate::note::Note;
+use crate::note::{Note, Offset};
 use crate::notes;
 use crate::places;
 use crate::random::Random;
@@ -40,9 +40,9 @@ pub fn compare(report: &mut Report) {
 
 /// One line for each run of bytes with one alignment: first byte, count, transcript start, transcript end.
 fn lines(note: &Note) -> String {
-    let alignments: Vec<(u16, u16)> = note.alignments().collect();
+    let alignments: Vec<(Offset, Offset)> = note.alignments().collect();
     let mut first = 0;
-    let mut line = |run: &[(u16, u16)]| {
+    let mut line = |run: &[(Offset, Offset)]| {
         let line = format!("{first}\t{}\t{}\t{}\n", run.len(), run[0].0, run[0].1);
         first += run.len();
         line
@@ -120,7 +120,7 @@ fn run(what: &str, text: &[u8], words: &[&[u8]]) -> Output {
     started.wait_with_output().unwrap_or_else(|error| panic!("{program}: {error}"))
 }
 
-/// Both outputs of a note: nothing is printed where it is refused, and its number is said on standard error, behind what
+/// Both outputs of a note: nothing is printed where it is refused, and its number is said on standard error, after what
 /// was said of the literals before.
 fn publish(tally: &mut Tally, what: &str, text: &[u8], pairs: &[Pair]) {
     let expected = expected(text, pairs);
@@ -136,7 +136,9 @@ fn publish(tally: &mut Tally, what: &str, text: &[u8], pairs: &[Pair]) {
             Ok(note) => printed.stdout == note.normalized && said == expected.said,
             Err(refusal) => {
                 let last = said.strip_prefix(&expected.said).unwrap_or("");
-                printed.stdout.is_empty() && last.starts_with(&format!("refused {refusal} ")) && last.lines().count() == 1
+                printed.stdout.is_empty()
+                    && last.starts_with(&format!("refused {refusal} "))
+                    && last.lines().count() == 1
             }
         };
         tally.case(tally::refusal(refusal), !answered || printed.status.code() != Some(status), || {
@@ -196,14 +198,17 @@ fn two_literals(tally: &mut Tally) {
 }
 
 fn several_literals(tally: &mut Tally) {
-    tally.family("any text to 400 bytes, one to five literals out of it or out of a filler, five fillers, by the script");
+    tally.family(
+        "any text to 400 bytes, one to five literals out of it or out of a filler, five fillers, by the script",
+    );
     let mut random = Random::new(49);
     for turn in 0..100 {
         let (text, _) = samples::text_and_literal(turn * 20 + 1, &mut random);
         let pairs: Vec<(String, &str)> = (0..1 + random.below(5))
             .map(|_| {
                 let at = texts::any_boundary(&text, &mut random);
-                let out_of_it = text[at..].chars().take(random.below(4)).filter(|&character| character != '\0').collect();
+                let out_of_it =
+                    text[at..].chars().take(random.below(4)).filter(|&character| character != '\0').collect();
                 let literal = if random.below(4) == 0 { "x".to_owned() } else { out_of_it };
                 (literal, *random.choose(&FILLERS))
             })
@@ -226,7 +231,9 @@ fn any_texts(tally: &mut Tally) {
 }
 
 fn refused_texts(tally: &mut Tally) {
-    tally.family("strings that are not well-formed, texts of 65535 bytes and more, results past the limit, by the script");
+    tally.family(
+        "strings that are not well-formed, texts at the limit and longer, results past the limit, by the script",
+    );
     for text in [&b"a"[..], b"\xC3"] {
         for literal in [&b"a"[..], b"\xFF"] {
             for filler in [&b"x"[..], b"x\xC3"] {
@@ -281,7 +288,8 @@ fn literals_that_are_not_shown(tally: &mut Tally) {
 
 fn wrong_use(tally: &mut Tally) {
     tally.family("arguments that are too few, or odd without the last one asking for alignments");
-    let all: [&[&[u8]]; 6] = [&[], &[b"a"], &[b"alignments"], &[b"a", b"b", b"c"], &[b"a", b"b", b"Alignments"], &[b""]];
+    let all: [&[&[u8]]; 6] =
+        [&[], &[b"a"], &[b"alignments"], &[b"a", b"b", b"c"], &[b"a", b"b", b"Alignments"], &[b""]];
     for words in all {
         for (what, status) in [(PROGRAM, 0), (SCRIPT, 2)] {
             let printed = run(what, b"a", words);

@@ -1,7 +1,7 @@
 //! Notes and ranges of their texts: what converting, reading and slicing are compared on.
 
 use crate::every;
-use crate::note::Note;
+use crate::note::{position, Note};
 use crate::notes;
 use crate::random::Random;
 use crate::samples;
@@ -10,7 +10,7 @@ use tokenizers::normalizer::Range;
 use tokenizers::NormalizedString;
 
 /// Far past every text.
-pub const FAR: [u32; 4] = [65_535, 65_536, 1 << 31, u32::MAX];
+pub const FAR: [u32; 4] = [LIMIT as u32, LIMIT as u32 + 1, 1 << 31, u32::MAX];
 
 pub type Bytes = std::ops::Range<usize>;
 
@@ -24,9 +24,9 @@ pub fn range(of_original: bool, (start, end): (u32, u32)) -> Range<Bytes> {
     }
 }
 
-/// A note as the library is lent it and as the Rust original holds it, or the refusal that the second check gives it.
+/// A note as the library takes it and as the Rust original holds it, or the refusal that the second check gives it.
 pub struct Sample {
-    pub lent: Note,
+    pub note: Note,
     theirs: Result<NormalizedString, u32>,
 }
 
@@ -37,21 +37,21 @@ impl From<NormalizedString> for Sample {
 }
 
 impl From<Note> for Sample {
-    fn from(lent: Note) -> Self {
-        let theirs = match lent.refusal() {
-            0 => Ok(lent.of_the_original()),
+    fn from(note: Note) -> Self {
+        let theirs = match note.refusal() {
+            0 => Ok(note.of_the_original()),
             refusal => Err(refusal),
         };
-        Sample { lent, theirs }
+        Sample { note, theirs }
     }
 }
 
 impl Sample {
     pub fn text(&self, of_original: bool) -> &[u8] {
         if of_original {
-            &self.lent.original
+            &self.note.original
         } else {
-            &self.lent.normalized
+            &self.note.normalized
         }
     }
 
@@ -67,9 +67,9 @@ impl Sample {
     /// An end of a range of one of the texts: anywhere, near what the alignments name, or past it.
     fn any_end(&self, of_original: bool, random: &mut Random) -> u32 {
         let len = self.text(of_original).len();
-        let columns = [&self.lent.starts, &self.lent.ends];
+        let columns = [&self.note.starts, &self.note.ends];
         let near = match *random.choose(&columns) {
-            column if of_original && !column.is_empty() => usize::from(*random.choose(column)),
+            column if of_original && !column.is_empty() => position(*random.choose(column)),
             _ => random.below(len + 1),
         };
         match random.below(10) {

@@ -3,7 +3,7 @@
 
 use crate::every;
 use crate::find;
-use crate::lent::Lent;
+use crate::guarded::Guarded;
 use crate::library::{self, Count, Publishing};
 use crate::note::Note;
 use crate::places;
@@ -27,7 +27,7 @@ pub fn compare(report: &mut Report) {
     });
 }
 
-/// The lengths of the lent buffers, in the call's order: text, starts, ends.
+/// The lengths of the passed buffers, in the call's order: text, starts, ends.
 type Rooms = [usize; 3];
 
 fn sizes(published: &Note) -> Rooms {
@@ -45,10 +45,10 @@ pub fn expected([text, literal, filler]: [&[u8]; 3]) -> Result<Note, u32> {
 
 /// Our answer in these rooms, and which of the three buffers hold what they are to.
 fn in_rooms([text, literal, filler]: [&[u8]; 3], rooms: Rooms, wanted: &Note) -> (Count, [bool; 3]) {
-    let mut out = Lent::new(rooms[0]);
-    let [mut starts, mut ends] = [1, 2].map(|i| Lent::new(rooms[i]));
-    let lent = Publishing { text: out.part(), starts: starts.part(), ends: ends.part() };
-    let ours = library::redact(text, literal, filler, lent);
+    let mut out = Guarded::new(rooms[0]);
+    let [mut starts, mut ends] = [1, 2].map(|i| Guarded::new(rooms[i]));
+    let passed = Publishing { text: out.part(), starts: starts.part(), ends: ends.part() };
+    let ours = library::redact(text, literal, filler, passed);
     (ours, [out.holds(&wanted.normalized), starts.holds(&wanted.starts), ends.holds(&wanted.ends)])
 }
 
@@ -149,7 +149,7 @@ fn any_texts(tally: &mut Tally) {
 }
 
 fn around_the_limit(tally: &mut Tally) {
-    tally.family("texts and results of 65533 to 65538 bytes, and results far past the limit");
+    tally.family("texts and results about the limit, and results far past the limit");
     for len in LIMIT - 2..=LIMIT + 3 {
         let mut text = vec![b'a'; len];
         for literal in [&b"a"[..], b"aa", b"b", b""] {

@@ -1,4 +1,4 @@
-//! The refusals of docs/RULES.md, by number. 0 stands for acceptance.
+//! The refusals of docs/RULES.md, by number. 0 means acceptance.
 
 pub const ILL_FORMED: u32 = 1;
 pub const TOO_LONG: u32 = 2;

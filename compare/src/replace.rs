@@ -2,9 +2,9 @@
 
 use crate::characters::sequences;
 use crate::every;
-use crate::lent::Lent;
+use crate::guarded::Guarded;
 use crate::library::{self, Count, Publishing};
-use crate::note::Note;
+use crate::note::{Note, Offset};
 use crate::notes;
 use crate::places::{self, Given, Place};
 use crate::random::Random;
@@ -66,7 +66,7 @@ pub fn published(
     Ok(Note::from(&note))
 }
 
-/// The lengths of the three lent buffers.
+/// The lengths of the three passed buffers.
 pub type Rooms = Vec<[usize; 3]>;
 
 /// Just large enough, or larger.
@@ -109,10 +109,10 @@ fn replace(
         Err(_) => note.normalized.len().min(300),
     };
     for room in rooms(len) {
-        let (mut out, mut starts, mut ends) = (Lent::new(room[0]), Lent::new(room[1]), Lent::new(room[2]));
-        let lent = Publishing { text: out.part(), starts: starts.part(), ends: ends.part() };
-        let ours = library::replace(note, list, filler, lent);
-        let (refusal, text, their_starts, their_ends): (u32, &[u8], &[u16], &[u16]) = match &published {
+        let (mut out, mut starts, mut ends) = (Guarded::new(room[0]), Guarded::new(room[1]), Guarded::new(room[2]));
+        let passed = Publishing { text: out.part(), starts: starts.part(), ends: ends.part() };
+        let ours = library::replace(note, list, filler, passed);
+        let (refusal, text, their_starts, their_ends): (u32, &[u8], &[Offset], &[Offset]) = match &published {
             Err(refusal) => (*refusal, &[], &[], &[]),
             Ok(_) if room.iter().any(|&room| room < len) => (NO_ROOM, &[], &[], &[]),
             Ok(published) => (0, &published.normalized, &published.starts, &published.ends),
@@ -134,7 +134,7 @@ fn plainly(tally: &mut Tally, note: &Note, places: &[Place], filler: &str, rooms
 }
 
 /// Text, places, filler; the result's text and alignments.
-type Worked<'a> = (&'a str, &'a [Place], &'a str, &'a str, &'a [(u16, u16)]);
+type Worked<'a> = (&'a str, &'a [Place], &'a str, &'a str, &'a [(Offset, Offset)]);
 
 /// The answers are written down here, and both sides give them.
 fn worked_notes(tally: &mut Tally) {
@@ -203,7 +203,7 @@ fn any_lists(tally: &mut Tally) {
 }
 
 fn long_lists(tally: &mut Tally) {
-    tally.family("notes of any make up to the limit, any list to 65536 places, in 9 rooms");
+    tally.family("notes of any make up to the limit, any list to one place more than the limit, in 9 rooms");
     let mut random = Random::new(42);
     for turn in 0..240 {
         let len = samples::long_len(turn, 3, &mut random);
@@ -216,7 +216,7 @@ fn long_lists(tally: &mut Tally) {
 }
 
 fn results_around_the_limit(tally: &mut Tally) {
-    tally.family("results of 65533 to 65538 bytes in 9 rooms: one filler or many, in the place of bytes or of nothing");
+    tally.family("results about the limit in 9 rooms: one filler or many, in the place of bytes or of nothing");
     for size in LIMIT - 2..=LIMIT + 3 {
         let mut made = |text: String, places: Vec<Place>, filler: String| {
             assert_eq!(places::size(&places, filler.len()), size as u64);
@@ -228,7 +228,7 @@ fn results_around_the_limit(tally: &mut Tally) {
             made(text.clone(), kept, texts::repeated(unit, size - 1_200));
             made(text, vec![((0, 1_200), true)], texts::repeated(unit, size));
         }
-        // The filler is 1 byte longer than what it stands for, `grown` times.
+        // The filler is 1 byte longer than what it replaces, `grown` times.
         let grown = size - 50_000;
         let every_third = (0..grown).flat_map(|i| [((3 * i, 3 * i + 2), false), ((3 * i + 2, 3 * i + 3), true)]);
         let rest = ((3 * grown, 50_000), false);
@@ -263,7 +263,10 @@ fn fillers_and_lists_past_the_limit(tally: &mut Tally) {
             replace(tally, (&note, &places::bytes(&[((0, 4), false)]), &damaged), ample, || "ill-formed filler".into());
         }
     }
-    for (places, filler) in [(65_536, 65_536), (65_536, 65_537), (32_768, 131_072), (200_000, 0), (200_000, 1)] {
+    // Sizes that are 0 or 65,536 modulo 2 to the 32, and long lists.
+    for (places, filler) in
+        [(1 << 16, 1 << 16), (1 << 16, (1 << 16) + 1), (1 << 15, 1 << 17), (200_000, 0), (200_000, 1)]
+    {
         let list = [vec![((0, 0), true); places], vec![((0, 4), false)]].concat();
         plainly(tally, &note, &list, &"x".repeat(filler), rooms);
     }
@@ -295,8 +298,8 @@ fn ill_formed_fillers(tally: &mut Tally) {
     for note in [0, 1 << 3, 1 << 7].map(notes::with) {
         for list in lists {
             for sequence in sequences() {
-                for (before, behind) in [(0, 0), (1, 1), (63, 70), (126, 0), (128, 131)] {
-                    let filler = [&b"a".repeat(before), &sequence[..], &b"a".repeat(behind)].concat();
+                for (before, after) in [(0, 0), (1, 1), (63, 70), (126, 0), (128, 131)] {
+                    let filler = [&b"a".repeat(before), &sequence[..], &b"a".repeat(after)].concat();
                     replace(tally, (&note, list, &filler), ample_or_none, || "whole or not".into());
                 }
             }
@@ -346,10 +349,10 @@ fn damaged_notes(tally: &mut Tally) {
 }
 
 fn nothing_anywhere(tally: &mut Tally) {
-    tally.family("nothing lent, at any pointer");
+    tally.family("nothing passed, at any pointer");
     for address in ADDRESSES {
-        let (text, column) = (address as *const u8, address as *const u16);
-        let (out, written) = (address as *mut u8, address as *mut u16);
+        let (text, column) = (address as *const u8, address as *const Offset);
+        let (out, written) = (address as *mut u8, address as *mut Offset);
         let ours = unsafe {
             library::zulmyren_replace(
                 text, 0, text, 0, column, 0, column, 0, 0, text, 0, text, 0, out, 0, written, 0, written, 0,

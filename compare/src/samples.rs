@@ -1,6 +1,6 @@
 //! What several comparisons take: notes, texts and fillers to compare on, and ways to damage a note.
 
-use crate::note::Note;
+use crate::note::{offset, Note, Offset};
 use crate::random::Random;
 use crate::texts::{self, KINDS, LIMIT};
 use std::iter::repeat_n;
@@ -9,7 +9,7 @@ use tokenizers::NormalizedString;
 
 pub const FILLERS: [&str; 5] = ["", "x", "é", "**", "日x"];
 
-/// Nothing may be read or written at any of these: they are lent with length 0.
+/// Nothing may be read or written at any of these: they are passed with length 0.
 pub const ADDRESSES: [usize; 4] = [0, 4, 8, usize::MAX - 3];
 
 /// A text up to the limit, mostly a short one, and up to 5 characters out of it.
@@ -42,7 +42,7 @@ pub fn long_len(turn: usize, every: usize, random: &mut Random) -> usize {
 }
 
 /// Texts of so many equal letters, and one alignment for all.
-pub fn uniform(original: usize, normalized: usize, (start, end): (u16, u16)) -> Note {
+pub fn uniform(original: usize, normalized: usize, (start, end): (Offset, Offset)) -> Note {
     Note {
         original: vec![b'o'; original],
         normalized: vec![b'n'; normalized],
@@ -55,8 +55,9 @@ pub fn uniform(original: usize, normalized: usize, (start, end): (u16, u16)) -> 
 /// Every sound note of the two texts without a shift: boundaries in order, neither starts nor ends going back, one pair
 /// a character.
 pub fn sound_notes(original: &str, normalized: &str) -> Vec<Note> {
-    let boundaries: Vec<u16> = (0..=original.len() as u16).filter(|&at| original.is_char_boundary(at.into())).collect();
-    let mut columns: Vec<Vec<(u16, u16)>> = vec![vec![]];
+    let boundaries: Vec<Offset> =
+        (0..=original.len()).filter(|&at| original.is_char_boundary(at)).map(offset).collect();
+    let mut columns: Vec<Vec<(Offset, Offset)>> = vec![vec![]];
     for character in normalized.chars() {
         let mut longer = vec![];
         for alignments in &columns {
@@ -69,7 +70,7 @@ pub fn sound_notes(original: &str, normalized: &str) -> Vec<Note> {
         }
         columns = longer;
     }
-    let note = |alignments: Vec<(u16, u16)>| {
+    let note = |alignments: Vec<(Offset, Offset)>| {
         let (starts, ends) = alignments.into_iter().unzip();
         Note { original: original.into(), normalized: normalized.into(), starts, ends, original_shift: 0 }
     };
@@ -201,9 +202,9 @@ pub const DAMAGES_AT: [DamageAt; 24] = [
     ("starts + 1 up to here", |note, i| add(&mut note.starts[..=i], 1)),
     ("ends - 1 up to here", |note, i| add(&mut note.ends[..=i], MINUS_ONE)),
     ("start 0", |note, i| note.starts[i] = 0),
-    ("start 65535", |note, i| note.starts[i] = u16::MAX),
+    ("start the largest number", |note, i| note.starts[i] = Offset::MAX),
     ("end 0", |note, i| note.ends[i] = 0),
-    ("end 65535", |note, i| note.ends[i] = u16::MAX),
+    ("end the largest number", |note, i| note.ends[i] = Offset::MAX),
     ("start the end", |note, i| note.starts[i] = note.ends[i]),
     ("end the start", |note, i| note.ends[i] = note.starts[i]),
     ("start and end swapped", |note, i| std::mem::swap(&mut note.starts[i], &mut note.ends[i])),
@@ -236,21 +237,21 @@ pub const DAMAGES: [Damage; 11] = [
     ("shift and length 4294967296", |note| note.original_shift = (note.original.len() as u32).wrapping_neg()),
 ];
 
-const MINUS_ONE: u16 = u16::MAX;
+const MINUS_ONE: Offset = Offset::MAX;
 
-fn add(numbers: &mut [u16], step: u16) {
+fn add(numbers: &mut [Offset], step: Offset) {
     for number in numbers {
         *number = number.wrapping_add(step);
     }
 }
 
-fn swap_with_next(column: &mut [u16], i: usize) {
+fn swap_with_next(column: &mut [Offset], i: usize) {
     if i + 1 < column.len() {
         column.swap(i, i + 1);
     }
 }
 
-fn repeat_from(column: &mut [u16], i: usize) {
+fn repeat_from(column: &mut [Offset], i: usize) {
     let value = column[i];
     column[i..].fill(value);
 }

@@ -1,9 +1,9 @@
 //! Slicing beside `NormalizedString::slice`, and refusals beside a second judge.
 
 use crate::every;
-use crate::lent::Lent;
-use crate::library::{self, lend, Sliced};
-use crate::note::Note;
+use crate::guarded::Guarded;
+use crate::library::{self, pass, Sliced};
+use crate::note::{Note, Offset};
 use crate::notes;
 use crate::random::Random;
 use crate::ranges::{range, ranges_to, samples_with_faults, sound_notes, Sample};
@@ -36,8 +36,8 @@ pub fn compare(report: &mut Report) {
 #[derive(Clone)]
 pub struct Cut {
     pub answer: Sliced,
-    pub starts: Vec<u16>,
-    pub ends: Vec<u16>,
+    pub starts: Vec<Offset>,
+    pub ends: Vec<Offset>,
 }
 
 /// The slice that the Rust original cuts, or the refusal that docs/RULES.md gives in any room.
@@ -49,8 +49,8 @@ pub fn expected(sample: &Sample, of_original: bool, asked: (u32, u32)) -> Result
     }
     let slice = note.slice(range(of_original, asked)).ok_or(MISSING)?;
     let cut = Cut::of(note, &slice, if of_original { converted_start(note, asked) } else { asked.0 as usize });
-    assert_eq!(sample.part(false, cut.answer.normalized()), slice.get().as_bytes(), "{}", sample.lent);
-    assert_eq!(sample.part(true, cut.answer.original()), slice.get_original().as_bytes(), "{}", sample.lent);
+    assert_eq!(sample.part(false, cut.answer.normalized()), slice.get().as_bytes(), "{}", sample.note);
+    assert_eq!(sample.part(true, cut.answer.original()), slice.get_original().as_bytes(), "{}", sample.note);
     Ok(cut)
 }
 
@@ -60,8 +60,8 @@ fn converted_start(note: &NormalizedString, asked: (u32, u32)) -> usize {
 }
 
 impl Cut {
-    /// A slice of the original's, which begins at `start` in the note's cleaned text. How far its transcript is from the
-    /// note's is what its shift has grown by.
+    /// A slice of the original's, which begins at `start` in the note's cleaned text. How far its transcript is from
+    /// the note's is what its shift has grown by.
     pub fn of(note: &NormalizedString, slice: &NormalizedString, start: usize) -> Self {
         let original_start = slice.original_shift() - note.original_shift();
         let Note { starts, ends, .. } = Note::from(slice);
@@ -88,7 +88,7 @@ impl Sample {
     }
 }
 
-/// The lengths of the two lent columns.
+/// The lengths of the two passed columns.
 type Rooms = Vec<(usize, usize)>;
 
 /// Just large enough and larger.
@@ -100,9 +100,9 @@ fn slice(tally: &mut Tally, sample: &Sample, of_original: bool, asked: (u32, u32
     let cut = expected(sample, of_original, asked);
     let len = cut.as_ref().map_or(4, |cut| cut.starts.len());
     for room in rooms(len) {
-        let (mut starts, mut ends) = (Lent::new(room.0), Lent::new(room.1));
-        let ours = library::slice(&sample.lent, of_original, asked, starts.part(), ends.part());
-        let (theirs, their_starts, their_ends): (Sliced, &[u16], &[u16]) = match &cut {
+        let (mut starts, mut ends) = (Guarded::new(room.0), Guarded::new(room.1));
+        let ours = library::slice(&sample.note, of_original, asked, starts.part(), ends.part());
+        let (theirs, their_starts, their_ends): (Sliced, &[Offset], &[Offset]) = match &cut {
             Err(refusal) => (Sliced::refused(*refusal), &[], &[]),
             Ok(_) if room.0.min(room.1) < len => (Sliced::refused(NO_ROOM), &[], &[]),
             Ok(cut) => (cut.answer, &cut.starts, &cut.ends),
@@ -110,7 +110,7 @@ fn slice(tally: &mut Tally, sample: &Sample, of_original: bool, asked: (u32, u32
         let held = [starts.holds(their_starts), ends.holds(their_ends)];
         tally.case(tally::refusal(ours.refusal), ours != theirs || held != [true; 2], || {
             let text = if of_original { "original" } else { "normalized" };
-            let ((start, end), note) = (asked, &sample.lent);
+            let ((start, end), note) = (asked, &sample.note);
             format!(
                 "ours {ours:?}, theirs {theirs:?}, starts, ends equal {held:?}, in rooms {room:?}, on {start}..{end} of \
                  the {text} text of {note}"
@@ -139,7 +139,7 @@ fn slice_any_ranges(tally: &mut Tally, sample: &Sample, count: usize, random: &m
 
 /// The text that a slice is asked of, the range; the ranges of the transcript and of the cleaned text, and the shift;
 /// the alignments.
-type Worked<'a> = (&'a Sample, bool, (u32, u32), [u32; 5], &'a [(u16, u16)]);
+type Worked<'a> = (&'a Sample, bool, (u32, u32), [u32; 5], &'a [(Offset, Offset)]);
 
 /// The answers are written down here, and both sides give them.
 fn worked_notes(tally: &mut Tally) {
@@ -164,14 +164,15 @@ fn worked_notes(tally: &mut Tally) {
     for (sample, of_original, asked, numbers, alignments) in worked {
         slice(tally, sample, of_original, asked, notes::rooms);
         let cut = expected(sample, of_original, asked).expect("a worked note is accepted");
-        let theirs: Vec<(u16, u16)> = cut.starts.into_iter().zip(cut.ends).collect();
+        let theirs: Vec<(Offset, Offset)> = cut.starts.into_iter().zip(cut.ends).collect();
         let differs = cut.answer != Sliced::accepted(numbers) || theirs != alignments;
         tally.case("accepted", differs, || format!("wanted {numbers:?} at {alignments:?}, theirs {:?}", cut.answer));
     }
     let mut emptied = NormalizedString::from("abc");
     emptied.filter(|_| false);
     let emptied = Sample::from(emptied);
-    let refused = [(&emptied, true, (1, 1), MISSING), (&fresh, true, (3, 1), MISSING), (&fresh, false, (2, 9), 5)];
+    let refused =
+        [(&emptied, true, (1, 1), MISSING), (&fresh, true, (3, 1), MISSING), (&fresh, false, (2, 9), NOT_BOUNDARY)];
     for (sample, of_original, asked, refusal) in refused {
         slice(tally, sample, of_original, asked, notes::rooms);
         let theirs = expected(sample, of_original, asked).err();
@@ -239,15 +240,17 @@ fn around_blocks(tally: &mut Tally) {
 }
 
 fn around_the_limit(tally: &mut Tally) {
-    tally.family("texts of 65534 to 65537 bytes, shifts to the limit, ranges at their ends, in all rooms");
-    const LAST: u16 = u16::MAX - 1;
+    tally.family("texts about the limit, shifts to the limit, ranges at their ends, in all rooms");
+    const LAST: Offset = LIMIT as Offset - 1;
+    let limit = LIMIT as u32;
     for (original, normalized) in every::pair(3) {
         let (original, normalized) = (LIMIT - 1 + original, LIMIT - 1 + normalized);
         for alignment in [(0, 0), (9, LAST), (LAST, LAST)] {
             let note = samples::uniform(original, normalized, alignment);
             for shift in [0, (LIMIT + 1).saturating_sub(original), usize::MAX] {
                 let sample = Sample::from(Note { original_shift: shift as u32, ..note.clone() });
-                for asked in [(0, 65_534), (9, 65_535), (65_534, 65_535), (65_535, 65_535), (9, 65_536), (0, u32::MAX)]
+                for asked in
+                    [(0, limit - 1), (9, limit), (limit - 1, limit), (limit, limit), (9, limit + 1), (0, u32::MAX)]
                 {
                     slice(tally, &sample, false, asked, notes::rooms);
                     slice(tally, &sample, true, asked, notes::rooms);
@@ -323,7 +326,7 @@ fn long_notes(tally: &mut Tally) {
     }
 }
 
-/// What is left of a note is lent again.
+/// What is left of a note is passed again.
 fn slices_of_slices(tally: &mut Tally) {
     tally.family("any slice of any note to 300 bytes, and any ranges of it");
     let mut random = Random::new(85);
@@ -340,14 +343,14 @@ fn slices_of_slices(tally: &mut Tally) {
 }
 
 fn nothing_anywhere(tally: &mut Tally) {
-    tally.family("nothing lent, at any pointer");
+    tally.family("nothing passed, at any pointer");
     let nothing = Sample::from(NormalizedString::from(""));
     for address in ADDRESSES {
-        let column = address as *mut u16;
+        let column = address as *mut Offset;
         for of_original in [false, true] {
             for asked in ranges_to(2) {
                 let ours = unsafe {
-                    lend!(library::zulmyren_slice; plain address as *const u8, plain 0, plain address as *const u8,
+                    pass!(library::zulmyren_slice; plain address as *const u8, plain 0, plain address as *const u8,
                         plain 0, plain column, plain 0, plain column, plain 0, plain 0, plain of_original,
                         plain asked.0, plain asked.1, plain column, plain 0, plain column, plain 0)
                 };

@@ -2,9 +2,9 @@
 //! refusals beside a second judge.
 
 use crate::every;
-use crate::lent::Lent;
-use crate::library::{self, lend, Cut, Cutting};
-use crate::note::Note;
+use crate::guarded::Guarded;
+use crate::library::{self, pass, Cut, Cutting};
+use crate::note::{offset, position, Note, Offset};
 use crate::places::{self, Given, Place};
 use crate::random::Random;
 use crate::ranges::{samples_with_faults, Sample};
@@ -21,7 +21,7 @@ use tokenizers::NormalizedString;
 /// In the order of their numbers in C, from 1 on.
 pub const BEHAVIORS: [SplitDelimiterBehavior; 5] = [Removed, Isolated, MergedWithPrevious, MergedWithNext, Contiguous];
 
-/// They stand for the last behaviour, too.
+/// They mean the last behaviour, too.
 pub const OTHER_NUMBERS: [u32; 7] = [0, 5, 6, 255, 257, 1 << 31, u32::MAX];
 
 pub fn number(behavior: SplitDelimiterBehavior) -> u32 {
@@ -48,12 +48,12 @@ pub fn compare(report: &mut Report) {
 /// What an accepted call leaves: a number of each for every piece, and the pieces' alignments, end to end.
 #[derive(Default)]
 pub struct Columns {
-    pub starts: Vec<u16>,
-    pub ends: Vec<u16>,
+    pub starts: Vec<Offset>,
+    pub ends: Vec<Offset>,
     pub shifts: Vec<u32>,
-    pub lengths: Vec<u16>,
-    pub alignment_starts: Vec<u16>,
-    pub alignment_ends: Vec<u16>,
+    pub lengths: Vec<Offset>,
+    pub alignment_starts: Vec<Offset>,
+    pub alignment_ends: Vec<Offset>,
 }
 
 impl Columns {
@@ -63,12 +63,11 @@ impl Columns {
     }
 
     fn push(&mut self, start: usize, piece: &NormalizedString) {
-        let narrow = |position: usize| u16::try_from(position).expect("a position of a text within the limit");
         let Note { starts, ends, .. } = Note::from(piece);
-        self.starts.push(narrow(start));
-        self.ends.push(narrow(start + piece.len()));
+        self.starts.push(offset(start));
+        self.ends.push(offset(start + piece.len()));
         self.shifts.push(piece.original_shift() as u32);
-        self.lengths.push(narrow(piece.len_original()));
+        self.lengths.push(offset(piece.len_original()));
         self.alignment_starts.extend(starts);
         self.alignment_ends.extend(ends);
     }
@@ -125,7 +124,7 @@ impl Asked<'_> {
     }
 }
 
-/// The lengths of the lent buffers: four for the pieces, two for their alignments.
+/// The lengths of the passed buffers: four for the pieces, two for their alignments.
 type Rooms = Vec<[usize; 6]>;
 
 /// Just large enough, and larger.
@@ -150,27 +149,27 @@ fn rooms((pieces, alignments): (usize, usize)) -> Rooms {
 
 /// The buffers of one call, between guards.
 struct Buffers {
-    starts: Lent<u16>,
-    ends: Lent<u16>,
-    shifts: Lent<u32>,
-    lengths: Lent<u16>,
-    alignment_starts: Lent<u16>,
-    alignment_ends: Lent<u16>,
+    starts: Guarded<Offset>,
+    ends: Guarded<Offset>,
+    shifts: Guarded<u32>,
+    lengths: Guarded<Offset>,
+    alignment_starts: Guarded<Offset>,
+    alignment_ends: Guarded<Offset>,
 }
 
 impl Buffers {
     fn new(room: [usize; 6]) -> Self {
         Buffers {
-            starts: Lent::new(room[0]),
-            ends: Lent::new(room[1]),
-            shifts: Lent::new(room[2]),
-            lengths: Lent::new(room[3]),
-            alignment_starts: Lent::new(room[4]),
-            alignment_ends: Lent::new(room[5]),
+            starts: Guarded::new(room[0]),
+            ends: Guarded::new(room[1]),
+            shifts: Guarded::new(room[2]),
+            lengths: Guarded::new(room[3]),
+            alignment_starts: Guarded::new(room[4]),
+            alignment_ends: Guarded::new(room[5]),
         }
     }
 
-    fn lent(&mut self) -> Cutting<'_> {
+    fn out(&mut self) -> Cutting<'_> {
         Cutting {
             starts: self.starts.part(),
             ends: self.ends.part(),
@@ -212,8 +211,8 @@ fn split_so(
             Ok(columns) => (0, columns),
         };
         let mut buffers = Buffers::new(room);
-        let (note, behavior) = (&asked.sample.lent, asked.behavior);
-        let ours = library::split(note, asked.list, number(behavior), drop_empty, buffers.lent());
+        let (note, behavior) = (&asked.sample.note, asked.behavior);
+        let ours = library::split(note, asked.list, number(behavior), drop_empty, buffers.out());
         let (pieces, alignments) = columns.sizes();
         let theirs = Cut { refusal, pieces, alignments };
         let held = buffers.hold(columns);
@@ -249,7 +248,7 @@ fn plainly(tally: &mut Tally, sample: &Sample, places: &[Place], rooms: impl Fn(
 /// One way at a time, the next one each turn: which lists are refused is the same for all.
 fn by_turns(tally: &mut Tally, sample: &Sample, list: &[u8], turn: usize, made: &dyn Fn() -> String) {
     let asked = Asked { sample, list, behavior: BEHAVIORS[turn % 5] };
-    split_so(tally, asked, turn % 2 == 0, ample_or_none, made);
+    split_so(tally, asked, turn.is_multiple_of(2), ample_or_none, made);
 }
 
 /// A text and a behaviour; the pieces of cutting at `-`.
@@ -284,7 +283,7 @@ fn worked_notes(tally: &mut Tally) {
         let list = places::bytes(&at_dashes(text));
         split(tally, &sample, &list, rooms, || "whole".into());
         let columns = Asked { sample: &sample, list: &list, behavior }.expected(false).expect("it is accepted");
-        let cut = |(&start, &end): (&u16, &u16)| &text[usize::from(start)..usize::from(end)];
+        let cut = |(&start, &end): (&Offset, &Offset)| &text[position(start)..position(end)];
         let theirs: Vec<&str> = columns.starts.iter().zip(&columns.ends).map(cut).collect();
         tally.case("accepted", theirs != pieces, || format!("wanted {pieces:?}, theirs {theirs:?}"));
     }
@@ -351,7 +350,7 @@ fn around_blocks(tally: &mut Tally) {
 }
 
 fn long_lists(tally: &mut Tally) {
-    tally.family("notes of any make up to the limit, any list to 65536 places, in 9 rooms");
+    tally.family("notes of any make up to the limit, any list to one place more than the limit, in 9 rooms");
     let mut random = Random::new(92);
     for turn in 0..40 {
         let len = samples::long_len(turn, 3, &mut random);
@@ -369,7 +368,7 @@ fn lists_past_the_limit(tally: &mut Tally) {
     shifted.original_shift = (LIMIT - 4) as u32;
     let sample = Sample::from(shifted);
     for matched in [false, true] {
-        for places in [65_534, 65_535, 65_536, 200_000] {
+        for places in [LIMIT - 1, LIMIT, LIMIT + 1, 200_000] {
             for at in [0, 4] {
                 let empty = vec![((at, at), matched); places];
                 let whole = vec![((0, 4), !matched)];
@@ -438,20 +437,20 @@ fn other_numbers(tally: &mut Tally) {
     let columns = Asked { sample: &sample, list: &list, behavior: Contiguous }.expected(false).expect("it is accepted");
     for number in OTHER_NUMBERS {
         let mut buffers = Buffers::new([3, 3, 3, 3, 5, 5]);
-        let ours = library::split(&sample.lent, &list, number, false, buffers.lent());
+        let ours = library::split(&sample.note, &list, number, false, buffers.out());
         let differs = ours != Cut { refusal: 0, pieces: 3, alignments: 5 } || buffers.hold(&columns) != [true; 6];
         tally.case(tally::refusal(ours.refusal), differs, || format!("ours {ours:?}, behaviour {number}"));
     }
 }
 
 fn nothing_anywhere(tally: &mut Tally) {
-    tally.family("nothing lent, at any pointer");
+    tally.family("nothing passed, at any pointer");
     for address in ADDRESSES {
-        let (text, column, wide) = (address as *const u8, address as *mut u16, address as *mut u32);
+        let (text, column, wide) = (address as *const u8, address as *mut Offset, address as *mut u32);
         for behavior in BEHAVIORS {
             for drop_empty in [false, true] {
                 let ours = unsafe {
-                    lend!(library::zulmyren_split; plain text, plain 0, plain text, plain 0, plain column, plain 0,
+                    pass!(library::zulmyren_split; plain text, plain 0, plain text, plain 0, plain column, plain 0,
                         plain column, plain 0, plain 0, plain text, plain 0, plain number(behavior), plain drop_empty,
                         plain column, plain 0, plain column, plain 0, plain wide, plain 0, plain column, plain 0,
                         plain column, plain 0, plain column, plain 0)

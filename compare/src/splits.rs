@@ -1,8 +1,8 @@
 //! Split offsets beside `PreTokenizedString::get_splits`, without tokens; refusals beside a second judge.
 
-use crate::lent::Lent;
-use crate::library::{self, lend, Count};
-use crate::note::Note;
+use crate::guarded::Guarded;
+use crate::library::{self, pass, Count};
+use crate::note::{Note, Offset};
 use crate::notes;
 use crate::places::{self, Place};
 use crate::random::Random;
@@ -45,7 +45,7 @@ pub fn expected(asked: Asked, [of_original, characters]: [bool; 2]) -> Result<Pa
     Ok(splits.into_iter().map(|(_, (start, end), _)| (start as u32, end as u32)).collect())
 }
 
-/// The lengths of the two lent columns.
+/// The lengths of the two passed columns.
 type Rooms = Vec<(usize, usize)>;
 
 /// Just large enough and larger.
@@ -65,8 +65,8 @@ fn get_splits_so(
     let expected = expected(asked, way);
     let len = expected.as_ref().map_or(4, Vec::len);
     for room in rooms(len) {
-        let (mut starts, mut ends) = (Lent::new(room.0), Lent::new(room.1));
-        let (note, behavior) = (&asked.sample.lent, asked.behavior);
+        let (mut starts, mut ends) = (Guarded::new(room.0), Guarded::new(room.1));
+        let (note, behavior) = (&asked.sample.note, asked.behavior);
         let ours = library::get_splits(note, asked.list, number(behavior), way, starts.part(), ends.part());
         let (refusal, pairs): (u32, &[(u32, u32)]) = match &expected {
             Err(refusal) => (*refusal, &[]),
@@ -111,6 +111,9 @@ fn by_turns(tally: &mut Tally, sample: &Sample, list: &[u8], turn: usize, rooms:
     get_splits_so(tally, asked, WAYS[turn / 5 % 4], rooms, &|| format!("turn {turn}"));
 }
 
+/// A note, a list, whether offsets are of the transcript and in characters; the offsets.
+type Worked<'a> = (&'a Sample, &'a [u8], [bool; 2], &'a [(u32, u32)]);
+
 /// The answers are written down here, and both sides give them.
 fn worked_notes(tally: &mut Tally) {
     tally.family("worked notes");
@@ -121,7 +124,7 @@ fn worked_notes(tally: &mut Tally) {
     sliced.original_shift = 2;
     let sliced = Sample::from(sliced);
     let short = places::bytes(&at_dashes("é-é"));
-    let worked: [(&Sample, &[u8], [bool; 2], &[(u32, u32)]); 6] = [
+    let worked: [Worked; 6] = [
         (&fresh, &list, [true, false], &[(0, 4), (4, 10), (10, 11), (11, 21)]),
         (&fresh, &list, [true, true], &[(0, 3), (3, 9), (9, 10), (10, 20)]),
         (&fresh, &list, [false, true], &[(0, 3), (3, 9), (9, 10), (10, 20)]),
@@ -132,7 +135,7 @@ fn worked_notes(tally: &mut Tally) {
     ];
     for (sample, list, way, pairs) in worked {
         get_splits(tally, sample, list, notes::rooms, || "whole".into());
-        let behavior = if sample.lent.original_shift == 0 { MergedWithNext } else { Isolated };
+        let behavior = if sample.note.original_shift == 0 { MergedWithNext } else { Isolated };
         let theirs = expected(Asked { sample, list, behavior }, way).expect("it is accepted");
         tally.case("accepted", theirs != pairs, || format!("wanted {pairs:?}, theirs {theirs:?}"));
     }
@@ -201,7 +204,7 @@ fn around_blocks(tally: &mut Tally) {
 }
 
 fn long_lists(tally: &mut Tally) {
-    tally.family("notes of any make up to the limit, any list to 65536 places, in 9 rooms");
+    tally.family("notes of any make up to the limit, any list to one place more than the limit, in 9 rooms");
     let mut random = Random::new(102);
     for turn in 0..80 {
         let len = samples::long_len(turn, 3, &mut random);
@@ -217,7 +220,7 @@ fn lists_past_the_limit(tally: &mut Tally) {
     tally.family("lists of up to 1000000 bytes: more places than a text has bytes, empty ones, in 9 rooms");
     let sample = Sample::from(NormalizedString::from("aéb"));
     for matched in [false, true] {
-        for places in [65_534, 65_535, 65_536, 200_000] {
+        for places in [LIMIT - 1, LIMIT, LIMIT + 1, 200_000] {
             for at in [0, 4] {
                 let empty = vec![((at, at), matched); places];
                 let whole = vec![((0, 4), !matched)];
@@ -278,14 +281,14 @@ fn damaged_notes(tally: &mut Tally) {
     }
 }
 
-/// Any number but 1 to 4 stands for the last behaviour.
+/// Any number but 1 to 4 means the last behaviour.
 fn other_numbers(tally: &mut Tally) {
     tally.family("other numbers than those of the behaviours");
     let (sample, list) = (Sample::from(NormalizedString::from("a--é")), places::bytes(&at_dashes("a--é")));
     for number in OTHER_NUMBERS {
         for way in WAYS {
-            let [mut starts, mut ends] = [(); 2].map(|()| Lent::new(3));
-            let ours = library::get_splits(&sample.lent, &list, number, way, starts.part(), ends.part());
+            let [mut starts, mut ends] = [(); 2].map(|()| Guarded::new(3));
+            let ours = library::get_splits(&sample.note, &list, number, way, starts.part(), ends.part());
             let theirs = expected(Asked { sample: &sample, list: &list, behavior: Contiguous }, way);
             let (their_starts, their_ends): (Vec<u32>, Vec<u32>) = theirs.expect("the list covers").into_iter().unzip();
             let differs = ours.count != 3 || !starts.holds(&their_starts) || !ends.holds(&their_ends);
@@ -295,13 +298,13 @@ fn other_numbers(tally: &mut Tally) {
 }
 
 fn nothing_anywhere(tally: &mut Tally) {
-    tally.family("nothing lent, at any pointer");
+    tally.family("nothing passed, at any pointer");
     for address in ADDRESSES {
-        let (text, column, wide) = (address as *const u8, address as *const u16, address as *mut u32);
+        let (text, column, wide) = (address as *const u8, address as *const Offset, address as *mut u32);
         for behavior in BEHAVIORS {
             for [of_original, characters] in WAYS {
                 let ours = Count::from(unsafe {
-                    lend!(library::zulmyren_get_splits; plain text, plain 0, plain text, plain 0, plain column, plain 0,
+                    pass!(library::zulmyren_get_splits; plain text, plain 0, plain text, plain 0, plain column, plain 0,
                         plain column, plain 0, plain 0, plain text, plain 0, plain number(behavior), plain of_original,
                         plain characters, plain wide, plain 0, plain wide, plain 0)
                 });

@@ -1,6 +1,7 @@
 //! What a comparison found: for each call a block with its families of cases, what differed in them, and how often each
 //! answer was given. A family counts as one test.
 
+use crate::note::Offset;
 use crate::refusals;
 use std::process::ExitCode;
 
@@ -15,17 +16,27 @@ pub fn refusal(number: u32) -> &'static str {
 pub struct Report {
     /// What is compared: the calls whose name has this word.
     word: String,
+    /// The names of all calls.
+    names: Vec<String>,
     passed: u32,
     failed: u32,
 }
 
 impl Report {
-    pub fn of(word: String) -> Self {
-        Report { word, ..Report::default() }
+    pub fn of(word: &str) -> Self {
+        Report { word: word.into(), ..Report::default() }
+    }
+
+    /// Whether a call of this name is to be run.
+    pub fn asks_for(&mut self, name: &str) -> bool {
+        if !self.names.iter().any(|known| known == name) {
+            self.names.push(name.into());
+        }
+        name.contains(&self.word)
     }
 
     pub fn call(&mut self, name: &str, beside: &str, compare: impl FnOnce(&mut Tally)) {
-        if !name.contains(&self.word) {
+        if !self.asks_for(name) {
             return;
         }
         println!("{name} beside {beside}");
@@ -46,9 +57,17 @@ impl Report {
         }
     }
 
+    /// Prints how many tests passed. A run that tested nothing fails, too.
     pub fn finish(self) -> ExitCode {
+        if !self.names.iter().any(|name| name.contains(&self.word)) {
+            eprintln!("No call has \"{}\" in its name. The names are:\n{}", self.word, self.names.join("\n"));
+            return ExitCode::from(2);
+        }
         println!("{} passed, {} failed", self.passed, self.failed);
-        ExitCode::from(u8::from(self.failed > 0))
+        if self.passed + self.failed == 0 {
+            eprintln!("Nothing was tested.");
+        }
+        ExitCode::from(u8::from(self.passed == 0 || self.failed > 0))
     }
 }
 
@@ -123,7 +142,7 @@ pub fn hex(text: &[u8]) -> String {
 }
 
 /// A column in full, or a long one's beginning and length.
-pub fn numbers(column: &[u16]) -> String {
+pub fn numbers(column: &[Offset]) -> String {
     format!("{:?}{}", beginning(column), rest(column))
 }
 

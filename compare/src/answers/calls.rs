@@ -5,13 +5,14 @@ use crate::convert::{self, Call, CONVERT_OFFSETS, GET_RANGE, GET_RANGE_ORIGINAL}
 use crate::every;
 use crate::find;
 use crate::library::Offsets;
-use crate::list::Answers;
+use crate::list::{Answers, Replayed};
 use crate::lists::List;
 use crate::note::Note;
 use crate::notes::{self, FAULTS};
 use crate::places::{self, Place};
 use crate::positions;
 use crate::ranges::Sample;
+use crate::refusals::{ILL_FORMED, NO_ROOM};
 use crate::replace;
 use crate::texts::LIMIT;
 use std::str::from_utf8;
@@ -19,9 +20,9 @@ use tokenizers::NormalizedString;
 
 pub fn answers() -> [Answers; 11] {
     [
-        on_ranges("convert_offsets", &CONVERT_OFFSETS, 4),
-        on_ranges("get_range", &GET_RANGE, 2),
-        on_ranges("get_range_original", &GET_RANGE_ORIGINAL, 2),
+        on_ranges(Replayed::ConvertOffsets, &CONVERT_OFFSETS, 4),
+        on_ranges(Replayed::GetRange, &GET_RANGE, 2),
+        on_ranges(Replayed::GetRangeOriginal, &GET_RANGE_ORIGINAL, 2),
         parts(),
         converted_lists(),
         char_offsets(),
@@ -73,8 +74,8 @@ fn on_range(answers: &mut Answers, call: &Call, note: &Note, of_original: bool, 
 }
 
 /// Every range of the starting note with ends up to `last`, some of the others, and one of each faulty note.
-fn on_ranges(name: &'static str, call: &Call, last: usize) -> Answers {
-    let mut answers = Answers::new(name);
+fn on_ranges(replayed: Replayed, call: &Call, last: usize) -> Answers {
+    let mut answers = Answers::new(replayed);
     let some = [(0, 9), (8, 9), (2, 1), (900, 900), (0, LIMIT), (u32::MAX as usize, 0), (1, u32::MAX as usize)];
     for of_original in [false, true] {
         let [fresh, others @ ..] = notes();
@@ -103,7 +104,7 @@ fn part(answers: &mut Answers, texts: [&[u8]; 2], of_original: bool, (start, end
 }
 
 fn parts() -> Answers {
-    let mut answers = Answers::new("part");
+    let mut answers = Answers::new(Replayed::Part);
     for of_original in [false, true] {
         for range in every::pair(4).chain([(0, LIMIT), (u32::MAX as usize, u32::MAX as usize)]) {
             part(&mut answers, ["aé".as_bytes(), "漢".as_bytes()], of_original, range);
@@ -116,15 +117,15 @@ fn parts() -> Answers {
     answers
 }
 
-/// Starts and ends of the pairs, the lent numbers, starts and ends; the refusal, the three buffers.
-fn of_list(case: &mut Answers, list: &List, lent: u32, answer: impl Fn(u32, u32) -> Offsets) {
-    let refusal = list.refusal(lent);
+/// Starts and ends of the pairs, the passed numbers, starts and ends; the refusal, the three buffers.
+fn of_list(case: &mut Answers, list: &List, beside: u32, answer: impl Fn(u32, u32) -> Offsets) {
+    let refusal = list.refusal(beside);
     let answers: Vec<Offsets> = match refusal {
         0 => list.pairs().map(|(from, to)| answer(from, to)).collect(),
         _ => vec![],
     };
     let [numbers, starts, ends] = list.rooms;
-    case.numbers(&list.from).numbers(&list.to).lent_text(numbers).lent_numbers(starts).lent_numbers(ends);
+    case.numbers(&list.from).numbers(&list.to).passed_text(numbers).passed_numbers(starts).passed_numbers(ends);
     case.number(refusal).left_text(numbers, &answers.iter().map(|answer| answer.refusal as u8).collect::<Vec<u8>>());
     case.left_numbers(starts, &answers.iter().map(|answer| answer.start).collect::<Vec<u32>>());
     case.left_numbers(ends, &answers.iter().map(|answer| answer.end).collect::<Vec<u32>>());
@@ -147,14 +148,14 @@ fn lists() -> Vec<List> {
 
 /// A note, the text that the pairs are ranges of, a list.
 fn converted_lists() -> Answers {
-    let mut answers = Answers::new("convert_all");
+    let mut answers = Answers::new(Replayed::ConvertAll);
     let [fresh, replaced, ..] = notes();
     let sound = [fresh, replaced].map(|note| (note, lists()));
     let faulty = faulty_notes().map(|note| (note, vec![List::of(&[(0, 1)])]));
     for (note, lists) in sound.into_iter().chain(faulty) {
         let sample = Sample::from(note);
         for (list, of_original) in lists.iter().zip([true, false].into_iter().cycle()) {
-            answers.answer().note(&sample.lent).number(of_original.into());
+            answers.answer().note(&sample.note).number(of_original.into());
             let answer = |from, to| convert::expected(&sample, &CONVERT_OFFSETS, of_original, (from, to)).0;
             of_list(&mut answers, list, sample.refusal(), answer);
         }
@@ -164,7 +165,7 @@ fn converted_lists() -> Answers {
 
 /// A text, start, end; the refusal, the two indices.
 fn char_offsets() -> Answers {
-    let mut answers = Answers::new("char_offsets");
+    let mut answers = Answers::new(Replayed::CharOffsets);
     let mut answer = |sample: &positions::Sample, (start, end): (usize, usize)| {
         let (start, end) = (start as u32, end as u32);
         let answer = sample.expected(start, end);
@@ -188,7 +189,7 @@ fn char_offsets() -> Answers {
 
 /// A text, a list.
 fn char_offset_lists() -> Answers {
-    let mut answers = Answers::new("char_offsets_all");
+    let mut answers = Answers::new(Replayed::CharOffsetsAll);
     for text in [&b"abc"[..], "a漢b".as_bytes(), b"a\xFF", &[b'a'; LIMIT + 1], b""] {
         let sample = positions::Sample::from(text.to_vec());
         for list in lists() {
@@ -199,22 +200,22 @@ fn char_offset_lists() -> Answers {
     answers
 }
 
-/// A text, a literal, the lent list; the refusal, how many bytes are written, the list.
+/// A text, a literal, the passed list; the refusal, how many bytes are written, the list.
 fn find(answers: &mut Answers, text: &[u8], literal: &[u8], rooms: impl Fn(usize) -> Vec<usize>) {
     let list = find::expected(text, literal);
     for room in rooms(list.as_ref().map_or(0, Vec::len)) {
         let (refusal, list): (u32, &[u8]) = match &list {
             Err(refusal) => (*refusal, &[]),
-            Ok(list) if room < list.len() => (9, &[]),
+            Ok(list) if room < list.len() => (NO_ROOM, &[]),
             Ok(list) => (0, list),
         };
-        answers.answer().text(text).text(literal).lent_text(room);
+        answers.answer().text(text).text(literal).passed_text(room);
         answers.number(refusal).number(list.len() as u32).left_text(room, list);
     }
 }
 
 fn found() -> Answers {
-    let mut answers = Answers::new("find_matches");
+    let mut answers = Answers::new(Replayed::FindMatches);
     for literal in ["", "a", "aa", "é", "b", "aéb", "aéba", "x"] {
         for text in ["", "aéb", "aaaaa"] {
             find(&mut answers, text.as_bytes(), literal.as_bytes(), |len| vec![len, 1000]);
@@ -238,17 +239,17 @@ fn found() -> Answers {
     answers
 }
 
-/// A note, a list, a content, the lent text, starts and ends; the refusal, the size, the three buffers.
+/// A note, a list, a content, the passed text, starts and ends; the refusal, the size, the three buffers.
 fn replace(answers: &mut Answers, note: &Note, list: &[u8], content: &[u8], rooms: fn(usize) -> [usize; 3]) {
     let result = replace::expected(note, list, content);
     let room = rooms(result.as_ref().map_or(0, |result| result.normalized.len()));
     let (refusal, result) = match &result {
         Err(refusal) => (*refusal, None),
-        Ok(result) if room.iter().any(|&room| room < result.normalized.len()) => (9, None),
+        Ok(result) if room.iter().any(|&room| room < result.normalized.len()) => (NO_ROOM, None),
         Ok(result) => (0, Some(result)),
     };
     answers.answer().note(note).text(list).text(content);
-    answers.lent_text(room[0]).lent_column(room[1]).lent_column(room[2]);
+    answers.passed_text(room[0]).passed_column(room[1]).passed_column(room[2]);
     answers.number(refusal).number(result.map_or(0, |result| result.normalized.len() as u32));
     answers.left_text(room[0], result.map_or(&[], |result| &result.normalized));
     answers.left_column(room[1], result.map_or(&[], |result| &result.starts));
@@ -256,7 +257,7 @@ fn replace(answers: &mut Answers, note: &Note, list: &[u8], content: &[u8], room
 }
 
 fn replaced() -> Answers {
-    let mut answers = Answers::new("replace");
+    let mut answers = Answers::new(Replayed::Replace);
     let (nest, ab) = (["nest 12", "nest 47"], "ab");
     let digits: &[Place] = &[((0, 5), false), ((5, 7), true)];
     let before: &[Place] = &[((0, 0), true), ((0, 2), false)];
@@ -293,7 +294,7 @@ fn replaced() -> Answers {
 
 /// Two notes, a list, a filler; the refusal, 1 where what is published of both is alike.
 fn alike() -> Answers {
-    let mut answers = Answers::new("published_alike");
+    let mut answers = Answers::new(Replayed::PublishedAlike);
     let notes = ["n12", "n47", "n4", "né", "m12"].map(fresh);
     let lists = [vec![((0, 1), false), ((1, 3), true)], vec![((0, 1), true), ((1, 3), false), ((3, 3), true)]];
     let mut answer = |one: &Note, other: &Note, list: &[u8], filler: &[u8]| {
@@ -320,11 +321,11 @@ fn alike() -> Answers {
 
 fn redaction(text: &[u8], literal: &[u8], content: &[u8]) -> Result<Note, u32> {
     let list = find::expected(text, literal)?;
-    from_utf8(content).map_err(|_| 1_u32)?;
+    from_utf8(content).map_err(|_| ILL_FORMED)?;
     replace::expected(&notes::expected_from_text(text)?, &list, content)
 }
 
-/// A text, a literal, a content, the lent text and columns; the refusal, the size, the three buffers.
+/// A text, a literal, a content, the passed text and columns; the refusal, the size, the three buffers.
 fn redact(answers: &mut Answers, strings: [&[u8]; 3], rooms: impl Fn([usize; 3]) -> Vec<[usize; 3]>) {
     let [text, literal, content] = strings;
     let nothing = || Note { original: vec![], normalized: vec![], starts: vec![], ends: vec![], original_shift: 0 };
@@ -334,11 +335,11 @@ fn redact(answers: &mut Answers, strings: [&[u8]; 3], rooms: impl Fn([usize; 3])
     for room in rooms(sizes) {
         let (refusal, result) = match &result {
             Err(refusal) => (*refusal, nothing()),
-            Ok(_) if room.iter().zip(sizes).any(|(&room, size)| room < size) => (9, nothing()),
+            Ok(_) if room.iter().zip(sizes).any(|(&room, size)| room < size) => (NO_ROOM, nothing()),
             Ok(result) => (0, result.clone()),
         };
         answers.answer().text(text).text(literal).text(content);
-        answers.lent_text(room[0]).lent_column(room[1]).lent_column(room[2]);
+        answers.passed_text(room[0]).passed_column(room[1]).passed_column(room[2]);
         answers.number(refusal).number(result.normalized.len() as u32);
         answers.left_text(room[0], &result.normalized);
         answers.left_column(room[1], &result.starts).left_column(room[2], &result.ends);
@@ -356,7 +357,7 @@ fn around(sizes: [usize; 3]) -> Vec<[usize; 3]> {
 }
 
 fn redacted() -> Answers {
-    let mut answers = Answers::new("redact");
+    let mut answers = Answers::new(Replayed::Redact);
     for text in ["", "nest 12", "aéb", "aaé漢aa"] {
         for literal in ["", "12", "é", "aa", "aéb"] {
             for content in ["", "*", "漢x"] {

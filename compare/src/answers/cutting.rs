@@ -1,7 +1,7 @@
 //! The answers of splitting and split offsets.
 
 use super::calls::{faulty_notes, fresh};
-use crate::list::Answers;
+use crate::list::{Answers, Replayed};
 use crate::note::Note;
 use crate::places::{self, Place};
 use crate::ranges::Sample;
@@ -15,8 +15,8 @@ pub fn answers() -> [Answers; 2] {
     [pieces(), split_offsets()]
 }
 
-/// A note, a list, a behaviour, 1 where empty pieces are dropped, the six lent buffers; the refusal, the two numbers, the
-/// six buffers.
+/// A note, a list, a behaviour, 1 where empty pieces are dropped, the six passed buffers; the refusal, the two numbers,
+/// the six buffers.
 fn piece(answers: &mut Answers, asked: Asked, drop_empty: bool, rooms: &dyn Fn((usize, usize)) -> [usize; 6]) {
     let columns = asked.expected(drop_empty);
     let (pieces, alignments) = columns.as_ref().map_or((2, 2), Columns::sizes);
@@ -28,9 +28,9 @@ fn piece(answers: &mut Answers, asked: Asked, drop_empty: bool, rooms: &dyn Fn((
         Ok(columns) => (0, columns),
     };
     let (pieces, alignments) = columns.sizes();
-    answers.answer().note(&asked.sample.lent).text(asked.list).number(number(asked.behavior));
-    answers.number(drop_empty.into()).lent_column(room[0]).lent_column(room[1]).lent_numbers(room[2]);
-    answers.lent_column(room[3]).lent_column(room[4]).lent_column(room[5]);
+    answers.answer().note(&asked.sample.note).text(asked.list).number(number(asked.behavior));
+    answers.number(drop_empty.into()).passed_column(room[0]).passed_column(room[1]).passed_numbers(room[2]);
+    answers.passed_column(room[3]).passed_column(room[4]).passed_column(room[5]);
     answers.number(refusal).number(pieces as u32).number(alignments as u32);
     answers.left_column(room[0], &columns.starts).left_column(room[1], &columns.ends);
     answers.left_numbers(room[2], &columns.shifts).left_column(room[3], &columns.lengths);
@@ -59,7 +59,7 @@ fn to_cut() -> Vec<(Note, Vec<Place>)> {
 }
 
 fn pieces() -> Answers {
-    let mut answers = Answers::new("split");
+    let mut answers = Answers::new(Replayed::Split);
     for (note, places) in to_cut() {
         let (sample, list) = (Sample::from(note), places::bytes(&places));
         for behavior in BEHAVIORS {
@@ -95,7 +95,7 @@ fn pieces() -> Answers {
     answers
 }
 
-/// A note, a list, a behaviour, 1 for offsets in the transcript, 1 for characters, the lent starts and ends; the
+/// A note, a list, a behaviour, 1 for offsets in the transcript, 1 for characters, the passed starts and ends; the
 /// refusal, how many there are, the two buffers.
 fn offsets(answers: &mut Answers, asked: Asked, way: [bool; 2], rooms: fn(usize) -> [usize; 2]) {
     let pairs = splits::expected(asked, way);
@@ -107,13 +107,13 @@ fn offsets(answers: &mut Answers, asked: Asked, way: [bool; 2], rooms: fn(usize)
         Ok(pairs) => (0, pairs),
     };
     let (starts, ends): (Vec<u32>, Vec<u32>) = pairs.into_iter().unzip();
-    answers.answer().note(&asked.sample.lent).text(asked.list).number(number(asked.behavior));
-    answers.number(way[0].into()).number(way[1].into()).lent_numbers(room[0]).lent_numbers(room[1]);
+    answers.answer().note(&asked.sample.note).text(asked.list).number(number(asked.behavior));
+    answers.number(way[0].into()).number(way[1].into()).passed_numbers(room[0]).passed_numbers(room[1]);
     answers.number(refusal).number(starts.len() as u32).left_numbers(room[0], &starts).left_numbers(room[1], &ends);
 }
 
 fn split_offsets() -> Answers {
-    let mut answers = Answers::new("get_splits");
+    let mut answers = Answers::new(Replayed::GetSplits);
     let ways = [[false, false], [false, true], [true, false], [true, true]];
     for (note, places) in to_cut() {
         let (sample, list) = (Sample::from(note), places::bytes(&places));

@@ -3,7 +3,7 @@
 use super::calls::{faulty_notes, fresh, notes};
 use crate::edits::{bytes, Change, Edit};
 use crate::every;
-use crate::list::Answers;
+use crate::list::{Answers, Replayed};
 use crate::note::Note;
 use crate::refusals::NO_ROOM;
 use crate::samples::sound_notes;
@@ -13,11 +13,19 @@ use tokenizers::NormalizedString;
 use Edit::{Append, Clear, Filter, Map, Prepend, Transform, TransformRange};
 
 pub fn answers() -> [Answers; 7] {
-    [ranges(), scripts(), codes(), flags(), strings("append", Append), strings("prepend", Prepend), cleared()]
+    [
+        ranges(),
+        scripts(),
+        codes(),
+        flags(),
+        strings(Replayed::Append, Append),
+        strings(Replayed::Prepend, Prepend),
+        cleared(),
+    ]
 }
 
-/// A note, what the call is lent beside it, the lent text, starts and ends; the refusal, the sizes (how long the cleaned
-/// text was, which `clear` alone answers, and how long it is), the three buffers.
+/// A note, what the call is passed beside it, the passed text, starts and ends; the refusal, the sizes (how long the
+/// cleaned text was, which `clear` alone answers, and how long it is), the three buffers.
 fn edit(answers: &mut Answers, note: &Note, edit: &Edit, rooms: fn(usize) -> [usize; 3]) {
     let expected = edit.expected(note);
     let len = expected.as_ref().map_or(3, |made| made.note.normalized.len());
@@ -37,7 +45,7 @@ fn edit(answers: &mut Answers, note: &Note, edit: &Edit, rooms: fn(usize) -> [us
         Filter(bytes) | Append(bytes) | Prepend(bytes) => answers.text(bytes),
         Clear => answers,
     };
-    answers.lent_text(room[0]).lent_column(room[1]).lent_column(room[2]).number(refusal);
+    answers.passed_text(room[0]).passed_column(room[1]).passed_column(room[2]).number(refusal);
     if let Clear = edit {
         answers.number(before);
     }
@@ -58,7 +66,7 @@ const ROOMS: [fn(usize) -> [usize; 3]; 5] = [
     |len| [len, len, len.saturating_sub(1)],
 ];
 
-/// Fresh and edited notes, some with a shift; notes whose first character has no width, which stands before the whole
+/// Fresh and edited notes, some with a shift; notes whose first character has no width, which is before the whole
 /// transcript's range; notes without a cleaned text, and without a transcript.
 fn samples() -> Vec<Note> {
     let made = |text: &str, edit: fn(&mut NormalizedString)| {
@@ -117,7 +125,7 @@ fn longest() -> Note {
 }
 
 fn ranges() -> Answers {
-    let mut answers = Answers::new("transform_range");
+    let mut answers = Answers::new(Replayed::TransformRange);
     let named = [(0, 4), (1, 3), (0, 1), (1, 1), (2, 4), (3, 1), (0, 9), (4, 4)];
     for (i, note) in samples().iter().enumerate() {
         for (j, script) in SCRIPTS.iter().enumerate() {
@@ -149,7 +157,7 @@ fn ranges() -> Answers {
 }
 
 fn scripts() -> Answers {
-    let mut answers = Answers::new("transform");
+    let mut answers = Answers::new(Replayed::Transform);
     for note in samples() {
         for script in SCRIPTS {
             for offset in [0, 1] {
@@ -174,7 +182,7 @@ fn scripts() -> Answers {
 }
 
 fn codes() -> Answers {
-    let mut answers = Answers::new("map");
+    let mut answers = Answers::new(Replayed::Map);
     let codes = ['x', 'é', '日', '😀', '\u{10FFFF}', '\0'].map(u32::from);
     let given = |len: usize, from: usize| (0..len).map(|i| codes[(from + i) % codes.len()]).collect::<Vec<u32>>();
     for note in samples() {
@@ -203,7 +211,7 @@ fn codes() -> Answers {
 }
 
 fn flags() -> Answers {
-    let mut answers = Answers::new("filter");
+    let mut answers = Answers::new(Replayed::Filter);
     for note in samples() {
         let len = characters(&note);
         for flags in every::list(&[0, 1], len.min(4)) {
@@ -225,8 +233,8 @@ fn flags() -> Answers {
     answers
 }
 
-fn strings(name: &'static str, joined: fn(Vec<u8>) -> Edit) -> Answers {
-    let mut answers = Answers::new(name);
+fn strings(call: Replayed, joined: fn(Vec<u8>) -> Edit) -> Answers {
+    let mut answers = Answers::new(call);
     for note in samples() {
         for string in ["", "x", "é", "日x", "x😀é"] {
             edit(&mut answers, &note, &joined(string.into()), ample);
@@ -252,7 +260,7 @@ fn strings(name: &'static str, joined: fn(Vec<u8>) -> Edit) -> Answers {
 }
 
 fn cleared() -> Answers {
-    let mut answers = Answers::new("clear");
+    let mut answers = Answers::new(Replayed::Clear);
     for note in samples() {
         for rooms in ROOMS.into_iter().chain([ample as fn(usize) -> [usize; 3]]) {
             edit(&mut answers, &note, &Clear, rooms);

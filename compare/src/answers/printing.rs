@@ -1,45 +1,43 @@
 //! The answers of the program `pieces`: what it prints, from the original's own split and slices.
 
-use crate::list::Answers;
-use crate::pieces::{expected, input};
+use crate::list::{Answers, Replayed};
+use crate::pieces::{expected, input, LONGEST, READ};
 use crate::random::Random;
-
-/// The most bytes of the literal and of the note.
-const LONGEST: usize = 8_192;
 
 /// An input; what is printed of it.
 pub fn printed() -> Answers {
-    let mut answers = Answers::new("pieces");
-    let notes = under_every_behavior().into_iter().chain(other_digits()).chain(other_shapes());
+    let mut answers = Answers::new(Replayed::Pieces);
+    let notes = under_every_behavior().into_iter().chain(side_by_side()).chain(other_digits()).chain(other_shapes());
     for input in notes.chain(around_what_is_kept()).chain(any()) {
         answers.answer().text(&input).text(&expected(&input));
     }
     answers
 }
 
-/// Literals and notes: nowhere, everywhere, beside each other, overlapping, at the limit and past it, not UTF-8.
+/// Literals and notes: nowhere, everywhere, beside each other, overlapping.
+const PAIRS: [(&str, &str); 16] = [
+    ("-", "the-final--countdown"),
+    ("-", ""),
+    ("", "abc"),
+    ("", ""),
+    ("a", "a"),
+    ("a", "aa"),
+    ("x", "abc"),
+    ("é", "aébécéé"),
+    ("-", "-a"),
+    ("-", "a-"),
+    ("aa", "aaaaa"),
+    ("\r", "a\rb\r\r"),
+    ("\0", "a\0b\0\0"),
+    ("-\r", "a-\rb"),
+    ("1", "111"),
+    ("5", "555"),
+];
+
+/// These, and others at the limit and past it, and not UTF-8.
 fn under_every_behavior() -> Vec<Vec<u8>> {
     let long = |byte: u8, len: usize| vec![byte; len];
-    let mut pairs: Vec<(Vec<u8>, Vec<u8>)> = [
-        ("-", "the-final--countdown"),
-        ("-", ""),
-        ("", "abc"),
-        ("", ""),
-        ("a", "a"),
-        ("a", "aa"),
-        ("x", "abc"),
-        ("é", "aébécéé"),
-        ("-", "-a"),
-        ("-", "a-"),
-        ("aa", "aaaaa"),
-        ("\r", "a\rb\r\r"),
-        ("\0", "a\0b\0\0"),
-        ("-\r", "a-\rb"),
-        ("1", "111"),
-        ("5", "555"),
-    ]
-    .map(|(literal, note)| (literal.into(), note.into()))
-    .to_vec();
+    let mut pairs: Vec<(Vec<u8>, Vec<u8>)> = PAIRS.map(|(literal, note)| (literal.into(), note.into())).to_vec();
     for past in [0, 1] {
         pairs.push((long(b'a', LONGEST + past), b"b".to_vec()));
         pairs.push((b"a".to_vec(), long(b'b', LONGEST + past)));
@@ -51,14 +49,15 @@ fn under_every_behavior() -> Vec<Vec<u8>> {
         pairs.push((literal.repeat(LONGEST + 1), note.to_vec()));
     }
     pairs.push((b"a".to_vec(), [long(b'a', LONGEST - 1), b"\xC3".to_vec()].concat()));
-    let mut inputs: Vec<Vec<u8>> =
-        pairs.iter().flat_map(|(literal, note)| (b'1'..=b'5').map(move |digit| input(literal, digit, note))).collect();
-    // Matches side by side over a whole note: no piece, and one.
-    for (literal, note) in [("a", "a".repeat(LONGEST)), ("é", "é".repeat(LONGEST / 2)), ("a", "a".repeat(LONGEST + 1))]
-    {
-        inputs.extend([b'1', b'5'].map(|digit| input(literal.as_bytes(), digit, note.as_bytes())));
-    }
-    inputs
+    pairs.iter().flat_map(|(literal, note)| (b'1'..=b'5').map(move |digit| input(literal, digit, note))).collect()
+}
+
+/// Matches side by side over a whole note: no piece, and one.
+fn side_by_side() -> Vec<Vec<u8>> {
+    let all = [("a", "a".repeat(LONGEST)), ("é", "é".repeat(LONGEST / 2)), ("a", "a".repeat(LONGEST + 1))];
+    let both =
+        |(literal, note): &(&str, String)| [b'1', b'5'].map(|digit| input(literal.as_bytes(), digit, note.as_bytes()));
+    all.iter().flat_map(both).collect()
 }
 
 /// Second lines that are no digit from 1 to 5, beside other faults.
@@ -71,7 +70,7 @@ fn other_digits() -> Vec<Vec<u8>> {
     lines.iter().flat_map(beside).collect()
 }
 
-/// Fewer lines and more, and bytes behind the last.
+/// Fewer lines and more, and bytes after the last.
 fn other_shapes() -> Vec<Vec<u8>> {
     let short: [&[u8]; 14] = [
         b"",
@@ -107,7 +106,7 @@ fn around_what_is_kept() -> Vec<Vec<u8>> {
         (b"-\n1\na-b\n", b'z', b""),
     ];
     let mut inputs = vec![];
-    for len in (16_380..=16_390).step_by(2).chain([16_387, 16_389, 16_400, 65_535, 65_536, 65_537]) {
+    for len in (16_380..=16_390).step_by(2).chain([16_387, 16_389, 16_400, READ - 1, READ, READ + 1]) {
         let filled =
             |(front, byte, end): (&[u8], u8, &[u8])| [front, &vec![byte; len - front.len() - end.len()], end].concat();
         inputs.extend(ends.map(filled));

@@ -1,13 +1,13 @@
-//! Lent buffers for a note that a call publishes or leaves.
+//! Buffers for a note that a call publishes or leaves.
 
 use crate::library::Publishing;
-use crate::note::Note;
+use crate::note::{Note, Offset};
 use crate::texts::LIMIT;
 
 pub struct Buffers {
     out: Vec<u8>,
-    out_starts: Vec<u16>,
-    out_ends: Vec<u16>,
+    out_starts: Vec<Offset>,
+    out_ends: Vec<Offset>,
 }
 
 impl Buffers {
@@ -17,7 +17,7 @@ impl Buffers {
         Buffers { out: vec![0; LIMIT], out_starts, out_ends }
     }
 
-    pub fn lent(&mut self) -> Publishing<'_> {
+    pub fn out(&mut self) -> Publishing<'_> {
         Publishing { text: &mut self.out, starts: &mut self.out_starts, ends: &mut self.out_ends }
     }
 
@@ -29,7 +29,7 @@ impl Buffers {
         self.out_ends[..len].copy_from_slice(&result.ends);
     }
 
-    /// Whether a result stands here.
+    /// Whether a result is here.
     pub fn hold(&self, result: &Note) -> bool {
         self.out.starts_with(&result.normalized)
             && self.out_starts.starts_with(&result.starts)

@@ -1,7 +1,7 @@
 //! Well-formedness, letters and character positions.
 
 use super::layouts::Marked;
-use super::{at_most, everywhere, side, timed, Bench, Side, Table, NO_AIM, RUST, SIMDUTF8};
+use super::{side, timed, Bench, Side, Table, RUST, SIMDUTF8};
 use crate::library::{self, Columns};
 use crate::lists::List;
 use crate::positions::shuffle;
@@ -13,16 +13,16 @@ use tokenizers::pre_tokenizer::Converter;
 
 /// Beside `core::str::from_utf8` and `simdutf8::basic::from_utf8`.
 const WELL_FORMED: Table =
-    Table::new("`well_formed`", &[(RUST, at_most(1.0)), (SIMDUTF8, [Some(1.2), Some(1.2), Some(1.2), Some(2.2)])]);
+    Table::new("`well_formed`", &[RUST.at_most([0.61, 0.11, 0.14, 0.29]), SIMDUTF8.at_most([1.3, 1.1, 1.3, 2.2])]);
 
 /// Beside `core::str::from_utf8` or `simdutf8`, and `chars().count()`.
-const LETTER_COUNT: Table = Table::new("`letter_count`, which checks the text", &[(RUST, NO_AIM), (SIMDUTF8, NO_AIM)]);
+const LETTER_COUNT: Table = Table::new("`letter_count`, which checks the text", &[RUST, SIMDUTF8]);
 
 /// Beside `BytesToCharOffsetConverter` built and asked 8,000 times.
-const CHAR_OFFSETS: Table = Table::new("`char_offsets_all`, 8,000 pairs in order", &[(RUST, everywhere(0.01))]);
+const CHAR_OFFSETS: Table =
+    Table::new("`char_offsets_all`, 8,000 pairs in order", &[RUST.at_most([0.0077, 0.0083, 0.0084, 0.0093])]);
 
-const CHAR_OFFSETS_SHUFFLED: Table =
-    Table::new("`char_offsets_all`, 8,000 pairs in random order", &[(RUST, NO_AIM)]);
+const CHAR_OFFSETS_SHUFFLED: Table = Table::new("`char_offsets_all`, 8,000 pairs in random order", &[RUST]);
 
 pub fn bench(bench: &mut Bench) {
     bench.table(&WELL_FORMED, well_formed);
@@ -69,7 +69,7 @@ pub struct Answers {
 }
 
 impl Answers {
-    pub fn lent(&mut self) -> Columns<'_> {
+    pub fn out(&mut self) -> Columns<'_> {
         self.numbers.resize(8_000, 0);
         self.starts.resize(8_000, 0);
         self.ends.resize(8_000, 0);
@@ -83,7 +83,7 @@ fn char_offsets(texts: &[Marked], pairs: Vec<Vec<Range<usize>>>) -> Vec<Side<'_>
     let mut theirs = vec![None; 8_000];
     vec![
         side(move |i| {
-            let (from, to, out) = (black_box(&lists[i].from), black_box(&lists[i].to), ours.lent());
+            let (from, to, out) = (black_box(&lists[i].from), black_box(&lists[i].to), ours.out());
             timed(|| library::char_offsets_all(black_box(texts[i].bytes()), from, to, out))
         }),
         side(move |i| {

@@ -2,7 +2,7 @@
 
 use super::characters::{list_of, Answers};
 use super::layouts::{self, Marked};
-use super::{at_most, everywhere, side, timed, Bench, Side, Table, NO_AIM, RUST};
+use super::{side, timed, Bench, Side, Table, RUST};
 use crate::library;
 use crate::texts;
 use std::hint::black_box;
@@ -11,21 +11,19 @@ use tokenizers::NormalizedString;
 
 const NEAR_THE_END: Table = Table::new(
     "`convert_offsets`, 51 bytes near the original's end to normalized, check included",
-    &[(RUST, at_most(1.0))],
+    &[RUST.at_most([0.15, 0.27, 0.28, 0.33])],
 );
 
 const FROM_THE_BEGINNING: Table =
-    Table::new("`convert_offsets`, from the original's beginning to near its end, check included", &[(RUST, NO_AIM)]);
+    Table::new("`convert_offsets`, from the original's beginning to near its end, check included", &[RUST]);
 
-const BEYOND_THE_CHECK: Table = Table::beyond(
-    "`check_note`",
-    "`convert_offsets`, 51 bytes near the original's end to normalized",
-    &[(RUST, NO_AIM)],
-);
+const BEYOND_THE_CHECK: Table =
+    Table::new("`convert_offsets`, 51 bytes near the original's end to normalized", &[RUST]).beyond("`check_note`");
 
 /// Beside 8,000 calls of `NormalizedString::convert_offsets`.
 const LISTS: Table =
-    Table::beyond("`check_note`", "`convert_all`, 8,000 ranges normalized to original", &[(RUST, everywhere(0.5))]);
+    Table::new("`convert_all`, 8,000 ranges normalized to original", &[RUST.at_most([0.52, 0.53, 0.53, 0.52])])
+        .beyond("`check_note`");
 
 pub fn bench(bench: &mut Bench) {
     bench.table(&NEAR_THE_END, |texts| walk(texts, |text| text.len() - 60));
@@ -40,7 +38,7 @@ pub fn bench(bench: &mut Bench) {
 
 /// The check of the starting notes.
 fn check(texts: &[Marked]) -> Side<'_> {
-    let notes = layouts::lent(&fresh(texts));
+    let notes = layouts::notes(&fresh(texts));
     side(move |i| timed(|| library::check_note(black_box(&notes[i]))))
 }
 
@@ -51,7 +49,7 @@ fn fresh(texts: &[Marked]) -> Vec<NormalizedString> {
 /// Wherever the range begins, the alignments are walked from the first to its end.
 fn walk(texts: &[Marked], begin: fn(&str) -> usize) -> Vec<Side<'_>> {
     let theirs = fresh(texts);
-    let notes = layouts::lent(&theirs);
+    let notes = layouts::notes(&theirs);
     let range = move |i: usize| {
         let text: &str = &texts[i].text;
         let cut = |at| texts::boundary_before(text, at);
@@ -71,13 +69,13 @@ fn walk(texts: &[Marked], begin: fn(&str) -> usize) -> Vec<Side<'_>> {
 
 fn lists(texts: &[Marked]) -> Vec<Side<'_>> {
     let theirs = fresh(texts);
-    let notes = layouts::lent(&theirs);
+    let notes = layouts::notes(&theirs);
     let ranges: Vec<_> = texts.iter().map(Marked::ranges).collect();
     let lists: Vec<_> = ranges.iter().map(|ranges| list_of(ranges)).collect();
     let (mut answers, mut their_answers) = (Answers::default(), vec![None; 8_000]);
     vec![
         side(move |i| {
-            let (from, to, out) = (black_box(&lists[i].from), black_box(&lists[i].to), answers.lent());
+            let (from, to, out) = (black_box(&lists[i].from), black_box(&lists[i].to), answers.out());
             timed(|| library::convert_all(black_box(&notes[i]), false, from, to, out))
         }),
         check(texts),

@@ -1,21 +1,19 @@
 //! Finding a literal.
 
 use super::layouts::{any_list, LEN, LITERAL};
-use super::{at_most, side, timed, Bench, Other, Side, Table, MEMMEM, NO_AIM, RUST, SIMDUTF8};
+use super::{side, timed, Bench, Other, Side, Table, MEMMEM, RUST, SIMDUTF8};
 use crate::library;
 use memchr::memmem;
 use std::hint::black_box;
 use tokenizers::pattern::Pattern;
 
 /// Beside `find_matches` of a `&str`, `simdutf8` and `memchr::memmem`, and `memchr::memmem` alone.
-const OTHERS: &[Other] = &[(RUST, NO_AIM), (SIMDUTF8, NO_AIM), (MEMMEM, NO_AIM)];
+const OTHERS: &[Other] = &[RUST, SIMDUTF8, MEMMEM];
 
-const EVERYWHERE: Table = Table::new("`find_matches` of a literal that stands every 45 bytes", OTHERS);
+const EVERYWHERE: Table = Table::new("`find_matches` of a literal every 45 bytes", OTHERS);
 
-const NOWHERE: Table = Table::new(
-    "`find_matches` of a literal that is nowhere",
-    &[(RUST, NO_AIM), (SIMDUTF8, at_most(1.3)), (MEMMEM, NO_AIM)],
-);
+const NOWHERE: Table =
+    Table::new("`find_matches` of a literal that is nowhere", &[RUST, SIMDUTF8.at_most([1.4, 1.2, 1.3, 2.1]), MEMMEM]);
 
 const NEARLY: Table = Table::new("`find_matches` of a literal that nearly matches at every byte", OTHERS);
 

@@ -86,7 +86,8 @@ impl Marked {
         note
     }
 
-    /// 8,000 ranges of the longest text, fewer of a shorter one, in order and on boundaries, as a tokenizer leaves them.
+    /// 8,000 ranges of the longest text, fewer of a shorter one, in order and on boundaries, as a tokenizer leaves
+    /// them.
     pub fn ranges(&self) -> Vec<Range<usize>> {
         let count = (8_000 * self.text.len()).div_ceil(LEN);
         let cut = |i: usize| texts::boundary_before(&self.text, i * self.text.len() / count);
@@ -95,7 +96,7 @@ impl Marked {
 }
 
 /// The library's form of each note.
-pub fn lent(notes: &[NormalizedString]) -> Vec<Note> {
+pub fn notes(notes: &[NormalizedString]) -> Vec<Note> {
     notes.iter().map(Note::from).collect()
 }
 

@@ -1,21 +1,21 @@
 //! The starting note and the check of a note.
 
 use super::layouts::{self, Marked, LEN};
-use super::{at_most, side, timed, Bench, Side, Table, COPYING, NO_AIM, RUST};
+use super::{side, timed, Bench, Side, Table, COPYING, RUST};
 use crate::library;
 use crate::note::Note;
 use std::hint::black_box;
 use tokenizers::NormalizedString;
 
 /// Each beside `NormalizedString::from`.
-const CHECK_FRESH: Table = Table::new("`check_note` of the starting note", &[(RUST, at_most(0.20))]);
+const CHECK_FRESH: Table = Table::new("`check_note` of the starting note", &[RUST.at_most([0.043, 0.075, 0.12, 0.13])]);
 
 const CHECK_EDITED: Table = Table::new(
     "`check_note` of a note with each literal replaced, the general way",
-    &[(RUST, [Some(0.20), Some(0.20), Some(0.35), None])],
+    &[RUST.at_most([0.071, 0.2, 0.3, 0.32])],
 );
 
-const FROM_TEXT: Table = Table::new("`from_text`", &[(RUST, NO_AIM), (COPYING, NO_AIM)]);
+const FROM_TEXT: Table = Table::new("`from_text`", &[RUST, COPYING]);
 
 pub fn bench(bench: &mut Bench) {
     bench.table(&CHECK_FRESH, |texts| check(texts, texts.iter().map(Marked::fresh)));
@@ -38,7 +38,7 @@ fn from(text: &str) -> std::time::Duration {
 fn from_text(texts: &[Marked]) -> Vec<Side<'_>> {
     let (mut starts, mut ends) = (vec![0; LEN], vec![0; LEN]);
     let (mut copied_starts, mut copied_ends) = (vec![0; LEN], vec![0; LEN]);
-    let notes = layouts::lent(&texts.iter().map(Marked::fresh).collect::<Vec<_>>());
+    let notes = layouts::notes(&texts.iter().map(Marked::fresh).collect::<Vec<_>>());
     vec![
         side(move |i| timed(|| library::from_text(black_box(texts[i].bytes()), &mut starts, &mut ends))),
         side(|i| from(&texts[i].text)),

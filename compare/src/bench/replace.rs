@@ -2,7 +2,7 @@
 
 use super::buffers::Buffers;
 use super::layouts::{self, any_list, Marked, FILLER, LITERAL};
-use super::{at_most, everywhere, side, timed, Bench, Other, Side, Table, COPYING, NO_AIM, RUST};
+use super::{side, timed, Bench, Other, Side, Table, COPYING, RUST};
 use crate::library::{self, Count};
 use crate::note::Note;
 use crate::places::Handed;
@@ -12,29 +12,24 @@ use tokenizers::pattern::Pattern;
 use tokenizers::NormalizedString;
 
 /// Beside `replace`, which does not check, and copying the result's bytes and columns.
-const REPLACE: Table = Table {
-    in_rotation: true,
-    ..Table::new(
-        "`replace` of a list on a ready note, which it checks",
-        &[(RUST, [Some(0.20), None, None, None]), (COPYING, NO_AIM)],
-    )
-};
+const REPLACE: Table = Table::new(
+    "`replace` of a list on a ready note, which it checks",
+    &[RUST.at_most([0.21, 0.27, 0.27, 0.3]).in_rotation([0.21, 0.24, 0.24, 0.26]), COPYING],
+);
 
 const FROM_TEXT_AND_REPLACE: Table = Table::new("`from_text` and `replace` of a list", FROM_AND_REPLACE);
 
 const THREE_CALLS: Table =
     Table::new("`from_text`, `find_matches` and `replace`, each with its own checks", FROM_AND_REPLACE);
 
-const REDACT: Table = Table {
-    of_regular: Some(1.15),
-    ..Table::new(
-        "`redact`: finding, checks and alignments included",
-        &[(RUST, everywhere(0.10)), (COPYING, at_most(4.0))],
-    )
-};
+const REDACT: Table = Table::new(
+    "`redact`: finding, checks and alignments included",
+    &[RUST.at_most([0.07, 0.079, 0.098, 0.12]), COPYING.at_most([4.1, 5.3, 5.4, 6.8])],
+)
+.of_regular([1.2, 1.2, 1.2, 1.1]);
 
 /// Beside `from` and `replace`, and copying the result's bytes and columns.
-const FROM_AND_REPLACE: &[Other] = &[(RUST, NO_AIM), (COPYING, NO_AIM)];
+const FROM_AND_REPLACE: &[Other] = &[RUST, COPYING];
 
 /// Other literals and fillers than the bench's.
 const REDACTIONS: [(&str, &str, &str); 3] = [
@@ -54,13 +49,13 @@ pub fn bench(bench: &mut Bench) {
 }
 
 fn replace_of(note: &Note, list: &[u8], buffers: &mut Buffers) -> Count {
-    library::replace(black_box(note), black_box(list), black_box(FILLER.as_bytes()), buffers.lent())
+    library::replace(black_box(note), black_box(list), black_box(FILLER.as_bytes()), buffers.out())
 }
 
 /// Copying each text's published note.
 fn copying<'a>(texts: &[Marked], literal: &str, filler: &str) -> Side<'a> {
     let results: Vec<_> = texts.iter().map(|text| text.replaced(literal, filler)).collect();
-    let results = layouts::lent(&results);
+    let results = layouts::notes(&results);
     let mut buffers = Buffers::new();
     side(move |i| timed(|| black_box(&mut buffers).copy(black_box(&results[i]))))
 }
@@ -77,7 +72,7 @@ fn from_and_replace(text: &str, pattern: impl Pattern, filler: &str) -> Duration
 
 fn replace(texts: &[Marked]) -> Vec<Side<'_>> {
     let ready: Vec<NormalizedString> = texts.iter().map(Marked::fresh).collect();
-    let notes = layouts::lent(&ready);
+    let notes = layouts::notes(&ready);
     let lists: Vec<Vec<u8>> = texts.iter().map(Marked::list).collect();
     let mut buffers = Buffers::new();
     assert!((0..texts.len()).all(|i| replace_of(&notes[i], &lists[i], &mut buffers).refusal == 0));
@@ -95,7 +90,7 @@ fn replace(texts: &[Marked]) -> Vec<Side<'_>> {
 }
 
 fn from_text_and_replace(texts: &[Marked]) -> Vec<Side<'_>> {
-    let mut notes = layouts::lent(&texts.iter().map(Marked::fresh).collect::<Vec<_>>());
+    let mut notes = layouts::notes(&texts.iter().map(Marked::fresh).collect::<Vec<_>>());
     let lists: Vec<Vec<u8>> = texts.iter().map(Marked::list).collect();
     let mut buffers = Buffers::new();
     vec![
@@ -112,7 +107,7 @@ fn from_text_and_replace(texts: &[Marked]) -> Vec<Side<'_>> {
 }
 
 fn three_calls(texts: &[Marked]) -> Vec<Side<'_>> {
-    let mut notes = layouts::lent(&texts.iter().map(Marked::fresh).collect::<Vec<_>>());
+    let mut notes = layouts::notes(&texts.iter().map(Marked::fresh).collect::<Vec<_>>());
     let (mut buffers, mut list) = (Buffers::new(), any_list());
     vec![
         side(move |i| {
@@ -132,7 +127,7 @@ fn redact<'a>(texts: &'a [Marked], literal: &'static str, filler: &'static str) 
     let mut buffers = Buffers::new();
     let mut ours = move |i: usize| {
         let [text, literal, filler] = [texts[i].bytes(), literal.as_bytes(), filler.as_bytes()].map(black_box);
-        library::redact(text, literal, filler, buffers.lent())
+        library::redact(text, literal, filler, buffers.out())
     };
     assert!((0..texts.len()).all(|i| ours(i).refusal == 0));
     vec![

@@ -1,16 +1,18 @@
 //! Slicing.
 
 use super::layouts::{self, Marked, LEN};
-use super::{at_most, side, timed, Bench, Side, Table, RUST};
+use super::{side, timed, Bench, Side, Table, RUST};
 use crate::library;
 use crate::texts;
 use std::hint::black_box;
 use tokenizers::normalizer::Range;
 use tokenizers::NormalizedString;
 
-const SLICE: Table = Table::new("`slice`, half of the cleaned text, check included", &[(RUST, at_most(0.5))]);
+const SLICE: Table =
+    Table::new("`slice`, half of the cleaned text, check included", &[RUST.at_most([0.44, 0.74, 0.87, 0.92])]);
 
-const SLICE_ORIGINAL: Table = Table::new("`slice`, half of the transcript, check included", &[(RUST, at_most(0.5))]);
+const SLICE_ORIGINAL: Table =
+    Table::new("`slice`, half of the transcript, check included", &[RUST.at_most([0.095, 0.17, 0.13, 0.21])]);
 
 pub fn bench(bench: &mut Bench) {
     bench.table(&SLICE, |texts| slice(texts, false));
@@ -19,7 +21,7 @@ pub fn bench(bench: &mut Bench) {
 
 fn slice(texts: &[Marked], of_original: bool) -> Vec<Side<'_>> {
     let theirs: Vec<NormalizedString> = texts.iter().map(Marked::fresh).collect();
-    let notes = layouts::lent(&theirs);
+    let notes = layouts::notes(&theirs);
     let half = |i: usize| {
         let text: &str = &texts[i].text;
         let cut = |at| texts::boundary_before(text, at);

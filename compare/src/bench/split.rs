@@ -1,9 +1,9 @@
 //! Splitting and split offsets.
 
 use super::layouts::{self, Marked, LEN};
-use super::{at_most, side, timed, Bench, Side, Table, FEWER, NO_AIM, RUST};
+use super::{side, timed, Bench, Side, Table, FEWER, RUST};
 use crate::library::{self, Count, Cut, Cutting};
-use crate::note::Note;
+use crate::note::{Note, Offset};
 use crate::places::{self, Handed, Place};
 use crate::split::number;
 use crate::texts;
@@ -15,27 +15,25 @@ use tokenizers::{NormalizedString, OffsetReferential};
 const MANY: usize = 10_000;
 
 /// Beside `NormalizedString::split` of a list, which does not check; its pieces are freed after the clock is read.
-const SPLIT: Table = Table::new("`split` into 10,000 pieces, check included", &[(RUST, at_most(0.05))]);
+const SPLIT: Table =
+    Table::new("`split` into 10,000 pieces, check included", &[RUST.at_most([0.08, 0.09, 0.09, 0.094])]);
 
-const CONTIGUOUS: Table =
-    Table::new("`split` of 10,000 places that are by turns matched, Contiguous", &[(RUST, NO_AIM)]);
+const CONTIGUOUS: Table = Table::new("`split` of 10,000 places that are by turns matched, Contiguous", &[RUST]);
 
-const MERGED: Table =
-    Table::new("`split` of 10,000 places into 5,000 pieces, MergedWithPrevious", &[(RUST, NO_AIM)]);
+const MERGED: Table = Table::new("`split` of 10,000 places into 5,000 pieces, MergedWithPrevious", &[RUST]);
 
-const GROWTH: Table = Table::new("`split` into 10,000 pieces beside 1,250", &[(FEWER, at_most(1.5))]);
+const GROWTH: Table = Table::new("`split` into 10,000 pieces beside 1,250", &[FEWER.at_most([3.2, 2.5, 2.5, 2.3])]);
 
 /// Beside `PreTokenizedString::split` of a list, and `get_splits`.
 const CHARACTERS: Table = Table::new(
     "`get_splits` of 10,000 pieces, transcript, in characters, check included",
-    &[(RUST, at_most(0.01))],
+    &[RUST.at_most([0.0095, 0.019, 0.019, 0.02])],
 );
 
-const BYTES: Table =
-    Table::new("`get_splits` of 10,000 pieces, transcript, in bytes, check included", &[(RUST, NO_AIM)]);
+const BYTES: Table = Table::new("`get_splits` of 10,000 pieces, transcript, in bytes, check included", &[RUST]);
 
 const OFFSETS_GROWTH: Table =
-    Table::new("`get_splits` of 10,000 pieces, in characters, beside 1,250", &[(FEWER, at_most(1.5))]);
+    Table::new("`get_splits` of 10,000 pieces, in characters, beside 1,250", &[FEWER.at_most([4.4, 2.9, 2.8, 2.6])]);
 
 pub fn bench(bench: &mut Bench) {
     bench.table(&SPLIT, |texts| split(texts, Isolated));
@@ -57,14 +55,14 @@ fn cut(text: &str, count: usize) -> Vec<Place> {
     (0..count).map(|i| ((at(i), at(i + 1)), i % 2 == 1)).collect()
 }
 
-/// Lent buffers for the pieces of a note.
+/// Buffers for the pieces of a note.
 struct Buffers {
-    starts: Vec<u16>,
-    ends: Vec<u16>,
+    starts: Vec<Offset>,
+    ends: Vec<Offset>,
     shifts: Vec<u32>,
-    lengths: Vec<u16>,
-    alignment_starts: Vec<u16>,
-    alignment_ends: Vec<u16>,
+    lengths: Vec<Offset>,
+    alignment_starts: Vec<Offset>,
+    alignment_ends: Vec<Offset>,
 }
 
 impl Buffers {
@@ -93,7 +91,7 @@ fn lists(texts: &[Marked], count: usize) -> Vec<Vec<u8>> {
 }
 
 fn our_split(texts: &[Marked], count: usize, behavior: SplitDelimiterBehavior) -> Side<'_> {
-    let (notes, lists) = (layouts::lent(&fresh(texts)), lists(texts, count));
+    let (notes, lists) = (layouts::notes(&fresh(texts)), lists(texts, count));
     let mut buffers = Buffers::new();
     assert!((0..texts.len()).all(|i| buffers.split(&notes[i], &lists[i], behavior).refusal == 0));
     side(move |i| timed(|| buffers.split(&notes[i], &lists[i], behavior)))
@@ -112,7 +110,7 @@ fn split(texts: &[Marked], behavior: SplitDelimiterBehavior) -> Vec<Side<'_>> {
 }
 
 fn our_splits(texts: &[Marked], count: usize, characters: bool) -> Side<'_> {
-    let (notes, lists) = (layouts::lent(&fresh(texts)), lists(texts, count));
+    let (notes, lists) = (layouts::notes(&fresh(texts)), lists(texts, count));
     let (mut starts, mut ends) = (vec![0; MANY], vec![0; MANY]);
     let mut ours = move |i: usize| -> Count {
         let (note, list): (&Note, &[u8]) = (black_box(&notes[i]), black_box(&lists[i]));

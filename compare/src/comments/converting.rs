@@ -52,7 +52,7 @@ fn empty_ranges(tally: &mut Tally) {
     let mut note = NormalizedString::from("abc");
     note.prepend("x");
     code_answers(tally, "abc with x in front", "xabc", note.get());
-    // Before `b`, which stands at 1 in the one text and at 2 in the other.
+    // Before `b`, which is at 1 in the one text and at 2 in the other.
     converts(tally, &note, Original(1..1), Some(1..1));
     converts(tally, &note, Original(1..2), Some(2..3));
 }

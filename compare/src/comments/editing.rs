@@ -87,24 +87,24 @@ fn transforms(tally: &mut Tally, text: &str, (start, end): (u32, u32), changes: 
 }
 
 fn longer_than_the_limit(tally: &mut Tally) {
-    tally.family("a string that makes the cleaned text longer than 65535 bytes is taken; here it is 9");
+    tally.family("a string that makes the cleaned text longer than the limit is taken; here it is 9");
     let string = "x".repeat(LIMIT);
-    let (mut behind, mut before) = (fresh("a"), fresh("a"));
-    let lens = [behind.append(&string).len(), before.prepend(&string).len()];
-    code_answers(tally, "a and 65535 x", [LIMIT + 1; 2], lens);
+    let (mut after, mut before) = (fresh("a"), fresh("a"));
+    let lens = [after.append(&string).len(), before.prepend(&string).len()];
+    code_answers(tally, "a and as many x as the limit", [LIMIT + 1; 2], lens);
     refuses(tally, &fresh("a"), &Edit::Append(string.clone().into()), NO_ROOM);
     refuses(tally, &fresh("a"), &Edit::Prepend(string.into()), NO_ROOM);
 }
 
 fn no_character_left(tally: &mut Tally) {
-    tally.family("where no character is left to replace, the Rust panics or reads on behind its range; here it is 7");
+    tally.family("where no character is left to replace, the Rust panics or reads on past its range; here it is 7");
     let three: [Change; 3] = [('x', 0), ('y', 0), ('z', 0)];
     code_answers(tally, "ab, three", true, panics(|| fresh("ab").transform_range(Normalized(0..2), three, 0)));
     refuses(tally, &fresh("ab"), &ranged(0, 2, &three, 0), EXHAUSTED);
-    let behind: [Change; 3] = [('x', 0), ('y', 0), ('z', 1)];
+    let after: [Change; 3] = [('x', 0), ('y', 0), ('z', 1)];
     let said: Left = ("xyzb", &[(0, 1), (1, 2), (0, 1), (1, 2)]);
-    let edit = |note: &mut NormalizedString| note.transform_range(Normalized(0..1), behind, 0);
-    leaves(tally, &fresh("ab"), edit, (&ranged(0, 1, &behind, 0), EXHAUSTED), said);
+    let edit = |note: &mut NormalizedString| note.transform_range(Normalized(0..1), after, 0);
+    leaves(tally, &fresh("ab"), edit, (&ranged(0, 1, &after, 0), EXHAUSTED), said);
     let left = Note::from(&note_of("ab", said.0, said.1));
     code_answers(tally, "xyzb", [MISALIGNED; 2], [left.refusal(), library::check_note(&left)]);
     code_answers(tally, "map", true, panics(|| moved("ab").map(|c| c).get().to_owned()));
@@ -193,7 +193,7 @@ fn characters_of_the_cleaned_text(tally: &mut Tally) {
 }
 
 fn whole_note(tally: &mut Tally) {
-    tally.family("filter goes over the whole transcript's range, and leaves what stands before it");
+    tally.family("filter goes over the whole transcript's range, and leaves what is before it");
     let edit = |note: &mut NormalizedString| _ = note.filter(|c| c == 'a');
     leaves(tally, &moved("ab"), edit, (&Edit::Filter(vec![1, 0]), 0), ("aa", &[(0, 0), (1, 2)]));
     let edit = |note: &mut NormalizedString| _ = note.filter(|_| false);
@@ -226,7 +226,7 @@ fn prepending(tally: &mut Tally) {
 }
 
 fn clearing(tally: &mut Tally) {
-    tally.family("clear leaves what stands before the first alignment that is not empty");
+    tally.family("clear leaves what is before the first alignment that is not empty");
     let note = moved("aé");
     code_answers(tally, "clear answers", [3, 3], [note.clone().clear() as u32, cleared(&note)]);
     leaves(tally, &note, |note| _ = note.clear(), (&Edit::Clear, 0), ("a", &[(0, 0)]));

@@ -23,7 +23,7 @@ pub fn compare(tally: &mut Tally) {
 }
 
 fn texts(tally: &mut Tally) {
-    tally.family("a text of 65536 bytes; bytes that are no text");
+    tally.family("a text of one byte more than the limit; bytes that are no text");
     let (mut starts, mut ends) = (vec![0; LIMIT + 1], vec![0; LIMIT + 1]);
     for (len, refusal) in [(LIMIT, 0), (LIMIT + 1, TOO_LONG)] {
         let text = "a".repeat(len);
@@ -34,17 +34,17 @@ fn texts(tally: &mut Tally) {
 }
 
 fn results(tally: &mut Tally) {
-    tally.family("a result of 65536 bytes");
+    tally.family("a result of one byte more than the limit");
     let (note, filler) = (NormalizedString::from("a"), "x".repeat(LIMIT + 1));
     let mut theirs = note.clone();
     theirs.replace("a", &filler).expect("a literal is a regular expression");
-    code_answers(tally, "a by 65536 x", LIMIT + 1, theirs.len());
+    code_answers(tally, "a by more x than the limit", LIMIT + 1, theirs.len());
     let ours = made::replaced(&Note::from(&note), &[((0, 1), true)], &filler);
-    code_answers(tally, "a by 65536 x", Some(NO_ROOM), ours.err());
+    code_answers(tally, "a by more x than the limit", Some(NO_ROOM), ours.err());
 }
 
 fn shifts(tally: &mut Tally) {
-    tally.family("a shift and a transcript of 65536 bytes together");
+    tally.family("a shift and a transcript that together are one past the limit");
     let text = NormalizedString::from("a".repeat(LIMIT + 1));
     let slice = text.slice(Range::Original(LIMIT..LIMIT + 1)).expect("both ends are boundaries");
     code_answers(tally, "the last byte", (LIMIT, LIMIT + 1), slice.offsets_original());

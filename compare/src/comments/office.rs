@@ -4,7 +4,7 @@ use super::code_answers;
 use crate::edits::{bytes, Edit};
 use crate::library::{self, Comparison, Offsets};
 use crate::made;
-use crate::note::Note;
+use crate::note::{Note, Offset};
 use crate::places::{self, Place};
 use crate::tally::Tally;
 use crate::texts::LIMIT;
@@ -27,7 +27,13 @@ fn fresh(text: &str) -> Note {
 }
 
 /// The text and the alignments that are published.
-fn published(tally: &mut Tally, note: &Note, places: &[Place], filler: &str, said: (&str, &[u16], &[u16])) -> Note {
+fn published(
+    tally: &mut Tally,
+    note: &Note,
+    places: &[Place],
+    filler: &str,
+    said: (&str, &[Offset], &[Offset]),
+) -> Note {
     let published = made::replaced(note, places, filler).expect("the list covers");
     let Note { normalized, starts, ends, .. } = &published;
     let answer = (normalized.as_slice(), starts.as_slice(), ends.as_slice());
@@ -86,8 +92,8 @@ fn without(text: &str, start: u32, end: u32) -> Note {
 fn edited_before(tally: &mut Tally) {
     let added = edited(&fresh("ab"), &Edit::TransformRange((false, 1, 1), bytes(&[('x', 1)]), 0));
     let put_before = |string: &str| edited(&fresh("ab"), &Edit::Prepend(string.into()));
-    let put_behind = |string: &str| edited(&fresh("ab"), &Edit::Append(string.into()));
-    type Run<'a> = (Note, &'a str, (usize, usize), &'a str, (&'a str, &'a [u16], &'a [u16]));
+    let put_after = |string: &str| edited(&fresh("ab"), &Edit::Append(string.into()));
+    type Run<'a> = (Note, &'a str, (usize, usize), &'a str, (&'a str, &'a [Offset], &'a [Offset]));
     let behind_removed = Edit::TransformRange((false, 1, 4), bytes(&[('b', -1), ('x', 1)]), 0);
     let runs: [Run; 16] = [
         (mapped("José x", without_accent), "Jose x", (0, 4), "#", ("# x", &[3, 5, 6], &[5, 6, 7])),
@@ -102,8 +108,8 @@ fn edited_before(tally: &mut Tally) {
         (edited(&fresh("abé"), &behind_removed), "abx", (2, 3), "#", ("ab#", &[0, 1, 2], &[1, 2, 4])),
         (put_before("Al "), "Al ab", (0, 2), "#", ("# ab", &[0, 0, 0, 1], &[1, 1, 1, 2])),
         (put_before("José "), "José ab", (0, 5), "#", ("# ab", &[0, 0, 0, 1], &[1, 1, 1, 2])),
-        (put_behind(" Al"), "ab Al", (3, 5), "#", ("ab #", &[0, 1, 1, 1], &[1, 2, 2, 2])),
-        (put_behind(" José"), "ab José", (3, 8), "#", ("ab #", &[0, 1, 1, 1], &[1, 2, 2, 2])),
+        (put_after(" Al"), "ab Al", (3, 5), "#", ("ab #", &[0, 1, 1, 1], &[1, 2, 2, 2])),
+        (put_after(" José"), "ab José", (3, 8), "#", ("ab #", &[0, 1, 1, 1], &[1, 2, 2, 2])),
         (mapped("12", |_| '漢'), "漢漢", (0, 6), "#", ("#", &[1], &[2])),
         (mapped("é漢", |_| '1'), "11", (0, 2), "#", ("#", &[2], &[5])),
     ];

@@ -82,8 +82,8 @@ fn splits(tally: &mut Tally) {
     for (transcript, cleaned) in [("é a", "e a"), ("e a", "é a")] {
         let mut note = NormalizedString::from(transcript);
         note.map(|c| if c == ' ' || c == 'a' { c } else { cleaned.chars().next().unwrap_or(c) });
-        let (whole, lent) = (places::bytes(&[((0, note.len()), false)]), Note::from(&note));
-        code_answers(tally, transcript, Ok(vec![(0, 2)]), splits_here(&lent, &whole, Isolated, [false, true]));
+        let (whole, here) = (places::bytes(&[((0, note.len()), false)]), Note::from(&note));
+        code_answers(tally, transcript, Ok(vec![(0, 2)]), splits_here(&here, &whole, Isolated, [false, true]));
         let splits = PreTokenizedString::from(note);
         let splits = splits.get_splits(OffsetReferential::Normalized, OffsetType::Char);
         code_answers(tally, transcript, vec![(cleaned, (0, 2), &None)], splits);

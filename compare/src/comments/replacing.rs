@@ -22,7 +22,7 @@ pub fn compare(tally: &mut Tally) {
     inverted(tally);
 }
 
-/// What stands in `replace`'s comment, for each matched place; `moved` adds the earlier changes of length to its range.
+/// What `replace`'s comment says, for each matched place; `moved` adds the earlier changes of length to its range.
 fn transformed(note: &NormalizedString, places: &[Place], content: &str, moved: bool) -> NormalizedString {
     let mut note = note.clone();
     let mut change = 0;

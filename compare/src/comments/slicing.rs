@@ -72,11 +72,11 @@ fn empty_slices(tally: &mut Tally) {
     code_answers(tally, "漢", (1, 1), wide.slice(Normalized(1..1)).map_or((0, 0), |slice| slice.offsets_original()));
     // Inside a letter of the cleaned text, where the range is of the transcript.
     slices(tally, &note_of("ab", "漢", &[(0, 2); 3]), Original(1..1), Ok(("", "", 1)));
-    // Past the limit: what is answered is no note that could be lent again.
+    // Past the limit: what is answered is no note that could be passed again.
     let last = NormalizedString::of_fields("".into(), "abc".into(), vec![(0, 0); 3], LIMIT);
     slices(tally, &last, Normalized(3..3), Ok(("", "", LIMIT + 3)));
     let slice = made::sliced(&Note::from(&last), Normalized(3..3)).map(|slice| slice.refusal());
-    code_answers(tally, "shift 65538", Ok(TOO_LONG), slice);
+    code_answers(tally, "a shift past the limit", Ok(TOO_LONG), slice);
 }
 
 fn transcript_without_text(tally: &mut Tally) {

@@ -85,9 +85,9 @@ fn empty_places(tally: &mut Tally) {
     splits(tally, "", &[], Isolated, &[]);
 }
 
-/// The place ends at the number of characters: what stands behind is lost, and where it ends inside one, `split` panics.
+/// The place ends at the number of characters: what is after it is lost, and where it ends inside one, `split` panics.
 fn empty_literal(tally: &mut Tally) {
-    tally.family("split by an empty literal loses what stands past the character count, or panics");
+    tally.family("split by an empty literal loses what is past the character count, or panics");
     for behavior in BEHAVIORS {
         for (text, said) in [("", Some("")), ("ab", Some("ab")), ("éa", Some("é")), ("é", None), ("aé漢😀", None)]
         {

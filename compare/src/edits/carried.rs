@@ -1,5 +1,5 @@
-//! Results carried on: what a call left is lent to the next one, on both sides, through edits, slices, replacements and
-//! pieces.
+//! Results carried on: what a call left is passed to the next one, on both sides, through edits, slices, replacements
+//! and pieces.
 
 use super::edit::Edit;
 use super::long::EVERY;
@@ -17,7 +17,7 @@ use tokenizers::normalizer::{Range, SplitDelimiterBehavior};
 use tokenizers::NormalizedString;
 
 pub fn compare(tally: &mut Tally) {
-    tally.family("what a call left, lent to the next: chains of up to 40 edits, slices, replacements and pieces");
+    tally.family("what a call left, passed to the next: chains of up to 40 edits, slices, replacements and pieces");
     let mut random = Random::new(95);
     for turn in 0..3_000 {
         let len = random.below([12, 60, 300, 2_000][turn % 4]);
@@ -129,7 +129,7 @@ fn piece(ours: &Note, theirs: &NormalizedString, random: &mut Random) -> Step {
 
 /// What is left after `clear` takes every edit again.
 fn after_clear(tally: &mut Tally) {
-    tally.family("what clear, and filter that keeps nothing, leave, lent to every call");
+    tally.family("what clear, and filter that keeps nothing, leave, passed to every call");
     let mut random = Random::new(96);
     for turn in 0..1_500 {
         let len = random.below([6, 60, 300][turn % 3]);

@@ -1,7 +1,7 @@
-//! The seven calls: what each is lent beside a note, what the Rust original makes of it, and what ours answers. The
+//! The seven calls: what each is passed beside a note, what the Rust original makes of it, and what ours answers. The
 //! refusals are judged a second time, from docs/RULES.md.
 
-use crate::lent::Lent;
+use crate::guarded::Guarded;
 use crate::library::{self, Count, Lengths, Publishing};
 use crate::note::Note;
 use crate::refusals::{
@@ -19,7 +19,10 @@ use tokenizers::NormalizedString;
 /// A character and its change, as the Rust takes them.
 pub type Change = (char, isize);
 
-/// A call with what it is lent beside a note and room: scripts with the initial offset, code points, flags, strings.
+/// The most characters that one command removes: its operand has two bytes.
+pub const MOST_REMOVED: isize = u16::MAX as isize;
+
+/// A call with what it is passed beside a note and room: scripts with the initial offset, code points, flags, strings.
 #[derive(Clone, Debug)]
 pub enum Edit {
     TransformRange((bool, u32, u32), Vec<u8>, u32),
@@ -212,14 +215,14 @@ pub fn bytes(changes: &[Change]) -> Vec<u8> {
 pub fn changes(mut script: &[u8]) -> Option<Vec<Change>> {
     let mut changes = vec![];
     while let Some((&number, operands)) = script.split_first() {
-        let (code, behind) = operands.split_first_chunk()?;
+        let (code, after) = operands.split_first_chunk()?;
         let character = char::from_u32(u32::from_le_bytes(*code))?;
-        let (change, behind) = match number {
-            1 => (0, behind),
-            2 => (1, behind),
+        let (change, after) = match number {
+            1 => (0, after),
+            2 => (1, after),
             3 => {
-                let (count, behind) = behind.split_first_chunk()?;
-                (-isize::try_from(u16::from_le_bytes(*count)).expect("16 bits"), behind)
+                let (count, after) = after.split_first_chunk()?;
+                (-isize::try_from(u16::from_le_bytes(*count)).expect("16 bits"), after)
             }
             _ => return None,
         };
@@ -227,12 +230,12 @@ pub fn changes(mut script: &[u8]) -> Option<Vec<Change>> {
             return None;
         }
         changes.push((character, change));
-        script = behind;
+        script = after;
     }
     Some(changes)
 }
 
-/// What is done to keep characters: each replaces itself and removes those that are dropped behind it.
+/// What is done to keep characters: each replaces itself and removes those that are dropped after it.
 fn kept(text: &str, flags: &[u8]) -> (Vec<Change>, u32) {
     let mut changes: Vec<Change> = vec![];
     let mut ahead = 0;
@@ -287,7 +290,7 @@ pub fn check_beside(
     };
     let nothing = Note::default();
     for room in rooms(len) {
-        let (mut text, mut starts, mut ends) = (Lent::new(room[0]), Lent::new(room[1]), Lent::new(room[2]));
+        let (mut text, mut starts, mut ends) = (Guarded::new(room[0]), Guarded::new(room[1]), Guarded::new(room[2]));
         let ours = edit.ours(note, Publishing { text: text.part(), starts: starts.part(), ends: ends.part() });
         let (refusal, before, left) = match &expected {
             Err(refusal) => (*refusal, 0, &nothing),

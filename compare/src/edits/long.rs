@@ -1,7 +1,7 @@
 //! Edits of longer notes: of any make, of every length to 300 and around multiples of a block's, up to the limit, and
 //! results around it.
 
-use super::edit::{bytes, check, Change, Edit};
+use super::edit::{bytes, check, Change, Edit, MOST_REMOVED};
 use crate::note::Note;
 use crate::random::Random;
 use crate::replace::rooms;
@@ -62,8 +62,8 @@ fn of_any_make(tally: &mut Tally, any: Any, seed: u64) {
         let note = samples::any(len, &mut random);
         check(tally, &Note::from(&note), &any(&note, &mut random), rooms);
     }
-    tally.family("starting notes of every length to 300, and of up to 65535 around multiples of 64, in 9 rooms");
-    let around = [512, 4_096, 16_384, 32_768, 65_472, 65_535];
+    tally.family("starting notes of every length to 300, and of up to the limit around multiples of 64, in 9 rooms");
+    let around = [512, 4_096, 16_384, 32_768, LIMIT / 64 * 64, LIMIT];
     let lens = (0..=300).chain(around.into_iter().flat_map(|len| [len - 1, len, (len + 1).min(LIMIT)]));
     for len in lens {
         for unit in UNITS {
@@ -93,7 +93,7 @@ fn any_changes(characters: usize, random: &mut Random) -> Vec<Change> {
         let change = match random.below(8) {
             turn if turn < added && (left == 0 || turn == 0) => 1,
             7 if left > 3 => -(1 + random.below(3) as isize),
-            6 if random.below(40) == 0 => -[1, 16, 300, 65_535][random.below(4)],
+            6 if random.below(40) == 0 => -[1, 16, 300, MOST_REMOVED][random.below(4)],
             _ if left == 0 && !wasteful => 1,
             _ => 0,
         };
@@ -184,7 +184,7 @@ fn any_string(random: &mut Random) -> String {
 }
 
 fn at_every_offset(tally: &mut Tally) {
-    tally.family("a character replaced, added behind, removed with the next, of every range of one at offsets to 200");
+    tally.family("a character replaced, added after, removed with the next, of every range of one at offsets to 200");
     let mut random = Random::new(88);
     for unit in UNITS {
         let text = texts::repeated(unit, 264);
@@ -209,7 +209,7 @@ fn at_every_offset(tally: &mut Tally) {
 
 pub fn around_the_limit(tally: &mut Tally) {
     tally.family(
-        "results of 65533 to 65538 and of 131075 bytes, put in, put beside and in the place of others, in 9 rooms",
+        "results about the limit and about twice it, put in, put beside and in the place of others, in 9 rooms",
     );
     for size in (LIMIT - 2..=LIMIT + 3).chain([2 * LIMIT + 5]) {
         for unit in ["a", "é", "漢", "😀"] {
@@ -226,7 +226,7 @@ pub fn around_the_limit(tally: &mut Tally) {
         }
         grown(tally, size);
     }
-    tally.family("strings and scripts past the limit on the empty text, and notes of 65535 bytes that stay or shrink");
+    tally.family("strings and scripts past the limit on the empty text, and notes at the limit that stay or shrink");
     let nothing = Note::from(&NormalizedString::from(""));
     for len in [LIMIT - 1, LIMIT, LIMIT + 1, LIMIT + 2, 2 * LIMIT + 2, 200_000] {
         let string = texts::repeated("a漢é😀", len);
@@ -289,7 +289,7 @@ fn full(tally: &mut Tally) {
         check(tally, &note, &Edit::Map(text.chars().map(u32::from).collect()), rooms);
         check(tally, &note, &Edit::Map(vec!['x'.into(); count]), rooms);
         check(tally, &note, &Edit::Clear, rooms);
-        let last = bytes(&[('x', -65_535)]);
+        let last = bytes(&[('x', -MOST_REMOVED)]);
         check(tally, &note, &Edit::Transform(last.clone(), 0), rooms);
         check(tally, &note, &Edit::Transform(last, count as u32 - 1), rooms);
         check(tally, &note, &Edit::TransformRange((false, LIMIT as u32, LIMIT as u32), bytes(&[('x', 1)]), 0), rooms);

@@ -5,13 +5,13 @@ use super::long::EVERY;
 use crate::characters::sequences;
 use crate::every;
 use crate::library::{self, Count, Lengths};
-use crate::note::Note;
+use crate::note::{Note, Offset};
 use crate::notes;
 use crate::random::Random;
 use crate::replace::{ample_or_none, Rooms};
 use crate::samples::{self, ADDRESSES};
 use crate::tally::{self, Tally};
-use crate::texts::{self, UNITS};
+use crate::texts::{self, LIMIT, UNITS};
 use tokenizers::NormalizedString;
 use Edit::{Append, Clear, Filter, Map, Prepend, Transform, TransformRange};
 
@@ -80,9 +80,9 @@ fn every_set_of_faults(tally: &mut Tally) {
     }
 }
 
-/// The first character stands before the whole transcript's range.
+/// The first character is before the whole transcript's range.
 fn nothing_left(tally: &mut Tally) {
-    tally.family("the same on notes whose first characters stand before the whole transcript's range");
+    tally.family("the same on notes whose first characters are before the whole transcript's range");
     let mut twice = moved("aéb").of_the_original();
     twice.prepend("x").prepend("");
     for note in [moved("aéb"), moved("éab"), moved("漢a"), Note::from(&twice), moved("a")] {
@@ -223,8 +223,8 @@ fn every_edge_of_code_points(tally: &mut Tally) {
     let note = Note::from(&NormalizedString::from("aéb"));
     for code in CODES {
         for command in 0..=4 {
-            for behind in [&[][..], &[1, 0], &[0, 0], &[0, 1]] {
-                let script = [&[command], &code.to_le_bytes()[..], behind].concat();
+            for after in [&[][..], &[1, 0], &[0, 0], &[0, 1]] {
+                let script = [&[command], &code.to_le_bytes()[..], after].concat();
                 check(tally, &note, &Transform(script, 0), ample_or_none);
             }
         }
@@ -253,7 +253,7 @@ fn other_counts(tally: &mut Tally) {
             let text = texts::repeated(unit, len);
             let note = Note::from(&NormalizedString::from(text.as_str()));
             let count = text.chars().count();
-            for count in [0, count.saturating_sub(1), count, count + 1, len, 2 * count, count + 65_536] {
+            for count in [0, count.saturating_sub(1), count, count + 1, len, 2 * count, count + (1 << 16)] {
                 if count > 300 && len % 35 > 0 {
                     continue;
                 }
@@ -265,7 +265,7 @@ fn other_counts(tally: &mut Tally) {
 }
 
 fn any_ends(tally: &mut Tally) {
-    tally.family("ranges whose ends are any number of 32 bits, at, before and behind every boundary");
+    tally.family("ranges whose ends are any number of 32 bits, at, before and after every boundary");
     let mut random = Random::new(93);
     for turn in 0..3_000 {
         let len = random.below([9, 70, 300][turn % 3]);
@@ -273,10 +273,10 @@ fn any_ends(tally: &mut Tally) {
         let end = |random: &mut Random| match random.below(12) {
             0 => u32::MAX,
             1 => u32::MAX - 1,
-            2 => 65_535 + random.below(3) as u32,
+            2 => (LIMIT + random.below(3)) as u32,
             3 => note.normalized.len() as u32,
             4 => note.original.len() as u32,
-            5 => note.original.len() as u32 + 65_536,
+            5 => note.original.len() as u32 + (1 << 16),
             _ => random.below(len + 3) as u32,
         };
         for script in [&[][..], &[('x', 1)], &[('x', 0)], &[('x', -1), ('é', 1)]] {
@@ -294,8 +294,8 @@ fn ill_formed_strings(tally: &mut Tally) {
     let notes = [0, 1 << 3, 1 << 7].map(notes::with).into_iter().chain([Note::default()]);
     for note in notes {
         for sequence in sequences() {
-            for (before, behind) in [(0, 0), (1, 1), (63, 70), (126, 0), (128, 131)] {
-                let string = [&b"a".repeat(before), &sequence[..], &b"a".repeat(behind)].concat();
+            for (before, after) in [(0, 0), (1, 1), (63, 70), (126, 0), (128, 131)] {
+                let string = [&b"a".repeat(before), &sequence[..], &b"a".repeat(after)].concat();
                 check(tally, &note, &Append(string.clone()), ample_or_none);
                 check(tally, &note, &Prepend(string), ample_or_none);
             }
@@ -304,13 +304,13 @@ fn ill_formed_strings(tally: &mut Tally) {
 }
 
 fn nothing_anywhere(tally: &mut Tally) {
-    tally.family("nothing lent, at any pointer");
+    tally.family("nothing passed, at any pointer");
     for address in ADDRESSES {
-        let (text, column, codes) = (address as *const u8, address as *const u16, address as *const u32);
-        let (out, written) = (address as *mut u8, address as *mut u16);
+        let (text, column, codes) = (address as *const u8, address as *const Offset, address as *const u32);
+        let (out, written) = (address as *mut u8, address as *mut Offset);
         macro_rules! on_nothing {
-            ($call:ident $(, $lent:expr)*) => {
-                library::$call(text, 0, text, 0, column, 0, column, 0, 0 $(, $lent)*, out, 0, written, 0, written, 0)
+            ($call:ident $(, $passed:expr)*) => {
+                library::$call(text, 0, text, 0, column, 0, column, 0, 0 $(, $passed)*, out, 0, written, 0, written, 0)
             };
         }
         let ours = unsafe {

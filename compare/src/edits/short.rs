@@ -2,7 +2,7 @@
 
 use super::edit::{bytes, check_sound, starves, Change, Edit};
 use crate::every;
-use crate::note::Note;
+use crate::note::{Note, Offset};
 use crate::refusals::{EXHAUSTED, NOT_BOUNDARY};
 use crate::replace::Rooms;
 use crate::samples::sound_notes;
@@ -55,7 +55,7 @@ fn scripts(len: usize, characters: &[char]) -> Vec<Vec<Change>> {
 }
 
 /// Of the starting note of `aéb`: range, script, offset, and the text and alignments that it leaves, or the refusal.
-type Worked<'a> = ((bool, u32, u32), &'a [Change], u32, Result<(&'a str, &'a [(u16, u16)]), u32>);
+type Worked<'a> = ((bool, u32, u32), &'a [Change], u32, Result<(&'a str, &'a [(Offset, Offset)]), u32>);
 
 /// The table of docs/RULES.md, 7: both sides give these answers.
 fn worked_edits(tally: &mut Tally) {
@@ -131,7 +131,7 @@ fn ranges(
     }
 }
 
-/// The Rust reads behind its range where there is something: on the note cut at the range's end it panics instead.
+/// The Rust reads past its range where there is something: on the note cut at the range's end it panics instead.
 fn judged_by_the_rust(tally: &mut Tally) {
     tally.family("7 exactly where the Rust panics on the note cut at the range's end: scripts of up to 3, all offsets");
     let hook = panic::take_hook();
@@ -208,19 +208,19 @@ fn whole_range(note: &Note) -> Option<std::ops::Range<usize>> {
 }
 
 /// The header's words: what is kept takes the range's place, the i-th character with the alignment of the range's i-th.
-fn filtered(note: &Note, flags: &[u8]) -> Option<Vec<(char, (u16, u16))>> {
+fn filtered(note: &Note, flags: &[u8]) -> Option<Vec<(char, (Offset, Offset))>> {
     let text = std::str::from_utf8(&note.normalized).expect("a sound note");
-    let alignments: Vec<(u16, u16)> = note.alignments().collect();
+    let alignments: Vec<(Offset, Offset)> = note.alignments().collect();
     let all: Vec<(usize, char)> = text.char_indices().collect();
     let Some(range) = whole_range(note) else { return Some(vec![]) };
     let outside = |part: &[(usize, char)]| part.iter().map(|&(at, c)| (c, alignments[at])).collect::<Vec<_>>();
     let (before, rest) = all.split_at(text[..range.start].chars().count());
-    let (inside, behind) = rest.split_at(text[range].chars().count());
+    let (inside, after) = rest.split_at(text[range].chars().count());
     let mut left = outside(before);
     for (i, &(_, character)) in all.iter().enumerate().filter(|(i, _)| flags[*i] != 0) {
         left.push((character, alignments[inside.get(i)?.0]));
     }
-    left.extend(outside(behind));
+    left.extend(outside(after));
     Some(left)
 }
 
@@ -234,8 +234,8 @@ fn as_the_header_says(tally: &mut Tally) {
             let said = filtered(&note, &flags);
             let (answer, left) = Edit::Filter(flags.clone()).answer(&note, 32);
             let text = std::str::from_utf8(&left.normalized).expect("a sound note");
-            let alignments: Vec<(u16, u16)> = left.alignments().collect();
-            let made: Vec<(char, (u16, u16))> = text.char_indices().map(|(at, c)| (c, alignments[at])).collect();
+            let alignments: Vec<(Offset, Offset)> = left.alignments().collect();
+            let made: Vec<(char, (Offset, Offset))> = text.char_indices().map(|(at, c)| (c, alignments[at])).collect();
             let same =
                 if answer.refusal == 0 { said == Some(made) } else { answer.refusal == EXHAUSTED && said.is_none() };
             tally.case(crate::tally::refusal(answer.refusal), !same, || {

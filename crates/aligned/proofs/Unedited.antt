@@ -19,57 +19,59 @@ use Rattle.utf8.specs.Formed.{wellFormed, continues}
 use Rattle.validity.specs.Texts.{ascii}
 use Rattle.validity.proofs.Ascii.{ascii-at}
 use Rattle.note.specs.Notes.{lent, aligned}
-use Rattle.note.specs.Starting.{charStart, charEnd, starting}
-use Rattle.note.proofs.Starting.{Ranged, ranged, charEnd-continues, charEnd-begins, starting-sound}
-use Rattle.aligned.specs.Unedited.{carries, uneditedAt, unedited, ownBytes, untouched}
+use Rattle.utf8.specs.CharRanges.{charStart, charEnd}
+use Rattle.note.specs.Starting.{starting}
+use Rattle.utf8.proofs.CharRanges.{Ranged, ranged, charEnd-continues, charEnd-begins}
+use Rattle.note.proofs.Starting.{starting-sound}
+use Rattle.aligned.specs.IsStarting.{carriesOwn, charAlignedAt, isCharAligned, isIdentity, isStarting}
 
 -- one more index
 module _ (text starts ends : List ℕ) where
-  pub unedited-none : true ≡ unedited text starts ends 0
-  unfolding unedited everyBelow
+  pub unedited-none : true ≡ isCharAligned text starts ends 0
+  unfolding isCharAligned everyBelow
   unedited-none = refl
 
-  pub unedited-first : (ok : Bool) → ok ≡ (eqb (getD starts 0 0) 0 && eqb (getD ends (length text - 1) 0) (length text)) → ok ≡ unedited text starts ends 1
-  unfolding unedited everyBelow uneditedAt
+  pub unedited-first : (ok : Bool) → ok ≡ (eqb (getD starts 0 0) 0 && eqb (getD ends (length text - 1) 0) (length text)) → ok ≡ isCharAligned text starts ends 1
+  unfolding isCharAligned everyBelow charAlignedAt
   unedited-first ok e = e
 
-  pub unedited-more : (i : ℕ) (ok r : Bool) → 1 ≤ i → ok ≡ unedited text starts ends i → r ≡ carries (getD text i 0) (getD starts (i - 1) 0) (getD starts i 0) (getD ends (i - 1) 0) (getD ends i 0) i → (ok && r) ≡ unedited text starts ends (i + 1)
-  unfolding unedited uneditedAt
+  pub unedited-more : (i : ℕ) (ok r : Bool) → 1 ≤ i → ok ≡ isCharAligned text starts ends i → r ≡ carriesOwn (getD text i 0) (getD starts (i - 1) 0) (getD starts i 0) (getD ends (i - 1) 0) (getD ends i 0) i → (ok && r) ≡ isCharAligned text starts ends (i + 1)
+  unfolding isCharAligned charAlignedAt
   unedited-more zero ok r low p q = absurd (omega arith)
   unedited-more (suc i) ok r low p q =
       let one : suc i - 1 ≡ i = omega arith in
-      rw (every-suc (suc i) (uneditedAt text starts ends), p, q, one)
+      rw (every-suc (suc i) (charAlignedAt text starts ends), p, q, one)
 
 -- the test at one index by flags
 flagged : (more : Bool) (x a b : ℕ) → ((more && eqb x a) || (not more && eqb x b)) ≡ eqb x (cond more a b)
 flagged true x a b = true-or-false (eqb x a) (λ t. rw t) (λ f. rw f)
 flagged false x a b = refl
 
-pub carries-flags : (b s0 s1 e0 e1 i : ℕ) (more : Bool) → more ≡ continues b → (((more && eqb s1 s0) || (not more && eqb s1 i)) && ((more && eqb e0 e1) || (not more && eqb e0 i))) ≡ carries b s0 s1 e0 e1 i
-unfolding carries
+pub carries-flags : (b s0 s1 e0 e1 i : ℕ) (more : Bool) → more ≡ continues b → (((more && eqb s1 s0) || (not more && eqb s1 i)) && ((more && eqb e0 e1) || (not more && eqb e0 i))) ≡ carriesOwn b s0 s1 e0 e1 i
+unfolding carriesOwn
 carries-flags b s0 s1 e0 e1 i more e = rw (flagged more s1 s0 i, flagged more e0 e1 i, e)
 
 -- and what it says
-module _ (b s0 s1 e0 e1 i : ℕ) (e : carries b s0 s1 e0 e1 i ≡ true) where
+module _ (b s0 s1 e0 e1 i : ℕ) (e : carriesOwn b s0 s1 e0 e1 i ≡ true) where
   carries-start : s1 ≡ cond (continues b) s0 i
-  unfolding carries
+  unfolding carriesOwn
   carries-start = eqb-true _ _ (and-elim-left (eqb s1 (cond (continues b) s0 i)) _ e)
 
   carries-end : e0 ≡ cond (continues b) e1 i
-  unfolding carries
+  unfolding carriesOwn
   carries-end = eqb-true _ _ (and-elim-right (eqb s1 (cond (continues b) s0 i)) _ e)
 
 -- the columns, number by number: the starts forwards, the ends backwards
-module _ (text starts ends : List ℕ) (p : wellFormed text ≡ true) (e : unedited text starts ends (length text) ≡ true) where
+module _ (text starts ends : List ℕ) (p : wellFormed text ≡ true) (e : isCharAligned text starts ends (length text) ≡ true) where
   at-first : 0 < length text → (getD starts 0 0 ≡ 0) × (getD ends (length text - 1) 0 ≡ length text)
-  unfolding unedited uneditedAt
+  unfolding isCharAligned charAlignedAt
   at-first some =
-      let both = every-at (length text) (uneditedAt text starts ends) e 0 some in
+      let both = every-at (length text) (charAlignedAt text starts ends) e 0 some in
       (eqb-true _ _ (and-elim-left (eqb (getD starts 0 0) 0) _ both), eqb-true _ _ (and-elim-right (eqb (getD starts 0 0) 0) _ both))
 
-  at-next : (i : ℕ) → suc i < length text → carries (getD text (suc i) 0) (getD starts i 0) (getD starts (suc i) 0) (getD ends i 0) (getD ends (suc i) 0) (suc i) ≡ true
-  unfolding unedited uneditedAt
-  at-next i h = every-at (length text) (uneditedAt text starts ends) e (suc i) h
+  at-next : (i : ℕ) → suc i < length text → carriesOwn (getD text (suc i) 0) (getD starts i 0) (getD starts (suc i) 0) (getD ends i 0) (getD ends (suc i) 0) (suc i) ≡ true
+  unfolding isCharAligned charAlignedAt
+  at-next i h = every-at (length text) (charAlignedAt text starts ends) e (suc i) h
 
   unedited-start : (i : ℕ) → i < length text → getD starts i 0 ≡ charStart text i
   unfolding charStart
@@ -102,9 +104,9 @@ module _ (text starts ends : List ℕ) (p : wellFormed text ≡ true) (e : unedi
       rw (same, same₂)
 
 -- an ASCII text whose alignments are the bytes at their indices
-module _ (text starts ends : List ℕ) (small : ascii text ≡ true) (own : ownBytes starts ends (length text) ≡ true) where
+module _ (text starts ends : List ℕ) (small : ascii text ≡ true) (own : isIdentity starts ends (length text) ≡ true) where
   own-at : (i : ℕ) → i < length text → (getD starts i 0 ≡ i) × (getD ends i 0 ≡ i + 1)
-  unfolding ownBytes
+  unfolding isIdentity
   own-at i h =
       let both = every-at (length text) _ own i h in
       (eqb-true _ _ (and-elim-left (eqb (getD starts i 0) i) _ both), eqb-true _ _ (and-elim-right (eqb (getD starts i 0) i) _ both))
@@ -113,44 +115,44 @@ module _ (text starts ends : List ℕ) (small : ascii text ≡ true) (own : ownB
   unfolding continues within
   begins i h = rw (lt-leb 0x80 (getD text i 0) (ascii-at text small i h))
 
-  own-unedited-at : (i : ℕ) → i < length text → uneditedAt text starts ends i ≡ true
-  unfolding uneditedAt carries
+  own-unedited-at : (i : ℕ) → i < length text → charAlignedAt text starts ends i ≡ true
+  unfolding charAlignedAt carriesOwn
   own-unedited-at zero h =
       and-intro (eq-eqb _ _ (own-at 0 h .0)) (eq-eqb _ _ (own-at (length text - 1) (omega arith) .1 ∙ omega arith))
   own-unedited-at (suc i) h =
       rw (begins (suc i) h)
       (and-intro (eq-eqb _ _ (own-at (suc i) h .0)) (eq-eqb _ _ (own-at i (omega arith) .1 ∙ omega arith)))
 
-  own-unedited : unedited text starts ends (length text) ≡ true
-  unfolding unedited
+  own-unedited : isCharAligned text starts ends (length text) ≡ true
+  unfolding isCharAligned
   own-unedited = every-all (length text) _ own-unedited-at
 
--- how `ownBytes` is told
-pub own-none : (starts ends : List ℕ) → true ≡ ownBytes starts ends 0
-unfolding ownBytes everyBelow
+-- how `isIdentity` is told
+pub own-none : (starts ends : List ℕ) → true ≡ isIdentity starts ends 0
+unfolding isIdentity everyBelow
 own-none starts ends = refl
 
-pub own-more : (starts ends : List ℕ) (i at : ℕ) (ok : Bool) → at ≡ i → ok ≡ ownBytes starts ends i → (ok && (eqb (getD starts i 0) at && eqb (getD ends i 0) (at + 1))) ≡ ownBytes starts ends (i + 1)
-unfolding ownBytes
+pub own-more : (starts ends : List ℕ) (i at : ℕ) (ok : Bool) → at ≡ i → ok ≡ isIdentity starts ends i → (ok && (eqb (getD starts i 0) at && eqb (getD ends i 0) (at + 1))) ≡ isIdentity starts ends (i + 1)
+unfolding isIdentity
 own-more starts ends i at ok same p = rw (every-suc i _, same, p)
 
 -- by the text's kind
-pub untouched-ascii : (m s e : List ℕ) (r : Bool) → ascii m ≡ true → r ≡ ownBytes s e (length s) → r ≡ untouched m s e
-unfolding untouched
+pub untouched-ascii : (m s e : List ℕ) (r : Bool) → ascii m ≡ true → r ≡ isIdentity s e (length s) → r ≡ isStarting m s e
+unfolding isStarting
 untouched-ascii m s e r small is = rw small is
 
-pub untouched-other : (m s e : List ℕ) (r : Bool) → ascii m ≡ false → r ≡ unedited m s e (length m) → r ≡ untouched m s e
-unfolding untouched
+pub untouched-other : (m s e : List ℕ) (r : Bool) → ascii m ≡ false → r ≡ isCharAligned m s e (length m) → r ≡ isStarting m s e
+unfolding isStarting
 untouched-other m s e r large is = rw large is
 
-untouched-unedited : (m s e : List ℕ) → length s ≡ length m → untouched m s e ≡ true → unedited m s e (length m) ≡ true
-unfolding untouched
+untouched-unedited : (m s e : List ℕ) → length s ≡ length m → isStarting m s e ≡ true → isCharAligned m s e (length m) ≡ true
+unfolding isStarting
 untouched-unedited m s e long t =
     true-or-false (ascii m)
     (λ small. own-unedited m s e small (rw (small, long) at t))
     (λ large. rw large at t)
 
 -- such a note is aligned
-pub untouched-aligned : (o m s e : List ℕ) (r : Bool) → wellFormed m ≡ true → length s ≡ length m → length e ≡ length m → o ≡ m → r ≡ untouched m s e → r ≡ true → true ≡ aligned (lent o m s e 0)
+pub untouched-aligned : (o m s e : List ℕ) (r : Bool) → wellFormed m ≡ true → length s ≡ length m → length e ≡ length m → o ≡ m → r ≡ isStarting m s e → r ≡ true → true ≡ aligned (lent o m s e 0)
 untouched-aligned o m s e r p long long₂ same is t =
     rw (same, unedited-starting m s e p (untouched-unedited m s e long (sym is ∙ t)) long long₂) (sym (starting-sound m p .has-alignments))

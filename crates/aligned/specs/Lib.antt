@@ -1,4 +1,4 @@
 -- Working forms of soundness of the alignments; soundness itself is defined in `note`.
 pub mod Judged
-pub mod Straying
-pub mod Unedited
+pub mod MisalignedBits
+pub mod IsStarting

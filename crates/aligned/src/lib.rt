@@ -1,36 +1,27 @@
 // Whether a note's alignments are sound, for a note whose texts and numbers of alignments were judged before.
-pub mod fresh;
+pub mod starting;
 
-use boundaries::over;
+use buffers::lanes::saturating_sub_offset;
+use buffers::lanes::select_or_zero_offset;
 use boundaries::uncut_all;
 use buffers::Offset;
-use fresh::untouched;
+use starting::is_starting;
 use utf8::continues;
 ghost use mathlib.Core.Path.{_≡_};
 ghost use mathlib.Core.Bool.{cond};
 ghost use lib.ListN.{length};
 ghost use Rattle.note.specs.Notes.{aligned, lent, limit};
 ghost use Rattle.aligned.specs.Judged.{Judged};
-ghost use Rattle.aligned.specs.Straying.{strays};
+ghost use Rattle.aligned.specs.MisalignedBits.{misalignedBits};
 ghost use Rattle.boundaries.specs.Monotone.{monotone};
-
-// A number where it is asked for, or 0.
-fn when(asked: bool, v: Offset) -> Offset
-    ensures { λ r. ⌜ r ≡ cond asked v 0 ⌝ }
-{
-    if asked {
-        return v;
-    }
-    0
-}
 
 // 0 where the alignment (s1, e1) at the byte `b` can follow (s0, e0). A difference that is cut off at 0 costs one
 // instruction for eight alignments where a comparison costs several; and it has no branch, so that a loop over it is
 // vectorised.
-fn strays(b: u8, s0: Offset, e0: Offset, s1: Offset, e1: Offset) -> Offset
-    ensures { λ r. ⌜ r ≡ strays b s0 e0 s1 e1 ⌝ }
+fn misaligned_bits(b: u8, s0: Offset, e0: Offset, s1: Offset, e1: Offset) -> Offset
+    ensures { λ r. ⌜ r ≡ misalignedBits b s0 e0 s1 e1 ⌝ }
 {
-    over(s1, e1) | over(s0, s1) | over(e0, e1) | when(continues(b), over(s1, s0) | over(e1, e0))
+    saturating_sub_offset(s1, e1) | saturating_sub_offset(s0, s1) | saturating_sub_offset(e0, e1) | select_or_zero_offset(continues(b), saturating_sub_offset(s1, s0) | saturating_sub_offset(e1, e0))
 }
 
 // Whether each alignment can follow the one before it. The ends never go back, so that the last one speaks for all.
@@ -42,13 +33,13 @@ fn monotone(text: &[u8], starts: &[Offset], ends: &[Offset], size: Offset) -> bo
     if text.len() == 0 {
         return true;
     }
-    let mut found = over(starts[0], ends[0]);
+    let mut found = saturating_sub_offset(starts[0], ends[0]);
     let mut i = 1;
     while i < text.len() {
-        found = found | strays(text[i], starts[i - 1], ends[i - 1], starts[i], ends[i]);
+        found = found | misaligned_bits(text[i], starts[i - 1], ends[i - 1], starts[i], ends[i]);
         i += 1;
     }
-    (found | over(ends[text.len() - 1], size)) == 0
+    (found | saturating_sub_offset(ends[text.len() - 1], size)) == 0
 }
 
 // Whether the alignments are sound. An inner call: limits, numbers of alignments and texts were judged before.
@@ -65,7 +56,7 @@ pub fn aligned(
         (lent (now (original .entry)) (now (normalized .entry)) (now (starts .entry)) (now (ends .entry)) 0) ⌝ }
 {
     if same {
-        if untouched(normalized, starts, ends, plain) {
+        if is_starting(normalized, starts, ends, plain) {
             return true;
         }
     }

@@ -14,9 +14,9 @@ use Rattle.behaviors.specs.declared.SplitDelimiterBehavior.{SplitDelimit
 use Rattle.behaviors.specs.declared.SplitDelimiterBehavior.the-variants.{Removed, Isolated, MergedWithPrevious, MergedWithNext, Contiguous}
 use Rattle.behaviors.specs.declared.EmptyPieces.{EmptyPieces}
 use Rattle.behaviors.specs.declared.EmptyPieces.the-variants.{Kept, Dropped}
-use Rattle.behaviors.specs.Splits.{unremoved, spanning, endMoved, folded, firstMatched, startMoved, foldedBack, splits, goes, isPiece, remaining, pieces, SplitsCover}
-use Rattle.behaviors.specs.Joining.{joins, begins, beginsBehind, ends, startsOf, endsOf, unmatched, loses, PiecesJoined, PiecesUnmatched}
-use Rattle.behaviors.specs.Runs.{onwardIf, onward, stays, over, given, runsFrom}
+use Rattle.behaviors.specs.Splits.{unremoved, spanning, endMoved, folded, firstMatched, startMoved, foldedBack, splits, isDropped, isPiece, remaining, pieces, SplitsCover}
+use Rattle.behaviors.specs.Joining.{joins, beginnings, beginningsAfter, ends, startsOf, endsOf, unmatched, dropsMatches, PiecesJoined, PiecesUnmatched}
+use Rattle.behaviors.specs.Runs.{onwardIf, extendedRun, isKeptRun, over, pieceIf, runsFrom}
 
 -- a run that takes one more place
 abbrev drawn : Place → Place → Place
@@ -72,24 +72,24 @@ unfolding gathered
 map-gathered p [] = refl
 map-gathered p (q ∷ ps) = ap (_∷_ (unremoved p)) (map-gathered q ps)
 
--- every behaviour that loses nothing gathers
-pub splits-gathered : (b : SplitDelimiterBehavior) (p : Place) (ps : List Place) → loses b ≡ false → splits b (p ∷ ps) ≡ gathered (joins b) p ps
-unfolding splits joins loses
+-- every behaviour that dropsMatches nothing gathers
+pub splits-gathered : (b : SplitDelimiterBehavior) (p : Place) (ps : List Place) → dropsMatches b ≡ false → splits b (p ∷ ps) ≡ gathered (joins b) p ps
+unfolding splits joins dropsMatches
 splits-gathered Removed p ps e = clash true refl e
 splits-gathered Isolated p ps e = map-gathered p ps
 splits-gathered MergedWithPrevious p ps e = folded-first (λ now previous. now && not previous) p ps
 splits-gathered MergedWithNext p ps e = back-gathered p ps
 splits-gathered Contiguous p ps e = folded-first Bool·beq p ps
 
-lost-removed : (b : SplitDelimiterBehavior) → loses b ≡ true → b ≡ Removed
-unfolding loses
+lost-removed : (b : SplitDelimiterBehavior) → dropsMatches b ≡ true → b ≡ Removed
+unfolding dropsMatches
 lost-removed Removed e = refl
 lost-removed Isolated e = clash true refl (sym e)
 lost-removed MergedWithPrevious e = clash true refl (sym e)
 lost-removed MergedWithNext e = clash true refl (sym e)
 lost-removed Contiguous e = clash true refl (sym e)
 
-splits-lost : (b : SplitDelimiterBehavior) (ps : List Place) → loses b ≡ true → splits b ps ≡ ps
+splits-lost : (b : SplitDelimiterBehavior) (ps : List Place) → dropsMatches b ≡ true → splits b ps ≡ ps
 unfolding splits
 splits-lost b ps e = rw (lost-removed b e)
 
@@ -102,46 +102,46 @@ splits-none MergedWithNext = refl
 splits-none Contiguous = refl
 
 -- THE RUNS are the pieces
-goes-unremoved : (e : EmptyPieces) (p : Place) → goes e (unremoved p) ≡ goes e p
-unfolding goes unremoved
+goes-unremoved : (e : EmptyPieces) (p : Place) → isDropped e (unremoved p) ≡ isDropped e p
+unfolding isDropped unremoved
 goes-unremoved Kept p = refl
 goes-unremoved Dropped p = refl
 
-pub first-remains : (e : EmptyPieces) (run : Place) (ps : List Place) → remaining e (unremoved run ∷ ps) ≡ given (not (goes e run)) run ++ remaining e ps
-unfolding remaining isPiece given unremoved
+pub first-remains : (e : EmptyPieces) (run : Place) (ps : List Place) → remaining e (unremoved run ∷ ps) ≡ pieceIf (not (isDropped e run)) run ++ remaining e ps
+unfolding remaining isPiece pieceIf unremoved
 first-remains e run ps =
-    rw (goes-unremoved e run) (true-or-false (not (goes e run)) (λ t. rw t) (λ f. rw f))
+    rw (goes-unremoved e run) (true-or-false (not (isDropped e run)) (λ t. rw t) (λ f. rw f))
 
-stays-kept : (b : SplitDelimiterBehavior) (e : EmptyPieces) (run : Place) → loses b ≡ false → stays b e run ≡ not (goes e run)
-unfolding stays
+stays-kept : (b : SplitDelimiterBehavior) (e : EmptyPieces) (run : Place) → dropsMatches b ≡ false → isKeptRun b e run ≡ not (isDropped e run)
+unfolding isKeptRun
 stays-kept b e run l = rw l
 
-runs-gathered : (b : SplitDelimiterBehavior) (e : EmptyPieces) (run : Place) (ps : List Place) → loses b ≡ false → runsFrom b e run ps ≡ remaining e (gathered (joins b) run ps)
-unfolding runsFrom gathered over onward onwardIf remaining given
+runs-gathered : (b : SplitDelimiterBehavior) (e : EmptyPieces) (run : Place) (ps : List Place) → dropsMatches b ≡ false → runsFrom b e run ps ≡ remaining e (gathered (joins b) run ps)
+unfolding runsFrom gathered over extendedRun onwardIf remaining pieceIf
 runs-gathered b e run [] l =
-    ap (λ (t : Bool). given t run) (stays-kept b e run l) ∙ sym (first-remains e run [] ∙ append-nil (given (not (goes e run)) run))
+    ap (λ (t : Bool). pieceIf t run) (stays-kept b e run l) ∙ sym (first-remains e run [] ∙ append-nil (pieceIf (not (isDropped e run)) run))
 runs-gathered b e run (p ∷ ps) l =
     true-or-false (joins b (run .matched) (p .matched))
     (λ t. rw t (runs-gathered b e (drawn run p) ps l))
     (λ f. rw (f, stays-kept b e run l, runs-gathered b e p ps l) (sym (first-remains e run (gathered (joins b) p ps))))
 
 -- Removed: each place is a run of its own, and a matched one gives nothing
-place-remains : (e : EmptyPieces) (run : Place) (ps : List Place) → remaining e (run ∷ ps) ≡ given (stays Removed e run) run ++ remaining e ps
-unfolding remaining isPiece given stays loses unremoved
+place-remains : (e : EmptyPieces) (run : Place) (ps : List Place) → remaining e (run ∷ ps) ≡ pieceIf (isKeptRun Removed e run) run ++ remaining e ps
+unfolding remaining isPiece pieceIf isKeptRun dropsMatches unremoved
 place-remains e run ps =
     true-or-false (run .matched)
     (λ t. rw t)
-    (λ f. true-or-false (goes e run) (λ t. rw (t, f)) (λ u. rw (u, f)))
+    (λ f. true-or-false (isDropped e run) (λ t. rw (t, f)) (λ u. rw (u, f)))
 
 runs-removed : (e : EmptyPieces) (run : Place) (ps : List Place) → runsFrom Removed e run ps ≡ remaining e (run ∷ ps)
-unfolding runsFrom over onward onwardIf joins remaining given
-runs-removed e run [] = sym (place-remains e run [] ∙ append-nil (given (stays Removed e run) run))
+unfolding runsFrom over extendedRun onwardIf joins remaining pieceIf
+runs-removed e run [] = sym (place-remains e run [] ∙ append-nil (pieceIf (isKeptRun Removed e run) run))
 runs-removed e run (p ∷ ps) = rw (runs-removed e p ps) (sym (place-remains e run (p ∷ ps)))
 
 pub runs-pieces : (b : SplitDelimiterBehavior) (e : EmptyPieces) (p : Place) (ps : List Place) → runsFrom b e p ps ≡ pieces b e (p ∷ ps)
 unfolding pieces
 runs-pieces b e p ps =
-    true-or-false (loses b)
+    true-or-false (dropsMatches b)
     (λ t. rw (splits-lost b (p ∷ ps) t, lost-removed b t) (runs-removed e p ps))
     (λ f. rw (splits-gathered b p ps f) (runs-gathered b e p ps f))
 
@@ -151,15 +151,15 @@ pieces-none b e = rw (splits-none b)
 
 -- THE CLAIMS
 remaining-gathered : (joined : Bool → Bool → Bool) (run : Place) (ps : List Place) → remaining Kept (gathered joined run ps) ≡ gathered joined run ps
-unfolding remaining gathered isPiece goes unremoved
+unfolding remaining gathered isPiece isDropped unremoved
 remaining-gathered joined run [] = refl
 remaining-gathered joined run (p ∷ ps) =
     true-or-false (joined (run .matched) (p .matched))
     (λ t. rw t (remaining-gathered joined (drawn run p) ps))
     (λ f. rw f (ap (_∷_ (unremoved run)) (remaining-gathered joined p ps)))
 
-begins-gathered : (joined : Bool → Bool → Bool) (run : Place) (ps : List Place) → startsOf (gathered joined run ps) ≡ run .start .0 ∷ beginsBehind joined (run .matched) ps
-unfolding gathered beginsBehind unremoved
+begins-gathered : (joined : Bool → Bool → Bool) (run : Place) (ps : List Place) → startsOf (gathered joined run ps) ≡ run .start .0 ∷ beginningsAfter joined (run .matched) ps
+unfolding gathered beginningsAfter unremoved
 begins-gathered joined run [] = refl
 begins-gathered joined run (p ∷ ps) =
     true-or-false (joined (run .matched) (p .matched))
@@ -180,14 +180,14 @@ ends-gathered joined run (p ∷ ps) =
     (λ f. rw f (ap (_∷_ (run .end .0)) (ends-gathered joined p ps)))
 
 pub pieces-joined : PiecesJoined
-unfolding pieces begins ends remaining
+unfolding pieces beginnings ends remaining
 pieces-joined b [] l = (rw (splits-none b), rw (splits-none b))
 pieces-joined b (p ∷ ps) l =
     let is : remaining Kept (splits b (p ∷ ps)) ≡ gathered (joins b) p ps = ap (remaining Kept) (splits-gathered b p ps l) ∙ remaining-gathered (joins b) p ps in
     (ap startsOf is ∙ begins-gathered (joins b) p ps, ap endsOf is ∙ ends-gathered (joins b) p ps)
 
 pub pieces-unmatched : PiecesUnmatched
-unfolding pieces splits remaining isPiece goes unmatched
+unfolding pieces splits remaining isPiece isDropped unmatched
 pieces-unmatched [] = refl
 pieces-unmatched (p ∷ ps) =
     true-or-false (p .matched)
@@ -218,6 +218,6 @@ covers-gathered text at joined run (p ∷ ps) c =
 pub splits-cover : SplitsCover
 splits-cover text at b [] c = rw (splits-none b) c
 splits-cover text at b (p ∷ ps) c =
-    true-or-false (loses b)
+    true-or-false (dropsMatches b)
     (λ t. rw (splits-lost b (p ∷ ps) t) c)
     (λ f. rw (splits-gathered b p ps f) (covers-gathered text at (joins b) p ps c))

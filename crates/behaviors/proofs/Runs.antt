@@ -18,7 +18,7 @@ use Rattle.behaviors.specs.declared.EmptyPieces.{EmptyPieces}
 use Rattle.behaviors.specs.declared.Sizes.{Sizes}
 use Rattle.behaviors.specs.Splits.{unremoved, pieces}
 use Rattle.behaviors.specs.Joining.{joins}
-use Rattle.behaviors.specs.Runs.{onwardIf, onward, stays, over, given, runsFrom, bytesOf, sizesWith, listPieces, Listed, Addable}
+use Rattle.behaviors.specs.Runs.{onwardIf, extendedRun, isKeptRun, over, pieceIf, runsFrom, totalLength, sizesWith, listPieces, Listed, Addable}
 use Rattle.behaviors.proofs.Gathered.{runs-pieces, pieces-none}
 
 -- the places of a list from i on stand behind an open run
@@ -81,32 +81,32 @@ module _ {most : ℕ} {list : List ℕ} {run : Place} {i : ℕ} (o : Open most l
         most-i = step .most;
       }
 
-  pub next-open : (b : SplitDelimiterBehavior) {r : Place} → r ≡ onward b run p → Open most list r next
-  unfolding onward onwardIf
+  pub next-open : (b : SplitDelimiterBehavior) {r : Place} → r ≡ extendedRun b run p → Open most list r next
+  unfolding extendedRun onwardIf
   next-open b e =
       true-or-false (joins b (run .matched) (p .matched))
       (λ t. rw (e, t) (open-from _ (omega (arith, o .forward, span .onward)) refl))
       (λ f. rw (e, f) (open-from p (omega (arith, span .from, span .onward)) refl))
 
 -- AS MANY PIECES AS PLACES
-given-few : (t : Bool) (run : Place) → length (given t run) ≤ 1
-unfolding given
+given-few : (t : Bool) (run : Place) → length (pieceIf t run) ≤ 1
+unfolding pieceIf
 given-few true run = omega arith
 given-few false run = omega arith
 
 runs-few : (b : SplitDelimiterBehavior) (e : EmptyPieces) (run : Place) (ps : List Place) → length (runsFrom b e run ps) ≤ length ps + 1
 unfolding runsFrom
-runs-few b e run [] = omega (arith, given-few (stays b e run) run)
+runs-few b e run [] = omega (arith, given-few (isKeptRun b e run) run)
 runs-few b e run (p ∷ ps) =
-    omega (arith, length-append (given (over b e run p) run) (runsFrom b e (onward b run p) ps), given-few (over b e run p) run, runs-few b e (onward b run p) ps)
+    omega (arith, length-append (pieceIf (over b e run p) run) (runsFrom b e (extendedRun b run p) ps), given-few (over b e run p) run, runs-few b e (extendedRun b run p) ps)
 
 pub pieces-few : (b : SplitDelimiterBehavior) (e : EmptyPieces) (ps : List Place) → length (pieces b e ps) ≤ length ps
 pieces-few b e [] = rw (pieces-none b e) (omega arith)
 pieces-few b e (p ∷ ps) = rw (← runs-pieces b e p ps) (omega (arith, runs-few b e p ps))
 
 -- THE SIZES
-bytes-append : (xs ys : List Place) → bytesOf (xs ++ ys) ≡ bytesOf xs + bytesOf ys
-unfolding bytesOf
+bytes-append : (xs ys : List Place) → totalLength (xs ++ ys) ≡ totalLength xs + totalLength ys
+unfolding totalLength
 bytes-append [] ys = omega arith
 bytes-append (x ∷ xs) ys = rw (bytes-append xs ys) (omega arith)
 
@@ -114,22 +114,22 @@ sizes-append : (s : Sizes) (xs ys : List Place) → sizesWith (sizesWith s xs) y
 unfolding sizesWith
 sizes-append s xs ys =
     let a : s .pieces + length xs + length ys ≡ s .pieces + length (xs ++ ys) = omega (arith, length-append xs ys) in
-    let z : s .bytes + bytesOf xs + bytesOf ys ≡ s .bytes + bytesOf (xs ++ ys) = omega (arith, bytes-append xs ys) in
+    let z : s .bytes + totalLength xs + totalLength ys ≡ s .bytes + totalLength (xs ++ ys) = omega (arith, bytes-append xs ys) in
     λ i. record { pieces = a i; bytes = z i }
 
 -- a new run begins behind the bytes that were counted
-begins-behind : (b : SplitDelimiterBehavior) (e : EmptyPieces) (run p : Place) (bytes : ℕ) → bytes ≤ run .start .0 → run .start .0 ≤ run .end .0 → p .start .0 ≡ run .end .0 → bytes + bytesOf (given (over b e run p) run) ≤ onward b run p .start .0
-unfolding over onward onwardIf given bytesOf unremoved
+begins-behind : (b : SplitDelimiterBehavior) (e : EmptyPieces) (run p : Place) (bytes : ℕ) → bytes ≤ run .start .0 → run .start .0 ≤ run .end .0 → p .start .0 ≡ run .end .0 → bytes + totalLength (pieceIf (over b e run p) run) ≤ extendedRun b run p .start .0
+unfolding over extendedRun onwardIf pieceIf totalLength unremoved
 begins-behind b e run p bytes low forward from =
     true-or-false (joins b (run .matched) (p .matched))
     (λ t. rw t (omega arith))
-    (λ f. true-or-false (stays b e run) (λ t. rw (f, t) (omega arith)) (λ u. rw (f, u) (omega arith)))
+    (λ f. true-or-false (isKeptRun b e run) (λ t. rw (f, t) (omega arith)) (λ u. rw (f, u) (omega arith)))
 
 abbrev none : Sizes
 none = record { pieces = 0; bytes = 0 }
 
 pub none-measured : (list : List ℕ) {entry : Entry} → entry ≡ entryAt list 0 → entry ≡ Broken → (b : SplitDelimiterBehavior) (e : EmptyPieces) → none ≡ sizesWith none (listPieces b e list)
-unfolding sizesWith bytesOf
+unfolding sizesWith totalLength
 none-measured list is there b e = rw (none-listed list is there b e)
 
 -- what has been counted, and the run that is open
@@ -157,23 +157,23 @@ module _ {most : ℕ} {list : List ℕ} {b : SplitDelimiterBehavior} {e : EmptyP
         short = omega (arith, k .small, k .opened .forward, k .opened .inside, k .opened .short);
       }
 
-  pub next-counted : {entry : Entry} {p : Place} {next : ℕ} → entry ≡ entryAt list i → entry ≡ At p next → {t : Bool} {s₁ : Sizes} {r : Place} → t ≡ over b e run p → s₁ ≡ sizesWith s (given t run) → r ≡ onward b run p → Counting most list b e s₁ r next
+  pub next-counted : {entry : Entry} {p : Place} {next : ℕ} → entry ≡ entryAt list i → entry ≡ At p next → {t : Bool} {s₁ : Sizes} {r : Place} → t ≡ over b e run p → s₁ ≡ sizesWith s (pieceIf t run) → r ≡ extendedRun b run p → Counting most list b e s₁ r next
   unfolding runsFrom sizesWith
   next-counted {p = p} {next = next} is there {t = t} {s₁ = s₁} {r = r} met sum after =
       let st : Stepped list i p next = entry-step list is there in
-      let size : s₁ .pieces ≡ s .pieces + length (given t run) = ap (λ (x : Sizes). x .pieces) sum in
-      let long : s₁ .bytes ≡ s .bytes + bytesOf (given t run) = ap (λ (x : Sizes). x .bytes) sum in
+      let size : s₁ .pieces ≡ s .pieces + length (pieceIf t run) = ap (λ (x : Sizes). x .pieces) sum in
+      let long : s₁ .bytes ≡ s .bytes + totalLength (pieceIf t run) = ap (λ (x : Sizes). x .bytes) sum in
       let rest : List Place = placesOf (drop next list) in
       record {
         opened = next-open (k .opened) is there b after;
         few = omega (arith, size, given-few t run, k .few, st .onward);
         small = rw (long, met, after) (begins-behind b e run p (s .bytes) (k .small) (k .opened .forward) (span (k .opened) is there .from));
         total =
-            rw (sum, met, after) (sizes-append s (given (over b e run p) run) (runsFrom b e (onward b run p) rest))
+            rw (sum, met, after) (sizes-append s (pieceIf (over b e run p) run) (runsFrom b e (extendedRun b run p) rest))
             ∙ (rw (st .places) at (k .total));
       }
 
-  pub all-counted : placesOf (drop i list) ≡ [] → {t : Bool} {s₁ : Sizes} → t ≡ stays b e run → s₁ ≡ sizesWith s (given t run) → s₁ ≡ sizesWith none (listPieces b e list)
+  pub all-counted : placesOf (drop i list) ≡ [] → {t : Bool} {s₁ : Sizes} → t ≡ isKeptRun b e run → s₁ ≡ sizesWith s (pieceIf t run) → s₁ ≡ sizesWith none (listPieces b e list)
   unfolding runsFrom
   all-counted done met sum = sum ∙ rw met ((rw done at (k .total)))
 

@@ -13,9 +13,9 @@ use Rattle.behaviors.specs.declared.SplitDelimiterBehavior.the-variants.
 use Rattle.behaviors.specs.declared.EmptyPieces.{EmptyPieces}
 use Rattle.behaviors.specs.declared.EmptyPieces.the-variants.{Kept, Dropped}
 use Rattle.behaviors.specs.declared.Sizes.{Sizes}
-use Rattle.behaviors.specs.Splits.{unremoved, goes}
-use Rattle.behaviors.specs.Joining.{joins, loses}
-use Rattle.behaviors.specs.Runs.{onwardIf, onward, joinTable, joinedBy, stays, over, given, bytesOf, sizesWith}
+use Rattle.behaviors.specs.Splits.{unremoved, isDropped}
+use Rattle.behaviors.specs.Joining.{joins, dropsMatches}
+use Rattle.behaviors.specs.Runs.{onwardIf, extendedRun, joinTable, joinedBy, isKeptRun, over, pieceIf, totalLength, sizesWith}
 
 module _ (b : SplitDelimiterBehavior) (before now : Bool) where
   pub joins-removed : b ≡ Removed → false ≡ joins b before now
@@ -38,28 +38,28 @@ module _ (b : SplitDelimiterBehavior) (before now : Bool) where
   unfolding joins
   joins-same e = rw e
 
-pub loses-as : (b c : SplitDelimiterBehavior) → b ≡ c → loses c ≡ loses b
+pub loses-as : (b c : SplitDelimiterBehavior) → b ≡ c → dropsMatches c ≡ dropsMatches b
 loses-as b c e = rw e
 
-pub goes-kept : (e : EmptyPieces) (run : Place) → e ≡ Kept → false ≡ goes e run
-unfolding goes
+pub goes-kept : (e : EmptyPieces) (run : Place) → e ≡ Kept → false ≡ isDropped e run
+unfolding isDropped
 goes-kept e run is = rw is
 
-pub goes-empty : (e : EmptyPieces) (run : Place) → e ≡ Dropped → eqb (run .start .0) (run .end .0) ≡ goes e run
-unfolding goes
+pub goes-empty : (e : EmptyPieces) (run : Place) → e ≡ Dropped → eqb (run .start .0) (run .end .0) ≡ isDropped e run
+unfolding isDropped
 goes-empty e run is = rw is
 
 module _ (b : SplitDelimiterBehavior) (e : EmptyPieces) (run : Place) where
-  pub stays-by : {l g : Bool} → l ≡ loses b → g ≡ goes e run → (not (l && run .matched) && not g) ≡ stays b e run
-  unfolding stays
+  pub stays-by : {l g : Bool} → l ≡ dropsMatches b → g ≡ isDropped e run → (not (l && run .matched) && not g) ≡ isKeptRun b e run
+  unfolding isKeptRun
   stays-by is at = rw (is, at)
 
-  pub over-by : (p : Place) {j s : Bool} → j ≡ joins b (run .matched) (p .matched) → s ≡ stays b e run → (not j && s) ≡ over b e run p
+  pub over-by : (p : Place) {j s : Bool} → j ≡ joins b (run .matched) (p .matched) → s ≡ isKeptRun b e run → (not j && s) ≡ over b e run p
   unfolding over
   over-by p is at = rw (is, at)
 
-pub onward-by : (b : SplitDelimiterBehavior) (run p : Place) {j : Bool} {r : Place} → j ≡ joins b (run .matched) (p .matched) → r ≡ onwardIf j run p → r ≡ onward b run p
-unfolding onward
+pub onward-by : (b : SplitDelimiterBehavior) (run p : Place) {j : Bool} {r : Place} → j ≡ joins b (run .matched) (p .matched) → r ≡ onwardIf j run p → r ≡ extendedRun b run p
+unfolding extendedRun
 onward-by b run p is at = at ∙ rw is
 
 -- two flags are an index of the table
@@ -98,12 +98,12 @@ module _ (run p : Place) {j : Bool} where
   begun-anew f = rw f
 
 module _ (s : Sizes) (met : Bool) (run : Place) where
-  pub one-counted : met ≡ true → _≡_ {A = Sizes} (record { pieces = s .pieces + 1; bytes = s .bytes + (run .end .0 - run .start .0) }) (sizesWith s (given met run))
-  unfolding sizesWith bytesOf given unremoved
+  pub one-counted : met ≡ true → _≡_ {A = Sizes} (record { pieces = s .pieces + 1; bytes = s .bytes + (run .end .0 - run .start .0) }) (sizesWith s (pieceIf met run))
+  unfolding sizesWith totalLength pieceIf unremoved
   one-counted t = rw t (let z : s .bytes + (run .end .0 - run .start .0) ≡ s .bytes + (run .end .0 - run .start .0 + 0) = omega arith in λ i. record { pieces = s .pieces + 1; bytes = z i })
 
-  pub none-counted : met ≡ false → s ≡ sizesWith s (given met run)
-  unfolding sizesWith bytesOf given
+  pub none-counted : met ≡ false → s ≡ sizesWith s (pieceIf met run)
+  unfolding sizesWith totalLength pieceIf
   none-counted f =
       rw f
       (let a : s .pieces ≡ s .pieces + 0 = omega arith in

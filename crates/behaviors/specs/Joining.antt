@@ -28,15 +28,15 @@ joins MergedWithNext before now = before && not now
 joins Contiguous before now = Bool·beq now before
 
 -- where pieces begin: at the first place, and at each that does not belong to the one before it
-unfoldable pub beginsBehind : (Bool → Bool → Bool) → Bool → List Place → List ℕ
-beginsBehind joined before [] = []
-beginsBehind joined before (p ∷ ps) =
-    cond (joined before (p .matched)) (beginsBehind joined (p .matched) ps)
-    (p .start .0 ∷ beginsBehind joined (p .matched) ps)
+unfoldable pub beginningsAfter : (Bool → Bool → Bool) → Bool → List Place → List ℕ
+beginningsAfter joined before [] = []
+beginningsAfter joined before (p ∷ ps) =
+    cond (joined before (p .matched)) (beginningsAfter joined (p .matched) ps)
+    (p .start .0 ∷ beginningsAfter joined (p .matched) ps)
 
-unfoldable pub begins : (Bool → Bool → Bool) → List Place → List ℕ
-begins joined [] = []
-begins joined (p ∷ ps) = p .start .0 ∷ beginsBehind joined (p .matched) ps
+unfoldable pub beginnings : (Bool → Bool → Bool) → List Place → List ℕ
+beginnings joined [] = []
+beginnings joined (p ∷ ps) = p .start .0 ∷ beginningsAfter joined (p .matched) ps
 
 -- where pieces end: at the last place, and at each to which the next one does not belong
 unfoldable pub ends : (Bool → Bool → Bool) → List Place → List ℕ
@@ -58,22 +58,22 @@ unmatched [] = []
 unmatched (p ∷ ps) = cond (p .matched) (unmatched ps) (p ∷ unmatched ps)
 
 -- the behaviours that lose nothing
-unfoldable pub loses : SplitDelimiterBehavior → Bool
-loses Removed = true
-loses Isolated = false
-loses MergedWithPrevious = false
-loses MergedWithNext = false
-loses Contiguous = false
+unfoldable pub dropsMatches : SplitDelimiterBehavior → Bool
+dropsMatches Removed = true
+dropsMatches Isolated = false
+dropsMatches MergedWithPrevious = false
+dropsMatches MergedWithNext = false
+dropsMatches Contiguous = false
 
--- CLAIM: under any behaviour but Removed a piece begins at the first place and at each that does not belong to the one
+-- CLAIM: under any behaviour but Removed a piece beginnings at the first place and at each that does not belong to the one
 -- before it, and ends at the last place and at each to which the next one does not belong. So Isolated gives every
--- place; under Contiguous a piece begins where the kind changes; under MergedWithPrevious one begins at each place but
+-- place; under Contiguous a piece beginnings where the kind changes; under MergedWithPrevious one beginnings at each place but
 -- a matched one straight behind an unmatched one; under MergedWithNext one ends at each place but a matched one
 -- straight before an unmatched one.
 abbrev pub PiecesJoined : Type 0
 PiecesJoined =
-    (behavior : SplitDelimiterBehavior) (ps : List Place) → loses behavior ≡ false
-    → (startsOf (pieces behavior Kept ps) ≡ begins (joins behavior) ps)
+    (behavior : SplitDelimiterBehavior) (ps : List Place) → dropsMatches behavior ≡ false
+    → (startsOf (pieces behavior Kept ps) ≡ beginnings (joins behavior) ps)
     × (endsOf (pieces behavior Kept ps) ≡ ends (joins behavior) ps)
 
 -- CLAIM: under Removed the pieces are the unmatched places, empty ones too.

@@ -64,12 +64,12 @@ splits MergedWithNext ps = foldedBack ps
 splits Contiguous ps = folded Bool·beq [] false ps
 
 -- a place is a piece where it is not removed and, where empty pieces are dropped, has a byte
-unfoldable pub goes : EmptyPieces → Place → Bool
-goes Kept p = false
-goes Dropped p = eqb (p .start .0) (p .end .0)
+unfoldable pub isDropped : EmptyPieces → Place → Bool
+isDropped Kept p = false
+isDropped Dropped p = eqb (p .start .0) (p .end .0)
 
 unfoldable pub isPiece : EmptyPieces → Place → Bool
-isPiece empty p = not (p .matched) && not (goes empty p)
+isPiece empty p = not (p .matched) && not (isDropped empty p)
 
 -- the pieces among places
 unfoldable pub remaining : EmptyPieces → List Place → List Place

@@ -5,10 +5,10 @@ use pattern::Place;
 use pattern::entry_at;
 ghost use mathlib.Core.Path.{_≡_};
 ghost use Rattle.note.specs.Notes.{limit};
-ghost use Rattle.behaviors.specs.Splits.{goes};
-ghost use Rattle.behaviors.specs.Joining.{joins, loses};
-ghost use Rattle.behaviors.specs.Runs.{Addable, given, joinedBy, joinTable, Listed, listPieces};
-ghost use Rattle.behaviors.specs.Runs.{onwardIf, sizesWith, stays};
+ghost use Rattle.behaviors.specs.Splits.{isDropped};
+ghost use Rattle.behaviors.specs.Joining.{joins, dropsMatches};
+ghost use Rattle.behaviors.specs.Runs.{Addable, pieceIf, joinedBy, joinTable, Listed, listPieces};
+ghost use Rattle.behaviors.specs.Runs.{onwardIf, sizesWith, isKeptRun};
 
 // What becomes of the delimiters, the matched places.
 pub enum SplitDelimiterBehavior {
@@ -64,8 +64,8 @@ pub fn joined(table: &[bool; 4], before: bool, matched: bool) -> bool
 }
 
 // Whether matched places are lost.
-fn loses(behavior: SplitDelimiterBehavior) -> bool
-    ensures { λ r. ⌜ r ≡ loses behavior ⌝ }
+fn drops_matches(behavior: SplitDelimiterBehavior) -> bool
+    ensures { λ r. ⌜ r ≡ dropsMatches behavior ⌝ }
 {
     match behavior {
         SplitDelimiterBehavior::Removed => true,
@@ -77,8 +77,8 @@ fn loses(behavior: SplitDelimiterBehavior) -> bool
 }
 
 // Whether a piece is dropped for having no byte.
-pub fn goes(empty: EmptyPieces, run: Place) -> bool
-    ensures { λ r. ⌜ r ≡ goes empty run ⌝ }
+pub fn is_dropped(empty: EmptyPieces, run: Place) -> bool
+    ensures { λ r. ⌜ r ≡ isDropped empty run ⌝ }
 {
     match empty {
         EmptyPieces::Kept => false,
@@ -91,7 +91,7 @@ pub fn goes(empty: EmptyPieces, run: Place) -> bool
 }
 
 // The run behind the next place: drawn out to it where that belongs to it, else begun with it.
-pub fn onward(joined: bool, run: Place, place: Place) -> Place
+pub fn extend_run(joined: bool, run: Place, place: Place) -> Place
     ensures { λ r. ⌜ r ≡ onwardIf joined run place ⌝ }
 {
     if joined {
@@ -107,16 +107,16 @@ pub fn onward(joined: bool, run: Place, place: Place) -> Place
 }
 
 // Whether a run that is over gives a piece.
-pub fn stays(behavior: SplitDelimiterBehavior, empty: EmptyPieces, run: Place) -> bool
-    ensures { λ r. ⌜ r ≡ stays behavior empty run ⌝ }
+pub fn is_kept_run(behavior: SplitDelimiterBehavior, empty: EmptyPieces, run: Place) -> bool
+    ensures { λ r. ⌜ r ≡ isKeptRun behavior empty run ⌝ }
 {
-    !(loses(behavior) & run.matched) & !goes(empty, run)
+    !(drops_matches(behavior) & run.matched) & !is_dropped(empty, run)
 }
 
 // The sizes with those of a piece, where there is one.
 fn counted(sizes: Sizes, met: bool, run: Place) -> Sizes
     requires { ⌜ Addable sizes run ⌝ }
-    ensures { λ r. ⌜ r ≡ sizesWith sizes (given met run) ⌝ }
+    ensures { λ r. ⌜ r ≡ sizesWith sizes (pieceIf met run) ⌝ }
 {
     if met {
         let start = run.start;
@@ -150,12 +150,12 @@ pub fn measure(list: &[u8], behavior: SplitDelimiterBehavior, empty: EmptyPieces
         match entry_at(list, i) {
             Entry::At(place, next) => {
                 let joins = joined(&table, run.matched, place.matched);
-                sizes = counted(sizes, !joins & stays(behavior, empty, run), run);
-                run = onward(joins, run, place);
+                sizes = counted(sizes, !joins & is_kept_run(behavior, empty, run), run);
+                run = extend_run(joins, run, place);
                 i = next;
             }
             Entry::Broken => break,
         }
     }
-    counted(sizes, stays(behavior, empty, run), run)
+    counted(sizes, is_kept_run(behavior, empty, run), run)
 }

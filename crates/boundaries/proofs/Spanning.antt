@@ -1,4 +1,4 @@
--- Laws of `widthOf`, `leadsBelow`, `spansBelow` and `Inside`: an alignment that is one whole character cuts none.
+-- Laws of `leadLen`, `leadsBelow`, `spansBelow` and `StartsInside`: an alignment that is one whole character cuts none.
 use Prim.Native.Nat.{ℕ, zero, suc, _+_, _-_, _/_, _≤_, _<_, max, min}
 use mathlib.Core.Path.{_≡_, _∙_, ap, refl, sym}
 use mathlib.Core.Bool.{Bool, true, false, cond, _&&_, _||_, not}
@@ -19,43 +19,17 @@ use Rattle.buffers.proofs.Splice.{part-index}
 use Rattle.utf8.specs.Formed.{announced, continues, boundary, wellFormed}
 use Rattle.utf8.proofs.Boundaries.{boundary-at, boundary-begins, char-at, CharAt}
 use Rattle.boundaries.specs.Monotone.{follows, monotoneAt, monotone, uncut, uncutBelow}
-use Rattle.boundaries.specs.Spanning.{widthOf, leadsBelow, spansBelow, Inside}
+use Rattle.utf8.specs.Lengths.{leadLen}
+use Rattle.utf8.proofs.LeadLen.{lead-len-right}
+use Rattle.boundaries.specs.Spanning.{leadsBelow, spansBelow, StartsInside}
 use Rattle.boundaries.proofs.Zeros.{or-none, xor-none}
 
--- by a byte's first four bits, counted from C on
-pub width-lead : (b : ℕ) {lead one r : ℕ} → b < 256 → lead ≡ b / 16 - 11 → one ≡ min lead 1 → r ≡ max lead (one + 1) → r ≡ widthOf b
-unfolding widthOf
-width-lead b small far one more =
-    le-or-lt 0xC0 b
-    (λ c. le-or-lt 0xE0 b
-    (λ e. le-or-lt 0xF0 b
-    (λ f. simp (le-ltb b 0xC0 c, le-ltb b 0xE0 e, le-ltb b 0xF0 f) (omega arith))
-    (λ f. simp (le-ltb b 0xC0 c, le-ltb b 0xE0 e, lt-ltb b 0xF0 f) (omega arith)))
-    (λ e. simp (le-ltb b 0xC0 c, lt-ltb b 0xE0 e) (omega arith)))
-    (λ c. simp (lt-ltb b 0xC0 c) (omega arith))
-
--- a byte that leads a character in a well-formed text
-width-announced : (b : ℕ) → 1 ≤ announced b → widthOf b ≡ announced b
-unfolding widthOf announced
-width-announced b some =
-    le-or-lt 0x80 b
-    (λ h. le-or-lt 0xC2 b
-    (λ c. le-or-lt 0xE0 b
-    (λ e. le-or-lt 0xF0 b
-    (λ g. le-or-lt 0xF5 b
-    (λ k. absurd (omega (arith, simp (le-ltb b 0x80 h, le-ltb b 0xC2 c, le-ltb b 0xE0 e, le-ltb b 0xF0 g, le-ltb b 0xF5 k) at some)))
-    (λ k. simp (le-ltb b 0x80 h, le-ltb b 0xC0 (omega arith), le-ltb b 0xC2 c, le-ltb b 0xE0 e, le-ltb b 0xF0 g, lt-ltb b 0xF5 k)))
-    (λ g. simp (le-ltb b 0x80 h, le-ltb b 0xC0 (omega arith), le-ltb b 0xC2 c, le-ltb b 0xE0 e, lt-ltb b 0xF0 g)))
-    (λ e. simp (le-ltb b 0x80 h, le-ltb b 0xC0 (omega arith), le-ltb b 0xC2 c, lt-ltb b 0xE0 e)))
-    (λ c. absurd (omega (arith, simp (le-ltb b 0x80 h, lt-ltb b 0xC2 c) at some))))
-    (λ h. simp (lt-ltb b 0x80 h, lt-ltb b 0xC0 (omega arith)))
-
-spans-uncut : (original : List ℕ) (s e : ℕ) {w : ℕ} → wellFormed original ≡ true → s < length original → continues (getD original s 0) ≡ false → w ≡ widthOf (getD original s 0) → eqb (e - s) w ≡ true → (uncut original s && uncut original e) ≡ true
+spans-uncut : (original : List ℕ) (s e : ℕ) {w : ℕ} → wellFormed original ≡ true → s < length original → continues (getD original s 0) ≡ false → w ≡ leadLen (getD original s 0) → eqb (e - s) w ≡ true → (uncut original s && uncut original e) ≡ true
 unfolding uncut
 spans-uncut original s e {w} formed h leads is spans =
     let long : e - s ≡ w = eqb-true (e - s) w spans in
     let here = char-at original s formed (boundary-at original s (omega arith) leads) h in
-    let wide : w ≡ announced (getD original s 0) = is ∙ width-announced _ (here .positive) in
+    let wide : w ≡ announced (getD original s 0) = is ∙ lead-len-right _ (here .positive) in
     let end : s + announced (getD original s 0) ≡ e = omega (arith, here .positive) in
     and-intro (ap not leads) (ap not (boundary-begins original e (rw end at (here .ends))))
 
@@ -79,7 +53,7 @@ module _ (widths starts ends : List ℕ) where
   spans-more j apart {r} is far =
       rw (or-none apart (bitXor r (getD widths j 0)), xor-none r (getD widths j 0), is, far, every-suc j (λ k. eqb (getD ends k 0 - getD starts k 0) (getD widths k 0)))
 
-pub all-spans : {original starts bytes₀ bytes widths₀ widths : List ℕ} (ends : List ℕ) → Inside original starts → length starts ≡ 64 → length bytes₀ ≡ 64 → length widths₀ ≡ 64 → Filled (λ k. getD original (getD starts k 0) 0) bytes₀ 0 (length bytes₀) bytes → Filled (λ k. widthOf (getD bytes k 0)) widths₀ 0 (length widths₀) widths → leadsBelow bytes (length bytes) ≡ true → spansBelow widths starts ends (length widths) ≡ true → uncutBelow original starts ends 64 ≡ true
+pub all-spans : {original starts bytes₀ bytes widths₀ widths : List ℕ} (ends : List ℕ) → StartsInside original starts → length starts ≡ 64 → length bytes₀ ≡ 64 → length widths₀ ≡ 64 → Filled (λ k. getD original (getD starts k 0) 0) bytes₀ 0 (length bytes₀) bytes → Filled (λ k. leadLen (getD bytes k 0)) widths₀ 0 (length widths₀) widths → leadsBelow bytes (length bytes) ≡ true → spansBelow widths starts ends (length widths) ≡ true → uncutBelow original starts ends 64 ≡ true
 unfolding uncutBelow leadsBelow spansBelow
 all-spans {original} {starts} {bytes = bytes} {widths = widths} ends known long n m read wide leads spans =
     let size : length widths ≡ 64 = wide .same ∙ m in
@@ -88,7 +62,7 @@ all-spans {original} {starts} {bytes = bytes} {widths = widths} ends known long 
     (λ k h.
     spans-uncut original (getD starts k 0) (getD ends k 0) (known .formed) (known .below k (omega arith))
     (ap continues (sym (read .within k (omega arith) (omega arith))) ∙ not-true _ (every-at (length bytes) (λ (i : ℕ). not (continues (getD bytes i 0))) leads k (omega arith)))
-    (wide .within k (omega arith) (omega arith) ∙ ap widthOf (read .within k (omega arith) (omega arith)))
+    (wide .within k (omega arith) (omega arith) ∙ ap leadLen (read .within k (omega arith) (omega arith)))
     (every-at (length widths) (λ (i : ℕ). eqb (getD ends i 0 - getD starts i 0) (getD widths i 0)) spans k (omega arith)))
 
 -- alignments in two parts
@@ -118,7 +92,7 @@ module _ (o s e : List ℕ) (i : ℕ) {r : Bool} where
       let left : length (part s i (length s)) ≡ length s - i = simp (length-take, length-drop) (omega arith) in
       is ∙ rw (left, same) (sym (rw (so-far, whole) at (uncut-parts o s e i (length s - i))))
 
-pub inside-part : {o s : List ℕ} (i : ℕ) → Inside o s → i + 64 ≤ length s → Inside o (part s i (i + 64))
+pub inside-part : {o s : List ℕ} (i : ℕ) → StartsInside o s → i + 64 ≤ length s → StartsInside o (part s i (i + 64))
 inside-part {o} {s} i known h =
     record {
       formed = known .formed;
@@ -142,7 +116,7 @@ module _ (text starts ends : List ℕ) (size n : ℕ) (e : monotone text starts 
       let next : i + suc d ≡ suc (i + d) = omega arith in
       rw next (omega (arith, starts-rise i d (omega arith), start-next (i + d) (omega arith)))
 
-  pub starts-inside : {o : List ℕ} → wellFormed o ≡ true → length starts ≡ n → getD starts (length starts - 1) 0 < length o → Inside o starts
+  pub starts-inside : {o : List ℕ} → wellFormed o ≡ true → length starts ≡ n → getD starts (length starts - 1) 0 < length o → StartsInside o starts
   starts-inside formed long last =
       record {
         formed = formed;

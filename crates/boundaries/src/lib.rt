@@ -2,10 +2,9 @@
 // at each start is read; where each alignment is the one whole character that this byte leads, as in most notes, no end
 // is looked up.
 use buffers::Offset;
+use buffers::lanes::saturating_sub_offset;
 use utf8::continues;
-use validity_blocks::extremes::max;
-use validity_blocks::extremes::min;
-use validity_blocks::extremes::over as above;
+use utf8::lead::lead_len_lane;
 ghost use mathlib.Core.Path.{_≡_};
 ghost use mathlib.Core.Bool.{true};
 ghost use Prim.Native.Nat.{ℕ, _-_, _≤_, _<_};
@@ -13,7 +12,8 @@ ghost use lib.ListN.{length, getD};
 ghost use Rattle.buffers.specs.Columns.{Filled};
 ghost use Rattle.utf8.specs.Formed.{wellFormed};
 ghost use Rattle.boundaries.specs.Monotone.{monotone, uncut, uncutBelow};
-ghost use Rattle.boundaries.specs.Spanning.{Inside, leadsBelow, spansBelow, widthOf};
+ghost use Rattle.utf8.specs.Lengths.{leadLen};
+ghost use Rattle.boundaries.specs.Spanning.{StartsInside, leadsBelow, spansBelow};
 
 // Whether no character of the text is cut at `p`.
 fn uncut(original: &[u8], p: Offset) -> bool
@@ -40,29 +40,10 @@ fn all_uncut(original: &[u8], starts: &[Offset], ends: &[Offset]) -> bool
     ok
 }
 
-// How far `a` is above `b`, or 0.
-pub fn over(a: Offset, b: Offset) -> Offset
-    ensures { λ r. ⌜ r ≡ a - b ⌝ }
-{
-    if b < a {
-        return a - b;
-    }
-    0
-}
-
-// How many bytes the character has that the byte leads; 1 where it leads none. By the byte's first four bits: half the
-// instructions of three comparisons.
-fn width_of(b: u8) -> u8
-    ensures { λ r. ⌜ r ≡ widthOf b ⌝ }
-{
-    let lead = above(b / 16, 11);
-    max(lead, min(lead, 1) + 1)
-}
-
 // The byte of the transcript at each start.
 fn read_at(original: &[u8], starts: &[Offset], bytes: &mut [u8])
     requires { ⌜ length (now bytes) ≤ length (now starts) ⌝ }
-    requires { ⌜ Inside (now original) (now starts) ⌝ }
+    requires { ⌜ StartsInside (now original) (now starts) ⌝ }
     ensures { λ _. ⌜ Filled (λ k. getD (now (original .entry)) (getD (now (starts .entry)) k 0) 0)
         (now (bytes .entry)) 0 (length (now (bytes .entry))) (now (bytes .exit)) ⌝ }
 {
@@ -75,12 +56,12 @@ fn read_at(original: &[u8], starts: &[Offset], bytes: &mut [u8])
 
 fn write_widths(bytes: &[u8], widths: &mut [u8])
     requires { ⌜ length (now widths) ≤ length (now bytes) ⌝ }
-    ensures { λ _. ⌜ Filled (λ k. widthOf (getD (now (bytes .entry)) k 0)) (now (widths .entry)) 0
+    ensures { λ _. ⌜ Filled (λ k. leadLen (getD (now (bytes .entry)) k 0)) (now (widths .entry)) 0
         (length (now (widths .entry))) (now (widths .exit)) ⌝ }
 {
     let mut j = 0;
     while j < widths.len() {
-        widths[j] = width_of(bytes[j]);
+        widths[j] = lead_len_lane(bytes[j]);
         j += 1;
     }
 }
@@ -99,7 +80,7 @@ fn all_lead(bytes: &[u8]) -> bool
 }
 
 // Whether each alignment is as long as its width.
-fn all_span(widths: &[u8], starts: &[Offset], ends: &[Offset]) -> bool
+fn widths_match(widths: &[u8], starts: &[Offset], ends: &[Offset]) -> bool
     requires { ⌜ (length (now widths) ≤ length (now starts)) × (length (now widths) ≤ length (now ends)) ⌝ }
     ensures { λ r. ⌜ r ≡ spansBelow (now (widths .entry)) (now (starts .entry)) (now (ends .entry))
         (length (now (widths .entry))) ⌝ }
@@ -107,7 +88,7 @@ fn all_span(widths: &[u8], starts: &[Offset], ends: &[Offset]) -> bool
     let mut apart: Offset = 0;
     let mut j = 0;
     while j < widths.len() {
-        apart = apart | (over(ends[j], starts[j]) ^ widths[j] as Offset);
+        apart = apart | (saturating_sub_offset(ends[j], starts[j]) ^ widths[j] as Offset);
         j += 1;
     }
     apart == 0
@@ -115,9 +96,9 @@ fn all_span(widths: &[u8], starts: &[Offset], ends: &[Offset]) -> bool
 
 // Whether each alignment of a block of 64 is one whole character. An inner function: the transcript was judged, and
 // every start is inside it. The bytes are the caller's, so that not every block clears them.
-fn one_each(original: &[u8], starts: &[Offset], ends: &[Offset], bytes: &mut [u8; 64]) -> bool
+fn whole_chars(original: &[u8], starts: &[Offset], ends: &[Offset], bytes: &mut [u8; 64]) -> bool
     requires { ⌜ (length (now starts) ≡ 64) × (length (now ends) ≡ 64) ⌝ }
-    requires { ⌜ Inside (now original) (now starts) ⌝ }
+    requires { ⌜ StartsInside (now original) (now starts) ⌝ }
     ensures { λ r. ⌜ (r ≡ true
         → uncutBelow (now (original .entry)) (now (starts .entry)) (now (ends .entry)) 64 ≡ true) ⌝ }
 {
@@ -127,16 +108,16 @@ fn one_each(original: &[u8], starts: &[Offset], ends: &[Offset], bytes: &mut [u8
     if !all_lead(bytes) {
         return false;
     }
-    all_span(&widths, starts, ends)
+    widths_match(&widths, starts, ends)
 }
 
 // Whether a block cuts no character.
 fn block_uncut(original: &[u8], starts: &[Offset], ends: &[Offset], bytes: &mut [u8; 64]) -> bool
     requires { ⌜ (length (now starts) ≡ 64) × (length (now ends) ≡ 64) ⌝ }
-    requires { ⌜ Inside (now original) (now starts) ⌝ }
+    requires { ⌜ StartsInside (now original) (now starts) ⌝ }
     ensures { λ r. ⌜ r ≡ uncutBelow (now (original .entry)) (now (starts .entry)) (now (ends .entry)) 64 ⌝ }
 {
-    if one_each(original, starts, ends, bytes) {
+    if whole_chars(original, starts, ends, bytes) {
         return true;
     }
     all_uncut(original, starts, ends)
@@ -145,7 +126,7 @@ fn block_uncut(original: &[u8], starts: &[Offset], ends: &[Offset], bytes: &mut 
 // The same in blocks.
 fn uncut_blocks(original: &[u8], starts: &[Offset], ends: &[Offset]) -> bool
     requires { ⌜ length (now ends) ≡ length (now starts) ⌝ }
-    requires { ⌜ Inside (now original) (now starts) ⌝ }
+    requires { ⌜ StartsInside (now original) (now starts) ⌝ }
     ensures { λ r. ⌜ r ≡ uncutBelow (now (original .entry)) (now (starts .entry)) (now (ends .entry))
         (length (now (starts .entry))) ⌝ }
 {

@@ -128,3 +128,10 @@ all-reached {whole} {d₀} {at} {d} l =
     let is : take at d ≡ whole = sym (append-nil (take at d)) ∙ l .so-far in
     let end : length whole ≡ at = sym (ap length is) ∙ length-take-le at d (omega (arith, l .room)) in
     sym (take-append-drop at d) ∙ rw (is, ← end, l .beyond)
+
+-- the front of a block, through a local array
+pub front-block : (src : List ℕ) (count : ℕ) (d : List ℕ) (at until : ℕ) (b₀ : List ℕ) {b d₁ : List ℕ} → Source src 0 count d at until → length b₀ ≡ 16 → count ≤ 16 → 16 ≤ length src → at + 16 ≤ until → b ≡ splice b₀ 0 (part src 0 16) → d₁ ≡ splice d at b → Over (part src 0 count) d at until d₁
+front-block src count d at until b₀ s size few long below local is =
+    let all : length (part src 0 16) ≡ 16 = omega (arith, length-part src 0 16 long) in
+    rw (part-front src 0 count 16 few) at
+    (over-front (count - 0) (over-exact (part src 0 16) d at until (omega (arith, s .until-room)) (through (part src 0 16) d at b₀ (omega arith) local is)) (omega arith) (omega (arith, s .until-room)) (omega arith))

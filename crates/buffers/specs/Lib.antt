@@ -4,3 +4,4 @@ pub mod Over
 pub mod Every
 pub mod Columns
 pub mod Same
+pub mod Keeping

@@ -77,6 +77,24 @@ pub fn copy_offsets_over(
     }
 }
 
+// The first `count` bytes of `src` stand in `dst` from `at` on: 16 at once where they are no more.
+pub fn copy_front_over(src: &[u8], count: usize, dst: &mut [u8], at: usize, until: usize)
+    requires { ⌜ Source (now src) 0 count (now dst) at until ⌝ }
+    ensures { λ _. ⌜ Over (part (now (src .entry)) 0 count) (now (dst .entry)) at until (now (dst .exit)) ⌝ }
+{
+    if count <= 16 {
+        if 16 <= src.len() {
+            if at + 16 <= until {
+                let mut block = [0u8; 16];
+                copy_bytes(&src[0..16], &mut block, 0);
+                copy_bytes(&block, dst, at);
+                return;
+            }
+        }
+    }
+    copy_bytes_over(src, 0, count, dst, at, until);
+}
+
 // `count` times `value` stands in `dst` from `at` on.
 pub fn fill_offsets_over(value: Offset, count: usize, dst: &mut [Offset], at: usize, until: usize)
     requires { ⌜ (at + count ≤ length (now dst)) × (until ≤ length (now dst)) ⌝ }

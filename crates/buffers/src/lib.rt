@@ -2,6 +2,8 @@
 // Each function here is an inner one: its callers have measured the room before.
 pub mod blocks;
 pub mod equality;
+pub mod lanes;
+pub mod parts;
 
 ghost use mathlib.Core.Path.{_≡_};
 ghost use Prim.Native.Nat.{_+_, _≤_};

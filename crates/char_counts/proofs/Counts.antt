@@ -1,4 +1,4 @@
--- Laws of `begun`, `Marked` and `countAt`: the marks one after the other, and a look-up.
+-- Laws of `begunAfterFirst`, `Marked` and `countAt`: the marks one after the other, and a look-up.
 use Prim.Native.Nat.{ℕ, _+_, _-_, _*_, _/_, _%_, _≤_, _<_}
 use mathlib.Core.Path.{_≡_, _∙_, ap, refl, sym}
 use mathlib.Core.Bool.{Bool, not}
@@ -10,29 +10,29 @@ use lib.Seq.{getD-set-same, getD-set-other, getD-drop, drop-drop}
 use Rattle.buffers.specs.Splice.{part}
 use Rattle.buffers.proofs.Cases.{le-or-lt}
 use Rattle.utf8.specs.Formed.{continues}
-use Rattle.utf8.specs.Letters.{leads}
+use Rattle.utf8.specs.Chars.{leads}
 use Rattle.utf8.specs.Counting.{Counted}
-use Rattle.utf8.proofs.Letters.{flag-counted, leads-le-length, leads-take-add}
-use Rattle.char_counts.specs.Counts.{begun, Marked, countAt, LookedUp, CountsLent}
+use Rattle.utf8.proofs.Chars.{flag-counted, leads-le-length, leads-take-add}
+use Rattle.char_counts.specs.Counts.{begunAfterFirst, Marked, countAt, LookedUp, CountsLent}
 
-pub begun-zero : (s : List ℕ) → begun s 0 ≡ 0
-unfolding begun leads
+pub begun-zero : (s : List ℕ) → begunAfterFirst s 0 ≡ 0
+unfolding begunAfterFirst leads
 begun-zero s = refl
 
-pub begun-most : (s : List ℕ) (b : ℕ) → begun s b ≤ b
-unfolding begun
+pub begun-most : (s : List ℕ) (b : ℕ) → begunAfterFirst s b ≤ b
+unfolding begunAfterFirst
 begun-most s b = omega (arith, leads-le-length (take b (drop 1 s)), length-take b (drop 1 s))
 
 -- k bytes on: as many more as begin there
-pub begun-add : (s : List ℕ) (b k : ℕ) → begun s (b + k) ≡ begun s b + leads (part s (b + 1) (b + 1 + k))
-unfolding begun
+pub begun-add : (s : List ℕ) (b k : ℕ) → begunAfterFirst s (b + k) ≡ begunAfterFirst s b + leads (part s (b + 1) (b + 1 + k))
+unfolding begunAfterFirst
 begun-add s b k =
     let gap : b + 1 + k - (b + 1) ≡ k = omega arith in
     let turn : 1 + b ≡ b + 1 = omega arith in
     rw (gap, leads-take-add (drop 1 s) b k, drop-drop b 1 s, turn)
 
-pub begun-next : (s : List ℕ) (b : ℕ) {t : Bool} → b + 1 < length s → t ≡ continues (getD s (b + 1) 0) → begun s (b + 1) ≡ begun s b + boolByte (not t)
-unfolding begun
+pub begun-next : (s : List ℕ) (b : ℕ) {t : Bool} → b + 1 < length s → t ≡ continues (getD s (b + 1) 0) → begunAfterFirst s (b + 1) ≡ begunAfterFirst s b + boolByte (not t)
+unfolding begunAfterFirst
 begun-next s b {t} h e =
     let turn : 1 + b ≡ b + 1 = omega arith in
     let long : b < length (drop 1 s) = simp length-drop (omega arith) in
@@ -43,11 +43,11 @@ begun-next s b {t} h e =
 -- the marks up to the k-th are written, and i is its byte
 pub record Marking (s d₀ d : List ℕ) (count i k : ℕ) : Type 0 where
   pub byte-is : i ≡ k * 128
-  pub count-is : count ≡ begun s i
+  pub count-is : count ≡ begunAfterFirst s i
   pub inside : i ≤ length s - 1
   pub same : length d ≡ length d₀
   pub room : length s ≤ 128 * length d
-  pub so-far : (j : ℕ) → j ≤ k → getD d j 0 ≡ begun s (j * 128)
+  pub so-far : (j : ℕ) → j ≤ k → getD d j 0 ≡ begunAfterFirst s (j * 128)
 
 pub first-mark : {s : List ℕ} (d : List ℕ) → 1 ≤ length d → length s ≤ 128 * length d → Marking s (set d 0 0) (set d 0 0) 0 0 0
 first-mark {s} d some enough =
@@ -63,7 +63,7 @@ first-mark {s} d some enough =
 pub next-mark : {s d₀ d : List ℕ} {count i k r : ℕ} → Marking s d₀ d count i k → 129 ≤ length s - i → r ≡ leads (part s (i + 1) (i + 129)) → Marking s d₀ (set d (k + 1) (count + r)) (count + r) (i + 128) (k + 1)
 next-mark {s} {d₀} {d} {count} {i} {k} {r} w more is =
     let end : i + 1 + 128 ≡ i + 129 = omega arith in
-    let on : count + r ≡ begun s (i + 128) = rw (w .count-is, is) (sym (rw end at (begun-add s i 128))) in
+    let on : count + r ≡ begunAfterFirst s (i + 128) = rw (w .count-is, is) (sym (rw end at (begun-add s i 128))) in
     let here : (k + 1) * 128 ≡ i + 128 = omega (arith, w .byte-is) in
     record {
       byte-is = sym here;
@@ -93,13 +93,13 @@ module _ {most : ℕ} {s marks lows : List ℕ} (b : ℕ) (lent : CountsLent mos
   pub can-look : LookedUp marks lows b
   can-look = record { mark = omega (arith, lent .marks-are .enough); low = omega (arith, lent .long) }
 
-  pub count-begun : countAt marks lows b ≡ begun s b
+  pub count-begun : countAt marks lows b ≡ begunAfterFirst s b
   unfolding countAt
   count-begun =
-      let mark : getD marks (b / 128) 0 ≡ begun s (128 * (b / 128)) = lent .marks-are .marked (b / 128) (omega arith) in
-      let low : getD lows b 0 ≡ begun s b % 256 = lent .lows-are b below in
+      let mark : getD marks (b / 128) 0 ≡ begunAfterFirst s (128 * (b / 128)) = lent .marks-are .marked (b / 128) (omega arith) in
+      let low : getD lows b 0 ≡ begunAfterFirst s b % 256 = lent .lows-are b below in
       let whole : 128 * (b / 128) + b % 128 ≡ b = omega arith in
-      let on : begun s b ≡ begun s (128 * (b / 128)) + leads (part s (128 * (b / 128) + 1) (128 * (b / 128) + 1 + b % 128)) = rw whole at (begun-add s (128 * (b / 128)) (b % 128)) in
+      let on : begunAfterFirst s b ≡ begunAfterFirst s (128 * (b / 128)) + leads (part s (128 * (b / 128) + 1) (128 * (b / 128) + 1 + b % 128)) = rw whole at (begun-add s (128 * (b / 128)) (b % 128)) in
       let few : leads (part s (128 * (b / 128) + 1) (128 * (b / 128) + 1 + b % 128)) ≤ b % 128 =
       omega (arith, leads-le-length (part s (128 * (b / 128) + 1) (128 * (b / 128) + 1 + b % 128)), length-take (128 * (b / 128) + 1 + b % 128 - (128 * (b / 128) + 1)) (drop (128 * (b / 128) + 1) s)) in
       rw (mark, low) (omega arith)

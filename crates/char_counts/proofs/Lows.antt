@@ -12,10 +12,10 @@ use Rattle.buffers.specs.Columns.{Filled}
 use Rattle.buffers.proofs.Cases.{le-or-lt}
 use Rattle.buffers.proofs.Splice.{length-part, part-index, part-append}
 use Rattle.utf8.specs.Formed.{continues}
-use Rattle.utf8.specs.Letters.{leads}
+use Rattle.utf8.specs.Chars.{leads}
 use Rattle.utf8.specs.Counting.{Counted}
-use Rattle.utf8.proofs.Letters.{none-counted, flag-counted, all-counted, counted-le, leads-append, leads-le-length}
-use Rattle.char_counts.specs.Counts.{begun}
+use Rattle.utf8.proofs.Chars.{none-counted, flag-counted, all-counted, counted-le, leads-append, leads-le-length}
+use Rattle.char_counts.specs.Counts.{begunAfterFirst}
 use Rattle.char_counts.specs.Lows.{fourAt, sixteenAt, LowsTo, BlockReady, EachReady}
 use Rattle.char_counts.proofs.Counts.{begun-zero, begun-add, begun-next}
 
@@ -94,7 +94,7 @@ first-low s d some =
     }
 
 module _ {s d₀ d : List ℕ} {n : ℕ} (w : LowsTo s d₀ n d) where
-  pub one-low : {x : ℕ} → n < length d₀ → x ≡ begun s n % 256 → LowsTo s d₀ (n + 1) (set d n x)
+  pub one-low : {x : ℕ} → n < length d₀ → x ≡ begunAfterFirst s n % 256 → LowsTo s d₀ (n + 1) (set d n x)
   one-low {x} room is =
       record {
         same = simp length-set (w .same);
@@ -115,10 +115,10 @@ module _ {s d₀ d : List ℕ} {n : ℕ} (w : LowsTo s d₀ n d) where
   lows-after v = record { same = v .same ∙ w .same; lows = v .lows }
 
   -- one byte on
-  pub next-low : {t : Bool} {r : ℕ} → 1 ≤ n → n < length s → t ≡ continues (getD s n 0) → r ≡ (getD d (n - 1) 0 + boolByte (not t)) % 256 → r ≡ begun s n % 256
+  pub next-low : {t : Bool} {r : ℕ} → 1 ≤ n → n < length s → t ≡ continues (getD s n 0) → r ≡ (getD d (n - 1) 0 + boolByte (not t)) % 256 → r ≡ begunAfterFirst s n % 256
   next-low {t} {r} some inside e is =
       let back : n - 1 + 1 ≡ n = omega arith in
-      let on : begun s n ≡ begun s (n - 1) + boolByte (not t) = rw back at (begun-next s (n - 1) {t = t} (omega arith) (rw back e)) in
+      let on : begunAfterFirst s n ≡ begunAfterFirst s (n - 1) + boolByte (not t) = rw back at (begun-next s (n - 1) {t = t} (omega arith) (rw back e)) in
       is ∙ omega (arith, w .lows (n - 1) (omega arith))
 
 pub block-ready : {s d₀ d : List ℕ} (i : ℕ) → LowsTo s d₀ (i + 16) d → i + 144 ≤ length s → length s ≤ length d₀ → BlockReady s i d
@@ -126,10 +126,10 @@ block-ready i w inside room =
     record { inside = inside; room = omega (arith, w .same); so-far = record { same = refl; lows = w .lows } }
 
 -- 16 bytes on
-pub far-low : {s d₀ d f₀ fours g₀ sixteens : List ℕ} (i j : ℕ) {r : ℕ} → LowsTo s d₀ (i + 16 + j) d → Filled (fourAt s (i + 1)) f₀ 0 140 fours → Filled (sixteenAt fours) g₀ 0 128 sixteens → j < 128 → r ≡ (getD d (i + j) 0 + getD sixteens j 0) % 256 → r ≡ begun s (i + 16 + j) % 256
+pub far-low : {s d₀ d f₀ fours g₀ sixteens : List ℕ} (i j : ℕ) {r : ℕ} → LowsTo s d₀ (i + 16 + j) d → Filled (fourAt s (i + 1)) f₀ 0 140 fours → Filled (sixteenAt fours) g₀ 0 128 sixteens → j < 128 → r ≡ (getD d (i + j) 0 + getD sixteens j 0) % 256 → r ≡ begunAfterFirst s (i + 16 + j) % 256
 far-low {s} {sixteens = sixteens} i j w fs gs h is =
     let turn : i + 1 + j ≡ i + j + 1 = omega arith in
     let sum : i + j + 16 ≡ i + 16 + j = omega arith in
     let more : getD sixteens j 0 ≡ leads (part s (i + j + 1) (i + j + 1 + 16)) = rw turn at (sixteen-leads s (i + 1) fs gs j h) in
-    let on : begun s (i + 16 + j) ≡ begun s (i + j) + leads (part s (i + j + 1) (i + j + 1 + 16)) = rw sum at (begun-add s (i + j) 16) in
+    let on : begunAfterFirst s (i + 16 + j) ≡ begunAfterFirst s (i + j) + leads (part s (i + j + 1) (i + j + 1 + 16)) = rw sum at (begun-add s (i + j) 16) in
     is ∙ omega (arith, w .lows (i + j) (omega arith))

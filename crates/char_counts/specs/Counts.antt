@@ -1,18 +1,18 @@
--- Working forms: how many characters have begun up to a byte, the marks of a text, and a look-up.
+-- Working forms: how many characters have begunAfterFirst up to a byte, the marks of a text, and a look-up.
 use Prim.Native.Nat.{ℕ, _+_, _-_, _*_, _/_, _%_, _≤_, _<_}
 use mathlib.Core.Path.{_≡_}
 use mathlib.Core.List.{List}
 use lib.ListN.{length, getD, take, drop}
-use Rattle.utf8.specs.Letters.{leads}
+use Rattle.utf8.specs.Chars.{leads}
 
--- how many characters have begun behind the first byte, up to the byte b
-unfoldable pub begun : List ℕ → ℕ → ℕ
-begun s b = leads (take b (drop 1 s))
+-- how many characters have begunAfterFirst behind the first byte, up to the byte b
+unfoldable pub begunAfterFirst : List ℕ → ℕ → ℕ
+begunAfterFirst s b = leads (take b (drop 1 s))
 
 -- the count at every 128th byte stands in front
 pub record Marked (s marks : List ℕ) : Type 0 where
   pub enough : length s ≤ 128 * length marks
-  pub marked : (k : ℕ) → 128 * k < length s → getD marks k 0 ≡ begun s (128 * k)
+  pub marked : (k : ℕ) → 128 * k < length s → getD marks k 0 ≡ begunAfterFirst s (128 * k)
 
 -- a text within a limit, and room for its marks
 pub record Markable (most : ℕ) (s marks : List ℕ) : Type 0 where
@@ -34,4 +34,4 @@ pub record CountsLent (most : ℕ) (s marks lows : List ℕ) : Type 0 where
   pub short : length s ≤ most
   pub marks-are : Marked s marks
   pub long : length s ≤ length lows
-  pub lows-are : (k : ℕ) → k < length s → getD lows k 0 ≡ begun s k % 256
+  pub lows-are : (k : ℕ) → k < length s → getD lows k 0 ≡ begunAfterFirst s k % 256

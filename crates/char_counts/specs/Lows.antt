@@ -4,8 +4,8 @@ use mathlib.Core.Path.{_≡_}
 use mathlib.Core.List.{List}
 use lib.ListN.{length, getD}
 use Rattle.buffers.specs.Splice.{part}
-use Rattle.utf8.specs.Letters.{leads}
-use Rattle.char_counts.specs.Counts.{begun}
+use Rattle.utf8.specs.Chars.{leads}
+use Rattle.char_counts.specs.Counts.{begunAfterFirst}
 
 -- how many of the four bytes from a place on begin a character, the places counted from `from` on
 unfoldable pub fourAt : List ℕ → ℕ → ℕ → ℕ
@@ -18,7 +18,7 @@ sixteenAt fours k = getD fours k 0 + getD fours (k + 4) 0 + getD fours (k + 8) 0
 -- the first n low bytes are there
 pub record LowsTo (s d₀ : List ℕ) (n : ℕ) (d : List ℕ) : Type 0 where
   pub same : length d ≡ length d₀
-  pub lows : (k : ℕ) → k < n → getD d k 0 ≡ begun s k % 256
+  pub lows : (k : ℕ) → k < n → getD d k 0 ≡ begunAfterFirst s k % 256
 
 -- 128 more can be told by those that are there
 pub record BlockReady (s : List ℕ) (i : ℕ) (d : List ℕ) : Type 0 where

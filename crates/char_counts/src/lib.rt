@@ -16,13 +16,13 @@ ghost use Rattle.char_counts.specs.Counts.{countAt, LookedUp, Markable, 
 pub const MARKS: usize = LIMIT / 128 + 1;
 
 // Room for the counts of a text within the limit.
-pub fn blank_marks() -> [Offset; MARKS]
+pub fn zeroed_marks() -> [Offset; MARKS]
     ensures { λ r. ⌜ 512 ≡ length r ⌝ }
 {
     [0; MARKS]
 }
 
-pub fn blank_lows() -> [u8; LIMIT]
+pub fn zeroed_lows() -> [u8; LIMIT]
     ensures { λ r. ⌜ limit ≡ length r ⌝ }
 {
     [0; LIMIT]

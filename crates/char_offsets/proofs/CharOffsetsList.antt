@@ -9,19 +9,20 @@ use lib.Dec.{eqb}
 use lib.ListN.{length, getD, set}
 use Rattle.buffers.proofs.Columns.{Filling, none-filling, one-filling, all-filling}
 use Rattle.note.specs.declared.Refusal.{Refusal}
-use Rattle.note.specs.declared.Refusal.the-variants.{LengthMismatch, NoRoom, Missing}
+use Rattle.note.specs.declared.Refusal.the-variants.{LengthMismatch, NoRoom, Missing, IllFormed}
 use Rattle.note.specs.declared.Verdict.{Verdict}
 use Rattle.note.specs.declared.Verdict.the-variants.{Accepted, Refused as Rejected}
 use Rattle.note.specs.Refusals.{none, meets, also, verdict, least}
 use Rattle.note.specs.Rank.{earlier}
-use Rattle.note.specs.Faults.{textFaults, roomFaults, unevenFaults}
-use Rattle.note.proofs.Verdicts.{refused-then, accepted-then}
+use Rattle.note.specs.Faults.{textFaults, roomFaults, lengthFaults}
+use Rattle.note.specs.Rank.{upTo}
+use Rattle.note.proofs.FirstMet.{refused-then, accepted-then}
 use Rattle.note.proofs.Uneven.{beside-list}
 use Rattle.note.proofs.Faults.{no-room, enough-room}
 use Rattle.char_offsets.specs.declared.CharOffsets.{CharOffsets}
 use Rattle.char_offsets.specs.declared.CharOffsets.the-variants.{Refused}
 use Rattle.char_offsets.specs.declared.Pair.{Pair}
-use Rattle.char_offsets.specs.Positions.{indexOf, mapped, chars, endIndex, pairOf, pairUnlessRefused, charOffsets, pairNumber, pairStart, pairEnd, pairAt, CharOffsetsList}
+use Rattle.char_offsets.specs.Positions.{indexOf, isMapped, charPair, endIndex, pairOf, pairUnlessRefused, charOffsets, pairNumber, pairStart, pairEnd, pairAt, CharOffsetsList}
 use Rattle.char_offsets.specs.Steps.{IndexKnown, PairTold, PairRoom, PairsWritten}
 
 -- nothing is read yet
@@ -30,36 +31,36 @@ unfolding indexOf
 known-none h = record { short = h; inside = omega arith; so-far = refl }
 
 -- one pair
-missing-verdict : (s : List ℕ) (a : ℕ) → verdict (meets Missing (not (mapped s a)) none) ≡ cond (not (mapped s a)) (Rejected Missing) Accepted
+missing-verdict : (s : List ℕ) (a : ℕ) → verdict (meets Missing (not (isMapped s a)) none) ≡ cond (not (isMapped s a)) (Rejected Missing) Accepted
 unfolding verdict
 missing-verdict s a = refl
 
 module _ (most : ℕ) (s : List ℕ) (a e : ℕ) {v : Verdict} (is : v ≡ verdict (textFaults most s)) where
   abbrev starts-there : Refusal → Bool
-  starts-there = meets Missing (not (mapped s a)) none
+  starts-there = meets Missing (not (isMapped s a)) none
 
   abbrev answer : Verdict → CharOffsets
   answer w = pairUnlessRefused w (pairOf s a e)
 
   pub pair-refused : {k : Refusal} → v ≡ Rejected k → Refused k ≡ charOffsets most s a e
   unfolding charOffsets
-  pair-refused no-text = ap answer (refused-then 3 (textFaults most s) starts-there refl refl is no-text)
+  pair-refused no-text = ap answer (refused-then (upTo IllFormed) (textFaults most s) starts-there refl refl is no-text)
 
   module _ (ok : v ≡ Accepted) where
     pub pair-missing : length s ≤ a → Refused Missing ≡ charOffsets most s a e
     unfolding charOffsets
     pair-missing past =
         let off : Rejected Missing ≡ verdict starts-there = sym (missing-verdict s a ∙ rw (le-ltb a (length s) past)) in
-        ap answer (accepted-then 3 (textFaults most s) starts-there refl refl is ok off)
+        ap answer (accepted-then (upTo IllFormed) (textFaults most s) starts-there refl refl is ok off)
 
-    pub pair-chars : {r : Pair} → a < length s → PairTold s a e r → chars (r .start) (r .end) ≡ charOffsets most s a e
+    pub pair-chars : {r : Pair} → a < length s → PairTold s a e r → charPair (r .start) (r .end) ≡ charOffsets most s a e
     unfolding charOffsets pairOf
     pair-chars {r} below t =
         let start : r .start ≡ indexOf s a = rw (lt-ltb a (length s) below) at (t .start-is) in
         let end : r .end ≡ endIndex s a e = rw (lt-ltb a (length s) below) at (t .end-is) in
-        let pair : chars (r .start) (r .end) ≡ pairOf s a e = rw (lt-ltb a (length s) below, start, end) in
+        let pair : charPair (r .start) (r .end) ≡ pairOf s a e = rw (lt-ltb a (length s) below, start, end) in
         let on : Accepted ≡ verdict starts-there = sym (missing-verdict s a ∙ rw (lt-ltb a (length s) below)) in
-        pair ∙ ap answer (accepted-then 3 (textFaults most s) starts-there refl refl is ok on)
+        pair ∙ ap answer (accepted-then (upTo IllFormed) (textFaults most s) starts-there refl refl is ok on)
 
 -- the first i answers are written
 abbrev pub PairsWriting : List ℕ → List ℕ → List ℕ → List ℕ → List ℕ → List ℕ → List ℕ → List ℕ → List ℕ → ℕ → Type 0
@@ -78,7 +79,7 @@ module _ {s starts ends n₀ a₀ e₀ : List ℕ} (room : PairRoom starts ends 
 
 -- a list of pairs
 abbrev inputs : ℕ → List ℕ → List ℕ → List ℕ → Refusal → Bool
-inputs most s starts ends = also (textFaults most s) (unevenFaults starts ends)
+inputs most s starts ends = also (textFaults most s) (lengthFaults starts ends)
 
 module _ (most : ℕ) (s starts ends n₀ a₀ e₀ : List ℕ) {v w u : Verdict} (p : v ≡ verdict (textFaults most s)) (q : w ≡ cond (not (eqb (length starts) (length ends))) (Rejected LengthMismatch) Accepted) (both : u ≡ earlier v w) where
   abbrev room : ℕ
@@ -90,7 +91,7 @@ module _ (most : ℕ) (s starts ends n₀ a₀ e₀ : List ℕ) {v w u : Verdict
   pub list-refused : {k : Refusal} → u ≡ Rejected k → CharOffsetsList most s starts ends n₀ a₀ e₀ (Rejected k) n₀ a₀ e₀
   list-refused is =
       record {
-        answer = refused-then 3 (inputs most s starts ends) rooms refl refl (beside-list (textFaults most s) starts ends p q both) is;
+        answer = refused-then (upTo IllFormed) (inputs most s starts ends) rooms refl refl (beside-list (textFaults most s) starts ends p q both) is;
         numbers-are = refl;
         starts-are = refl;
         ends-are = refl;
@@ -100,7 +101,7 @@ module _ (most : ℕ) (s starts ends n₀ a₀ e₀ : List ℕ) {v w u : Verdict
     pub too-little-room : room < length starts → CharOffsetsList most s starts ends n₀ a₀ e₀ (Rejected NoRoom) n₀ a₀ e₀
     too-little-room h =
         record {
-          answer = accepted-then 3 (inputs most s starts ends) rooms refl refl (beside-list (textFaults most s) starts ends p q both) ok (no-room h);
+          answer = accepted-then (upTo IllFormed) (inputs most s starts ends) rooms refl refl (beside-list (textFaults most s) starts ends p q both) ok (no-room h);
           numbers-are = refl;
           starts-are = refl;
           ends-are = refl;
@@ -109,7 +110,7 @@ module _ (most : ℕ) (s starts ends n₀ a₀ e₀ : List ℕ) {v w u : Verdict
     pub list-written : {n a e : List ℕ} → length starts ≤ room → PairsWritten s starts ends n₀ a₀ e₀ n a e → CharOffsetsList most s starts ends n₀ a₀ e₀ Accepted n a e
     list-written h written =
         record {
-          answer = accepted-then 3 (inputs most s starts ends) rooms refl refl (beside-list (textFaults most s) starts ends p q both) ok (enough-room h);
+          answer = accepted-then (upTo IllFormed) (inputs most s starts ends) rooms refl refl (beside-list (textFaults most s) starts ends p q both) ok (enough-room h);
           numbers-are = written .numbers-are;
           starts-are = written .starts-are;
           ends-are = written .ends-are;

@@ -11,16 +11,16 @@ use lib.ListN.{length, getD, take, drop, length-drop, take-append-drop}
 use lib.Seq.{getD-drop}
 use Rattle.buffers.proofs.Cases.{le-or-lt, true-or-false}
 use Rattle.utf8.specs.Formed.{wellFormed, continues}
-use Rattle.utf8.specs.Letters.{leads, leadAt}
+use Rattle.utf8.specs.Chars.{leads, leadAt}
 use Rattle.utf8.proofs.Boundaries.{boundary-zero, boundary-begins, formed-part}
-use Rattle.utf8.proofs.Letters.{lead-one, lead-zero, leads-take, leads-append, letters-leads}
+use Rattle.utf8.proofs.Chars.{lead-one, lead-zero, leads-take, leads-append, chars-leads}
 use Rattle.note.specs.declared.Refusal.the-variants.{Missing}
-use Rattle.note.specs.Starting.{charStart}
-use Rattle.note.proofs.Starting.{ranged}
-use Rattle.char_counts.specs.Counts.{begun, countAt, CountsLent}
+use Rattle.utf8.specs.CharRanges.{charStart}
+use Rattle.utf8.proofs.CharRanges.{ranged}
+use Rattle.char_counts.specs.Counts.{begunAfterFirst, countAt, CountsLent}
 use Rattle.char_counts.proofs.Counts.{count-begun}
 use Rattle.char_offsets.specs.declared.CharOffsets.the-variants.{Refused}
-use Rattle.char_offsets.specs.Positions.{indexOf, chars, endIndex, pairOf, pairStart, pairEnd, IndexIsLetters, PositionsBounded}
+use Rattle.char_offsets.specs.Positions.{indexOf, charPair, endIndex, pairOf, pairStart, pairEnd, IndexIsChars, PositionsBounded}
 
 pub index-most : (s : List ℕ) (b : ℕ) → indexOf s b ≤ b
 unfolding indexOf
@@ -48,7 +48,7 @@ index-add s a (suc k) h =
 
 -- by the counts of a text that are kept
 pub count-index : {most : ℕ} {s marks lows : List ℕ} {b r : ℕ} → CountsLent most s marks lows → b < length s → r ≡ countAt marks lows b → r ≡ indexOf s b
-unfolding indexOf begun
+unfolding indexOf begunAfterFirst
 count-index {s = s} {b = b} lent below e =
     e ∙ count-begun b lent below ∙ sym (rw (zero-add b, zero-add 1) at (index-add s 0 b (omega arith)) ∙ zero-add (leads (take b (drop 1 s))))
 
@@ -89,20 +89,20 @@ index-start s (suc b) formed h =
     (λ more. rw more (index-start s b formed (omega arith)))
     (λ new. rw new (rw (add-one b) at (index-leads s b formed (omega arith))))
 
-pub index-is-letters : IndexIsLetters
-index-is-letters s b formed h =
+pub index-is-chars : IndexIsChars
+index-is-chars s b formed h =
     let c : ℕ = charStart s b in
     let here : c - 0 ≡ c = omega arith in
     let whole : wellFormed (take (c - 0) (drop 0 s)) ≡ true = formed-part s 0 c formed (boundary-zero s formed) (ranged s b formed h .begins) (omega arith) in
-    sym (letters-leads (take c s) (rw here at whole) ∙ index-start s b formed h)
+    sym (chars-leads (take c s) (rw here at whole) ∙ index-start s b formed h)
 
 pub positions-bounded : PositionsBounded
 unfolding pairOf
 positions-bounded s a e i j formed p =
     le-or-lt (length s) a
-    (λ past. let none : Refused Missing ≡ chars i j = rw (le-ltb a (length s) past) at p in let z : _≡_ {A = ℕ} 0 1 = cc in absurd (omega arith))
+    (λ past. let none : Refused Missing ≡ charPair i j = rw (le-ltb a (length s) past) at p in let z : _≡_ {A = ℕ} 0 1 = cc in absurd (omega arith))
     (λ below.
-    let is : chars (indexOf s a) (endIndex s a e) ≡ chars i j = rw (lt-ltb a (length s) below) at p in
+    let is : charPair (indexOf s a) (endIndex s a e) ≡ charPair i j = rw (lt-ltb a (length s) below) at p in
     let first : indexOf s a ≡ i = ap pairStart is in
     let last : endIndex s a e ≡ j = ap pairEnd is in
     (omega (arith, index-less s a formed below), omega (arith, end-most s a e formed below)))

@@ -10,17 +10,18 @@ use borrow.Author.Tests.{le-leb, lt-leb}
 use Rattle.buffers.specs.Splice.{part}
 use Rattle.buffers.proofs.Booleans.{and-false-l, and-false-r}
 use Rattle.utf8.specs.Formed.{boundary}
-use Rattle.utf8.specs.Letters.{leads, letters}
+use Rattle.utf8.specs.Chars.{leads, chars}
 use Rattle.utf8.proofs.Boundaries.{formed-part}
-use Rattle.utf8.proofs.Letters.{letters-leads, leads-le-length}
+use Rattle.utf8.proofs.Chars.{chars-leads, leads-le-length}
 use Rattle.note.specs.declared.Refusal.{Refusal}
-use Rattle.note.specs.declared.Refusal.the-variants.{NotBoundary}
+use Rattle.note.specs.declared.Refusal.the-variants.{NotBoundary, IllFormed}
 use Rattle.note.specs.declared.Verdict.{Verdict}
 use Rattle.note.specs.declared.Verdict.the-variants.{Accepted, Refused as Rejected}
 use Rattle.note.specs.Refusals.{verdict}
 use Rattle.note.specs.Faults.{textFaults}
 use Rattle.note.proofs.Faults.{text-formed}
-use Rattle.note.proofs.Verdicts.{refused-then, accepted-then}
+use Rattle.note.specs.Rank.{upTo}
+use Rattle.note.proofs.FirstMet.{refused-then, accepted-then}
 use Rattle.char_offsets.specs.declared.letters.LetterCount.{LetterCount}
 use Rattle.char_offsets.specs.declared.letters.LetterCount.the-variants.{Letters, Refused}
 use Rattle.char_offsets.specs.Counting.{rangeOffFaults, countUnlessRefused, letterCount}
@@ -34,18 +35,18 @@ leads-part-le s a e = omega (arith, leads-le-length (part s a e), length-take (e
 
 module _ (most : ℕ) (s : List ℕ) (a e : ℕ) {v : Verdict} (is : v ≡ verdict (textFaults most s)) where
   abbrev answer : Verdict → LetterCount
-  answer w = countUnlessRefused w (letters (part s a e))
+  answer w = countUnlessRefused w (chars (part s a e))
 
   pub count-refused : {k : Refusal} → v ≡ Rejected k → Refused k ≡ letterCount most s a e
   unfolding letterCount
-  count-refused text = ap answer (refused-then 3 (textFaults most s) (rangeOffFaults s a e) refl refl is text)
+  count-refused text = ap answer (refused-then (upTo IllFormed) (textFaults most s) (rangeOffFaults s a e) refl refl is text)
 
   module _ (ok : v ≡ Accepted) where
     count-off : (boundary s a && boundary s e && leb a e) ≡ false → Refused NotBoundary ≡ letterCount most s a e
     unfolding letterCount
     count-off q =
         let off : Rejected NotBoundary ≡ verdict (rangeOffFaults s a e) = sym (range-verdict s a e ∙ rw q) in
-        ap answer (accepted-then 3 (textFaults most s) (rangeOffFaults s a e) refl refl is ok off)
+        ap answer (accepted-then (upTo IllFormed) (textFaults most s) (rangeOffFaults s a e) refl refl is ok off)
 
     pub count-reversed : e < a → Refused NotBoundary ≡ letterCount most s a e
     count-reversed q = count-off (and-false-r (boundary s a && boundary s e) _ (lt-leb a e q))
@@ -60,5 +61,5 @@ module _ (most : ℕ) (s : List ℕ) (a e : ℕ) {v : Verdict} (is : v ≡ verdi
     unfolding letterCount
     count-is q x y n =
         let on : Accepted ≡ verdict (rangeOffFaults s a e) = sym (range-verdict s a e ∙ rw (x, y, le-leb a e q)) in
-        ap Letters (n ∙ sym (letters-leads (part s a e) (formed-part s a e (text-formed most s (sym is ∙ ok)) x y q)))
-        ∙ ap answer (accepted-then 3 (textFaults most s) (rangeOffFaults s a e) refl refl is ok on)
+        ap Letters (n ∙ sym (chars-leads (part s a e) (formed-part s a e (text-formed most s (sym is ∙ ok)) x y q)))
+        ∙ ap answer (accepted-then (upTo IllFormed) (textFaults most s) (rangeOffFaults s a e) refl refl is ok on)

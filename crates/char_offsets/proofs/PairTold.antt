@@ -11,9 +11,9 @@ use Rattle.buffers.specs.Splice.{part}
 use Rattle.buffers.proofs.Cases.{le-or-lt}
 use Rattle.buffers.proofs.Splice.{length-part, part-index}
 use Rattle.utf8.specs.Formed.{continues}
-use Rattle.utf8.specs.Letters.{leads}
+use Rattle.utf8.specs.Chars.{leads}
 use Rattle.utf8.specs.Counting.{Counted}
-use Rattle.utf8.proofs.Letters.{none-counted, flag-counted, counted-le, all-counted}
+use Rattle.utf8.proofs.Chars.{none-counted, flag-counted, counted-le, all-counted}
 use Rattle.char_offsets.specs.Positions.{indexOf, endIndex, pairOf}
 use Rattle.char_offsets.specs.declared.EndByte.{EndByte}
 use Rattle.char_offsets.specs.Steps.{IndexKnown, Near, EndTold, PairTold}

@@ -5,7 +5,7 @@ use mathlib.Core.List.{List}
 use lib.Dec.{leb}
 use Rattle.buffers.specs.Splice.{part}
 use Rattle.utf8.specs.Formed.{boundary}
-use Rattle.utf8.specs.Letters.{letters}
+use Rattle.utf8.specs.Chars.{chars}
 use Rattle.note.specs.declared.Refusal.{Refusal}
 use Rattle.note.specs.declared.Refusal.the-variants.{NotBoundary}
 use Rattle.note.specs.declared.Verdict.{Verdict}
@@ -27,4 +27,4 @@ countUnlessRefused Accepted n = Letters n
 countUnlessRefused (Rejected k) n = Refused k
 
 unfoldable pub letterCount : ℕ → List ℕ → ℕ → ℕ → LetterCount
-letterCount most s a e = countUnlessRefused (verdict (countFaults most s a e)) (letters (part s a e))
+letterCount most s a e = countUnlessRefused (verdict (countFaults most s a e)) (chars (part s a e))

@@ -7,14 +7,14 @@ use lib.Dec.{ltb}
 use lib.ListN.{length, getD, take}
 use Rattle.buffers.specs.Columns.{column}
 use Rattle.utf8.specs.Formed.{wellFormed, continues}
-use Rattle.utf8.specs.Letters.{letters, leads}
+use Rattle.utf8.specs.Chars.{chars, leads}
 use Rattle.note.specs.declared.Refusal.{Refusal}
 use Rattle.note.specs.declared.Refusal.the-variants.{Missing}
 use Rattle.note.specs.declared.Verdict.{Verdict}
 use Rattle.note.specs.declared.Verdict.the-variants.{Accepted, Refused as Rejected}
 use Rattle.note.specs.Refusals.{numberOf, none, meets, also, verdict, least, after}
-use Rattle.note.specs.Faults.{textFaults, roomFaults, unevenFaults}
-use Rattle.note.specs.Starting.{charStart}
+use Rattle.note.specs.Faults.{textFaults, roomFaults, lengthFaults}
+use Rattle.utf8.specs.CharRanges.{charStart}
 use Rattle.char_offsets.specs.declared.CharOffsets.{CharOffsets}
 use Rattle.char_offsets.specs.declared.CharOffsets.the-variants.{Chars, Refused}
 
@@ -23,23 +23,23 @@ unfoldable pub indexOf : List ℕ → ℕ → ℕ
 indexOf s zero = 0
 indexOf s (suc b) = cond (continues (getD s (suc b) 0)) (indexOf s b) (indexOf s b + 1)
 
-abbrev pub mapped : List ℕ → ℕ → Bool
-mapped s b = ltb b (length s)
+abbrev pub isMapped : List ℕ → ℕ → Bool
+isMapped s b = ltb b (length s)
 
-abbrev pub chars : ℕ → ℕ → CharOffsets
-chars a e = Chars (record { 0 = a }) (record { 0 = e })
+abbrev pub charPair : ℕ → ℕ → CharOffsets
+charPair a e = Chars (record { 0 = a }) (record { 0 = e })
 
 -- RULES 12.3: the end's index, or the one before it plus 1, or the start's plus 2
 unfoldable pub endIndex : List ℕ → ℕ → ℕ → ℕ
 endIndex s a e =
-    cond (mapped s e) (indexOf s e) (cond (mapped s (e - 1)) (indexOf s (e - 1) + 1) (indexOf s a + 2))
+    cond (isMapped s e) (indexOf s e) (cond (isMapped s (e - 1)) (indexOf s (e - 1) + 1) (indexOf s a + 2))
 
 unfoldable pub pairOf : List ℕ → ℕ → ℕ → CharOffsets
-pairOf s a e = cond (mapped s a) (chars (indexOf s a) (endIndex s a e)) (Refused Missing)
+pairOf s a e = cond (isMapped s a) (charPair (indexOf s a) (endIndex s a e)) (Refused Missing)
 
 -- RULES 12.2: one pair
 abbrev pub pairFaults : ℕ → List ℕ → ℕ → Refusal → Bool
-pairFaults most s a = also (textFaults most s) (meets Missing (not (mapped s a)) none)
+pairFaults most s a = also (textFaults most s) (meets Missing (not (isMapped s a)) none)
 
 abbrev pub pairUnlessRefused : Verdict → CharOffsets → CharOffsets
 pairUnlessRefused Accepted pair = pair
@@ -68,7 +68,7 @@ pairAt s starts ends i = pairOf s (getD starts i 0) (getD ends i 0)
 -- the text's refusals, beside them a list that has not as many ends as starts; then the room for one answer a pair
 abbrev pub charOffsetsListFaults : ℕ → List ℕ → List ℕ → List ℕ → ℕ → Refusal → Bool
 charOffsetsListFaults most s starts ends room =
-    also (also (textFaults most s) (unevenFaults starts ends)) (roomFaults (length starts) room)
+    also (also (textFaults most s) (lengthFaults starts ends)) (roomFaults (length starts) room)
 
 -- the text, the pairs, the lent columns before, the answer, the lent columns after
 pub record CharOffsetsList (most : ℕ) (s starts ends n₀ a₀ e₀ : List ℕ) (r : Verdict) (n₁ a₁ e₁ : List ℕ) : Type 0 where
@@ -78,11 +78,11 @@ pub record CharOffsetsList (most : ℕ) (s starts ends n₀ a₀ e₀ : List ℕ
   pub ends-are : e₁ ≡ after r (column (length starts) (λ i. pairEnd (pairAt s starts ends i))) e₀
 
 -- CLAIM: a byte's index is the number of letters before the character that it belongs to.
-abbrev pub IndexIsLetters : Type 0
-IndexIsLetters =
-    (s : List ℕ) (b : ℕ) → wellFormed s ≡ true → b < length s → indexOf s b ≡ letters (take (charStart s b) s)
+abbrev pub IndexIsChars : Type 0
+IndexIsChars =
+    (s : List ℕ) (b : ℕ) → wellFormed s ≡ true → b < length s → indexOf s b ≡ chars (take (charStart s b) s)
 
 -- CLAIM: a start that is answered is below the number of characters, an end at most one more than it.
 abbrev pub PositionsBounded : Type 0
 PositionsBounded =
-    (s : List ℕ) (a e i j : ℕ) → wellFormed s ≡ true → pairOf s a e ≡ chars i j → (i < leads s) × (j ≤ leads s + 1)
+    (s : List ℕ) (a e i j : ℕ) → wellFormed s ≡ true → pairOf s a e ≡ charPair i j → (i < leads s) × (j ≤ leads s + 1)

@@ -4,8 +4,8 @@
 pub mod letters;
 
 use buffers::Offset;
-use char_counts::blank_lows;
-use char_counts::blank_marks;
+use char_counts::zeroed_lows;
+use char_counts::zeroed_marks;
 use char_counts::count_at;
 use char_counts::low_bytes::write_lows;
 use char_counts::write_marks;
@@ -15,15 +15,15 @@ use note::CharIndex;
 use note::OriginalByte;
 use note::Refusal;
 use note::Verdict;
-use note::answers::earlier;
-use note::answers::refused_if;
+use note::verdicts::earlier;
+use note::verdicts::refused_if;
 use utf8::continues;
 use utf8::count::count_leads;
 ghost use mathlib.Core.Path.{_≡_};
 ghost use Prim.Native.Nat.{_≤_, _<_};
 ghost use lib.ListN.{length};
 ghost use Rattle.buffers.specs.Splice.{part};
-ghost use Rattle.utf8.specs.Letters.{leads};
+ghost use Rattle.utf8.specs.Chars.{leads};
 ghost use Rattle.note.specs.Notes.{limit};
 ghost use Rattle.char_offsets.specs.Positions.{charOffsets, CharOffsetsList, indexOf};
 ghost use Rattle.char_counts.specs.Counts.{CountsLent};
@@ -181,9 +181,9 @@ fn count_and_write(
         (now (numbers .entry)) (now («char_starts» .entry)) (now («char_ends» .entry))
         (now (numbers .exit)) (now («char_starts» .exit)) (now («char_ends» .exit)) ⌝ }
 {
-    let mut marks = blank_marks();
+    let mut marks = zeroed_marks();
     write_marks(text, &mut marks);
-    let mut lows = blank_lows();
+    let mut lows = zeroed_lows();
     write_lows(text, &mut lows);
     write_pairs(
         text,

@@ -5,7 +5,7 @@ use buffers::equality::same_bytes;
 use note::LIMIT;
 use note::Refusal;
 use note::Verdict;
-use note::answers::refused_if;
+use note::verdicts::refused_if;
 use validity::is_ascii;
 use validity::well_formed;
 ghost use mathlib.Core.Path.{_≡_};

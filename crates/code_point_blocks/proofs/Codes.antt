@@ -12,8 +12,8 @@ use Rattle.buffers.specs.Splice.{part}
 use Rattle.buffers.proofs.Cases.{true-or-false}
 use Rattle.utf8.specs.Scalar.{scalar, bytesOf}
 use Rattle.utf8.proofs.Scalar.{bytesOf-scalar, encoded-one}
-use Rattle.script.specs.Scripts.{sizeOf}
-use Rattle.script.proofs.Scripts.{size-most}
+use Rattle.utf8.specs.Scalar.{lenUtf8}
+use Rattle.utf8.proofs.LenUtf8.{size-most}
 use Rattle.code_point_blocks.specs.Codes.{textOf, allScalar}
 
 pub text-append : (a b : List ℕ) → textOf (a ++ b) ≡ textOf a ++ textOf b
@@ -27,7 +27,7 @@ scalar-append [] b = refl
 scalar-append (c ∷ cs) b = true-or-false (scalar c) (λ t. rw t (scalar-append cs b)) (λ u. rw u)
 
 pub length-text : (cs : List ℕ) → length (textOf cs) ≤ length cs * 4
-unfolding textOf sizeOf
+unfolding textOf lenUtf8
 length-text [] = omega arith
 length-text (c ∷ cs) = omega (arith, length-append (bytesOf c) (textOf cs), size-most c, length-text cs)
 

@@ -1,4 +1,4 @@
--- Laws of `packed`, and of the bits that numbers have together.
+-- Laws of `packedCode`, and of the bits that numbers have together.
 use Prim.Native.Nat.{ℕ, _+_, _*_, _/_, _%_, _≤_, _<_}
 use mathlib.Core.Path.{_≡_, _∙_, refl}
 use mathlib.Core.Bool.{true, cond}
@@ -17,7 +17,7 @@ use Rattle.numbers.specs.LittleEndian.{littleEndian}
 use Rattle.numbers.proofs.LittleEndian.{length-littleEndian}
 use Rattle.utf8.specs.Scalar.{scalar, sixBits, bytesOf}
 use Rattle.utf8.proofs.Scalar.{bytesOf-scalar, encoded-one, encoded-two, encoded-three}
-use Rattle.code_point_blocks.specs.Laying.{packed, wordBytes}
+use Rattle.code_point_blocks.specs.Laying.{packedCode, wordBytes}
 
 pub record Gathered (codes : List ℕ) (bits i : ℕ) : Type 0 where
   pub most : (k : ℕ) → k < i → getD codes k 0 ≤ bits
@@ -37,15 +37,15 @@ one-gathered {codes} {bits} {i} g h =
       inside = omega arith;
     }
 
-pub packed-picked : (c : ℕ) {x y : ℕ} → x ≡ cond (ltb c 0x800) (0x20080C0 + c / 64 % 32 + c % 64 * 256) (0x38080E0 + c / 4096 % 16 + c / 64 % 64 * 256 + c % 64 * 65536) → y ≡ cond (ltb c 0x80) (0x1000000 + c % 128) x → y ≡ packed c
-unfolding packed
+pub packed-picked : (c : ℕ) {x y : ℕ} → x ≡ cond (ltb c 0x800) (0x20080C0 + c / 64 % 32 + c % 64 * 256) (0x38080E0 + c / 4096 % 16 + c / 64 % 64 * 256 + c % 64 * 65536) → y ≡ cond (ltb c 0x80) (0x1000000 + c % 128) x → y ≡ packedCode c
+unfolding packedCode
 packed-picked c inner outer = outer ∙ rw inner
 
 -- a word has the bytes of its code point in front, and how many they are on top
 pub record Packing (c : ℕ) : Type 0 where
-  pub wide : packed c / 16777216 ≡ length (bytesOf c)
+  pub wide : packedCode c / 16777216 ≡ length (bytesOf c)
   pub few : length (bytesOf c) ≤ 4
-  pub bytes : take (length (bytesOf c)) (wordBytes (packed c)) ≡ bytesOf c
+  pub bytes : take (length (bytesOf c)) (wordBytes (packedCode c)) ≡ bytesOf c
 
 module _ (a b c d : ℕ) (ha : a < 256) (hb : b < 256) (hc : c < 256) (hd : d < 256) where
   abbrev word : ℕ
@@ -72,25 +72,25 @@ module _ (a b c d : ℕ) (ha : a < 256) (hb : b < 256) (hc : c < 256) (hd : d < 
       let z : (c + d * 256) / 256 % 256 ≡ d = rw ds (omega arith) in
       λ i. w i ∷ x i ∷ y i ∷ z i ∷ [])
 
-  packing-of : (n : ℕ) → packed n ≡ word → d ≡ length (bytesOf n) → d ≤ 4 → take (length (bytesOf n)) (a ∷ b ∷ c ∷ d ∷ []) ≡ bytesOf n → Packing n
+  packing-of : (n : ℕ) → packedCode n ≡ word → d ≡ length (bytesOf n) → d ≤ 4 → take (length (bytesOf n)) (a ∷ b ∷ c ∷ d ∷ []) ≡ bytesOf n → Packing n
   packing-of n is wide few front =
       record { wide = rw is word-top ∙ wide; few = omega (arith, wide); bytes = rw (is, word-bytes) front }
 
 module _ (c : ℕ) (ok : scalar c ≡ true) where
   packing-one : c < 0x80 → Packing c
-  unfolding packed
+  unfolding packedCode
   packing-one one =
       let b : bytesOf c ≡ (c ∷ []) = bytesOf-scalar c ok ∙ encoded-one c one in
       packing-of c 0 0 1 (omega arith) (omega arith) (omega arith) (omega arith) c (rw (lt-ltb c 0x80 one) (omega arith)) (rw b) (omega arith) (rw b)
 
   packing-two : 0x80 ≤ c → c < 0x800 → Packing c
-  unfolding packed
+  unfolding packedCode
   packing-two more some =
       let b : bytesOf c ≡ ((0xC0 + c / 64) ∷ sixBits c ∷ []) = bytesOf-scalar c ok ∙ encoded-two c more some in
       packing-of (0xC0 + c / 64) (0x80 + c % 64) 0 2 (omega arith) (omega arith) (omega arith) (omega arith) c (rw (le-ltb c 0x80 more, lt-ltb c 0x800 some) (omega arith)) (rw b) (omega arith) (rw b)
 
   packing-three : 0x800 ≤ c → c < 0x10000 → Packing c
-  unfolding packed
+  unfolding packedCode
   packing-three most below =
       let b : bytesOf c ≡ ((0xE0 + c / 4096) ∷ sixBits (c / 64) ∷ sixBits c ∷ []) = bytesOf-scalar c ok ∙ encoded-three c most below in
       packing-of (0xE0 + c / 4096) (0x80 + c / 64 % 64) (0x80 + c % 64) 3 (omega arith) (omega arith) (omega arith) (omega arith) c (rw (le-ltb c 0x80 (omega arith), le-ltb c 0x800 most) (omega arith)) (rw b) (omega arith) (rw b)
@@ -108,8 +108,8 @@ word-stored d at w room first second =
     second ∙ rw first (rw (length-littleEndian 2 (w % 65536)) at (splice-splice d (littleEndian 2 (w % 65536)) (littleEndian 2 (w / 65536)) at (omega arith)))
 
 -- of its four bytes the code point's are meant
-pub word-laid : {c : ℕ} {d d₁ : List ℕ} {at until w : ℕ} → Packing c → w ≡ packed c → at + 4 ≤ until → until ≤ length d → d₁ ≡ splice d at (wordBytes w) → Over (bytesOf c) d at until d₁
+pub word-laid : {c : ℕ} {d d₁ : List ℕ} {at until w : ℕ} → Packing c → w ≡ packedCode c → at + 4 ≤ until → until ≤ length d → d₁ ≡ splice d at (wordBytes w) → Over (bytesOf c) d at until d₁
 word-laid {c} {d} {at = at} {until} {w} p is below room stored =
     rw (p .bytes) at
-    (over-front (length (bytesOf c)) (over-exact (wordBytes (packed c)) d at until (omega (arith, length-word (packed c))) (rw is at stored))
-    (omega (arith, length-word (packed c), p .few)) (omega arith) (omega (arith, length-word (packed c))))
+    (over-front (length (bytesOf c)) (over-exact (wordBytes (packedCode c)) d at until (omega (arith, length-word (packedCode c))) (rw is at stored))
+    (omega (arith, length-word (packedCode c), p .few)) (omega arith) (omega (arith, length-word (packedCode c))))

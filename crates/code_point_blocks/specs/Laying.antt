@@ -14,7 +14,7 @@ pub record TextLaid (codes out₀ : List ℕ) (from until r : ℕ) (out : List �
   pub over : Over (textOf codes) out₀ from until out
 
 -- 64 scalar values, and room for as many as four bytes of each
-pub record BlockRoom (codes out : List ℕ) (from until : ℕ) : Type 0 where
+pub record CodesBlockRoom (codes out : List ℕ) (from until : ℕ) : Type 0 where
   pub many : length codes ≡ 64
   pub scalars : allScalar codes ≡ true
   pub free : from + 256 ≤ until
@@ -28,8 +28,8 @@ abbrev pub EachMost : List ℕ → ℕ → Type 0
 EachMost codes n = (i : ℕ) → i < length codes → getD codes i 0 ≤ n
 
 -- the bytes of a code point of at most three, the first one lowest, and in the highest byte how many they are
-unfoldable pub packed : ℕ → ℕ
-packed c =
+unfoldable pub packedCode : ℕ → ℕ
+packedCode c =
     cond (ltb c 0x80) (0x1000000 + c % 128)
     (cond (ltb c 0x800) (0x20080C0 + c / 64 % 32 + c % 64 * 256)
     (0x38080E0 + c / 4096 % 16 + c / 64 % 64 * 256 + c % 64 * 0x10000))

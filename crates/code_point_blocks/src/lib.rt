@@ -7,10 +7,10 @@ ghost use Prim.Native.Nat.{_+_, _≤_};
 ghost use lib.ListN.{length, getD};
 ghost use Rattle.buffers.specs.Columns.{Filled};
 ghost use Rattle.buffers.specs.Splice.{splice};
-ghost use Rattle.code_point_blocks.specs.Laying.{BlockRoom, EachBelow, EachMost, packed, TextLaid, wordBytes};
+ghost use Rattle.code_point_blocks.specs.Laying.{CodesBlockRoom, EachBelow, EachMost, packedCode, TextLaid, wordBytes};
 
 // A number that each of them is at most, and that is below each power of two that all are below.
-pub fn union(codes: &[u32]) -> u32
+pub fn or_all(codes: &[u32]) -> u32
     ensures { λ r. ⌜ EachMost (now (codes .entry)) r ⌝ }
 {
     let mut bits: u32 = 0;
@@ -23,7 +23,7 @@ pub fn union(codes: &[u32]) -> u32
 }
 
 // Code points of one byte each, laid from `at` on.
-pub fn narrow(codes: &[u32], out: &mut [u8], at: usize)
+pub fn lay_ascii(codes: &[u32], out: &mut [u8], at: usize)
     requires { ⌜ EachBelow (now codes) 0x80 × (at + length (now codes) ≤ length (now out)) ⌝ }
     ensures { λ _. ⌜ now (out .exit) ≡ splice (now (out .entry)) at (now (codes .entry)) ⌝ }
 {
@@ -46,7 +46,7 @@ fn pick(first: bool, a: u32, b: u32) -> u32
 
 // The bytes of a code point of at most three, the first one lowest, and in the highest byte how many they are.
 fn packed(c: u32) -> u32
-    ensures { λ r. ⌜ r ≡ packed c ⌝ }
+    ensures { λ r. ⌜ r ≡ packedCode c ⌝ }
 {
     let one = 0x1000000 + c % 128;
     let two = 0x20080C0 + c / 64 % 32 + c % 64 * 256;
@@ -56,7 +56,7 @@ fn packed(c: u32) -> u32
 
 fn pack(codes: &[u32], words: &mut [u32])
     requires { ⌜ length (now codes) ≡ length (now words) ⌝ }
-    ensures { λ _. ⌜ Filled (λ k. packed (getD (now (codes .entry)) k 0)) (now (words .entry))
+    ensures { λ _. ⌜ Filled (λ k. packedCode (getD (now (codes .entry)) k 0)) (now (words .entry))
         0 (length (now (words .entry))) (now (words .exit)) ⌝ }
 {
     let mut i = 0;
@@ -67,7 +67,7 @@ fn pack(codes: &[u32], words: &mut [u32])
 }
 
 // The four bytes of a word, laid from `at` on.
-fn put_word(word: u32, out: &mut [u8], at: usize)
+fn put_u32_le(word: u32, out: &mut [u8], at: usize)
     requires { ⌜ at + 4 ≤ length (now out) ⌝ }
     ensures { λ _. ⌜ now (out .exit) ≡ splice (now (out .entry)) at (wordBytes word) ⌝ }
 {
@@ -77,7 +77,7 @@ fn put_word(word: u32, out: &mut [u8], at: usize)
 
 // Scalar values of at most three bytes each: four bytes are laid of each, and the next one's over what is too much.
 pub fn lay_text_block(codes: &[u32], out: &mut [u8], from: usize, until: usize) -> usize
-    requires { ⌜ BlockRoom (now codes) (now out) from until × EachBelow (now codes) 0x10000 ⌝ }
+    requires { ⌜ CodesBlockRoom (now codes) (now out) from until × EachBelow (now codes) 0x10000 ⌝ }
     ensures { λ r. ⌜ TextLaid (now (codes .entry)) (now (out .entry)) from until r (now (out .exit)) ⌝ }
 {
     let mut words = [0u32; 64];
@@ -86,7 +86,7 @@ pub fn lay_text_block(codes: &[u32], out: &mut [u8], from: usize, until: usize) 
     let mut i = 0;
     while i < 64 {
         let word = words[i];
-        put_word(word, out, at);
+        put_u32_le(word, out, at);
         at += (word / 0x1000000) as usize;
         i += 1;
     }

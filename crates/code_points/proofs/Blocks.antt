@@ -11,9 +11,9 @@ use borrow.Author.Tests.{leb-true}
 use Rattle.buffers.specs.Splice.{part, splice}
 use Rattle.buffers.proofs.Splice.{length-part, part-end}
 use Rattle.buffers.proofs.Over.{over-exact}
-use Rattle.script.specs.Scripts.{sizeOf}
+use Rattle.utf8.specs.Scalar.{lenUtf8}
 use Rattle.code_point_blocks.specs.Codes.{textOf, allScalar}
-use Rattle.code_point_blocks.specs.Laying.{TextLaid, BlockRoom, EachBelow, EachMost}
+use Rattle.code_point_blocks.specs.Laying.{TextLaid, CodesBlockRoom, EachBelow, EachMost}
 use Rattle.code_points.specs.Laying.{TextRoom}
 use Rattle.code_point_blocks.proofs.Codes.{length-text, scalar-block, text-ascii}
 use Rattle.code_point_blocks.proofs.Parts.{parts-size}
@@ -21,7 +21,7 @@ use Rattle.code_point_blocks.proofs.Texts.{Texts, no-text, next-size, some-char
 
 -- room for one more, and for what is left
 module _ {codes out₀ : List ℕ} {from until : ℕ} {out : List ℕ} {at i : ℕ} (k : Texts codes out₀ from until out at i) where
-  pub character-room : i < length codes → TextRoom codes out₀ from until → (at + sizeOf (getD codes i 0) ≤ length out) × (until ≤ length out)
+  pub character-room : i < length codes → TextRoom codes out₀ from until → (at + lenUtf8 (getD codes i 0) ≤ length out) × (until ≤ length out)
   character-room h r =
       (omega (arith, r .room, parts-size (k .parts), next-size k h, k .parts .over .same), omega (arith, r .bounded, k .parts .over .same))
 
@@ -31,7 +31,7 @@ module _ {codes out₀ : List ℕ} {from until : ℕ} {out : List ℕ} {at i : �
       (record { room = omega (arith, r .room, parts-size (k .parts), k .parts .over .same); bounded = omega (arith, r .bounded, k .parts .over .same) })
 
 -- a block, by its largest code point
-module _ {codes out₀ : List ℕ} {from until : ℕ} (r : BlockRoom codes out₀ from until) where
+module _ {codes out₀ : List ℕ} {from until : ℕ} (r : CodesBlockRoom codes out₀ from until) where
   pub singly-room : TextRoom codes out₀ from until
   singly-room = record { room = omega (arith, length-text codes, r .many, r .free, r .bounded); bounded = r .bounded }
 
@@ -52,7 +52,7 @@ pub no-block : {codes out₀ : List ℕ} {from until : ℕ} → allScalar codes 
 no-block ok = record { texts = no-text; scalars = ok }
 
 module _ {codes out₀ : List ℕ} {from until : ℕ} {out : List ℕ} {at i : ℕ} (k : Blocks codes out₀ from until out at i) (h : i + 64 ≤ length codes) where
-  pub block-room : TextRoom codes out₀ from until → at + 256 ≤ until → BlockRoom (part codes i (i + 64)) out at until
+  pub block-room : TextRoom codes out₀ from until → at + 256 ≤ until → CodesBlockRoom (part codes i (i + 64)) out at until
   block-room r free =
       record {
         many = length-part codes i (i + 64) h ∙ omega arith;

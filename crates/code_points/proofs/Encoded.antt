@@ -11,27 +11,27 @@ use Rattle.buffers.proofs.Over.{over-exact, over-front}
 use Rattle.utf8.specs.Scalar.{bytesOf}
 use Rattle.utf8.specs.declared.Encoded.{Encoded}
 use Rattle.utf8.specs.Encoding.{EncodedAs}
-use Rattle.script.specs.Scripts.{sizeOf}
-use Rattle.script.proofs.Scripts.{size-most}
+use Rattle.utf8.specs.Scalar.{lenUtf8}
+use Rattle.utf8.proofs.LenUtf8.{size-most}
 
 module _ {c : ℕ} {r : Encoded} (e : EncodedAs c r) where
-  pub encoded-size : r .len ≡ sizeOf c
-  unfolding sizeOf
+  pub encoded-size : r .len ≡ lenUtf8 c
+  unfolding lenUtf8
   encoded-size = e .len-is
 
   pub encoded-front : take (r .len) (r .bytes) ≡ bytesOf c
   encoded-front = rw (e .len-is, e .bytes-are) (take-overlay (bytesOf c) (replicate 4 0))
 
   pub encoded-four : length (r .bytes) ≡ 4
-  unfolding sizeOf
+  unfolding lenUtf8
   encoded-four = rw (e .bytes-are) (length-overlay (bytesOf c) (replicate 4 0) (size-most c))
 
   pub encoded-inside : r .len ≤ length (r .bytes)
   encoded-inside = omega (arith, encoded-size, encoded-four, size-most c)
 
   -- laid exactly, or all four
-  pub encoded-exact : {d₀ d : List ℕ} {at : ℕ} (until : ℕ) → at + sizeOf c ≤ length d₀ → d ≡ splice d₀ at (take (r .len) (r .bytes)) → Over (bytesOf c) d₀ at until d
-  unfolding sizeOf
+  pub encoded-exact : {d₀ d : List ℕ} {at : ℕ} (until : ℕ) → at + lenUtf8 c ≤ length d₀ → d ≡ splice d₀ at (take (r .len) (r .bytes)) → Over (bytesOf c) d₀ at until d
+  unfolding lenUtf8
   encoded-exact {d₀} {at = at} until room is = over-exact (bytesOf c) d₀ at until room (rw encoded-front at is)
 
   pub encoded-over : {d₀ d : List ℕ} {at until : ℕ} → at + 4 ≤ until → until ≤ length d₀ → d ≡ splice d₀ at (r .bytes) → Over (bytesOf c) d₀ at until d

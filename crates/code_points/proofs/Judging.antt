@@ -11,8 +11,8 @@ use Rattle.buffers.specs.Splice.{part}
 use Rattle.buffers.proofs.Cases.{true-or-false}
 use Rattle.buffers.proofs.Splice.{length-part, part-end}
 use Rattle.utf8.specs.Scalar.{scalar, bytesOf}
-use Rattle.script.specs.Scripts.{sizeOf}
-use Rattle.script.proofs.Scripts.{size-most, size-scalar}
+use Rattle.utf8.specs.Scalar.{lenUtf8}
+use Rattle.utf8.proofs.LenUtf8.{size-most, size-scalar}
 use Rattle.code_points.specs.declared.Judged.{Judged}
 use Rattle.code_point_blocks.specs.Codes.{textOf, allScalar}
 use Rattle.code_points.specs.Laying.{JudgedAs}
@@ -37,8 +37,8 @@ all-of true = refl
 all-of false = refl
 
 module _ {cs : List ℕ} {scalars : Bool} {size i : ℕ} (k : Judging cs scalars size i) where
-  pub one-judged : {more : ℕ} → i < length cs → more ≡ sizeOf (getD cs i 0) → Judging cs (scalars && not (eqb more 0)) (size + more) (i + 1)
-  unfolding sizeOf bytesOf
+  pub one-judged : {more : ℕ} → i < length cs → more ≡ lenUtf8 (getD cs i 0) → Judging cs (scalars && not (eqb more 0)) (size + more) (i + 1)
+  unfolding lenUtf8 bytesOf
   one-judged {more} h wide =
       let is : not (eqb more 0) ≡ scalar (getD cs i 0) =
       true-or-false (scalar (getD cs i 0))

@@ -1,9 +1,9 @@
 // Code points: judged, measured, and their bytes laid down.
 use buffers::copy_bytes;
 use code_point_blocks::lay_text_block;
-use code_point_blocks::narrow;
-use code_point_blocks::union;
-use script::size_of;
+use code_point_blocks::lay_ascii;
+use code_point_blocks::or_all;
+use utf8::lead::len_utf8;
 use utf8::encode_utf8;
 ghost use mathlib.Core.Path.{_≡_};
 ghost use mathlib.Core.Bool.{true};
@@ -11,9 +11,9 @@ ghost use Prim.Native.Nat.{_+_, _≤_};
 ghost use lib.ListN.{length};
 ghost use Rattle.buffers.specs.Over.{Over};
 ghost use Rattle.utf8.specs.Scalar.{bytesOf};
-ghost use Rattle.script.specs.Scripts.{sizeOf};
+ghost use Rattle.utf8.specs.Scalar.{lenUtf8};
 ghost use Rattle.code_point_blocks.specs.Codes.{allScalar};
-ghost use Rattle.code_point_blocks.specs.Laying.{BlockRoom, TextLaid};
+ghost use Rattle.code_point_blocks.specs.Laying.{CodesBlockRoom, TextLaid};
 ghost use Rattle.code_points.specs.Laying.{JudgedAs, TextRoom};
 
 // Whether numbers are scalar values, and how many bytes those that are have.
@@ -31,7 +31,7 @@ pub fn judge_block(codes: &[u32]) -> Judged
     let mut size: u32 = 0;
     let mut i = 0;
     while i < codes.len() {
-        let more = size_of(codes[i]) as u32;
+        let more = len_utf8(codes[i]) as u32;
         scalar = scalar & (more != 0);
         size += more;
         i += 1;
@@ -64,8 +64,8 @@ pub fn judge(codes: &[u32]) -> Judged
 // A character's bytes, laid from `at` on, and what stands behind them in four where that stays below `until`; how many
 // they are.
 pub fn put_character(character: u32, out: &mut [u8], at: usize, until: usize) -> usize
-    requires { ⌜ (at + sizeOf character ≤ length (now out)) × (until ≤ length (now out)) ⌝ }
-    ensures { λ r. ⌜ (r ≡ sizeOf character)
+    requires { ⌜ (at + lenUtf8 character ≤ length (now out)) × (until ≤ length (now out)) ⌝ }
+    ensures { λ r. ⌜ (r ≡ lenUtf8 character)
         × Over (bytesOf character) (now (out .entry)) at until (now (out .exit)) ⌝ }
 {
     let encoded = encode_utf8(character);
@@ -95,12 +95,12 @@ fn lay_singly(codes: &[u32], out: &mut [u8], from: usize, until: usize) -> usize
 
 // 64 scalar values, by how many bytes they have at most.
 fn lay_block(codes: &[u32], out: &mut [u8], at: usize, until: usize) -> usize
-    requires { ⌜ BlockRoom (now codes) (now out) at until ⌝ }
+    requires { ⌜ CodesBlockRoom (now codes) (now out) at until ⌝ }
     ensures { λ r. ⌜ TextLaid (now (codes .entry)) (now (out .entry)) at until r (now (out .exit)) ⌝ }
 {
-    let most = union(codes);
+    let most = or_all(codes);
     if most < 0x80 {
-        narrow(codes, out, at);
+        lay_ascii(codes, out, at);
         return at + 64;
     }
     if most < 0x10000 {

@@ -12,8 +12,8 @@ use Rattle.buffers.proofs.Columns.{filled-at, filled-as}
 use Rattle.utf8.specs.Formed.{wellFormed, continues}
 use Rattle.utf8.proofs.Boundaries.{boundary-begins}
 use Rattle.utf8.proofs.Formed.{announced-small}
-use Rattle.note.specs.Starting.{charStart, charEnd}
-use Rattle.note.proofs.Starting.{Ranged, ranged}
+use Rattle.utf8.specs.CharRanges.{charStart, charEnd}
+use Rattle.utf8.proofs.CharRanges.{Ranged, ranged}
 use Rattle.column_blocks.specs.ContinuationRun.{continuationRun, runAt}
 
 -- the count by flags, as the code adds them up

@@ -17,8 +17,8 @@ use Rattle.utf8.specs.Table.{within}
 use Rattle.utf8.specs.Formed.{announced, wellFormed, continues}
 use Rattle.validity_blocks.specs.Extremes.{largest}
 use Rattle.validity_blocks.proofs.Largest.{largest-at}
-use Rattle.note.specs.Starting.{charStart, charEnd}
-use Rattle.note.proofs.Starting.{Ranged, ranged}
+use Rattle.utf8.specs.CharRanges.{charStart, charEnd}
+use Rattle.utf8.proofs.CharRanges.{Ranged, ranged}
 use Rattle.column_blocks.specs.ContinuationRun.{continuationRun}
 use Rattle.column_blocks.proofs.ContinuationRun.{back-by, ahead-by}
 

@@ -10,7 +10,7 @@ ghost use Rattle.buffers.specs.Columns.{Filled};
 ghost use Rattle.utf8.specs.Formed.{wellFormed};
 ghost use Rattle.validity_blocks.specs.Extremes.{largest};
 ghost use Rattle.note.specs.Notes.{limit};
-ghost use Rattle.note.specs.Starting.{charStart, charEnd};
+ghost use Rattle.utf8.specs.CharRanges.{charStart, charEnd};
 ghost use Rattle.column_blocks.specs.ContinuationRun.{continuationRun};
 
 // How many of two bytes do not continue a character, where the second counts as the first does if that one does not.

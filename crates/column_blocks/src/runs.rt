@@ -8,7 +8,7 @@ ghost use lib.ListN.{length, getD};
 ghost use Rattle.buffers.specs.Columns.{Filled};
 ghost use Rattle.utf8.specs.Formed.{wellFormed};
 ghost use Rattle.note.specs.Notes.{limit};
-ghost use Rattle.note.specs.Starting.{charStart, charEnd};
+ghost use Rattle.utf8.specs.CharRanges.{charStart, charEnd};
 ghost use Rattle.column_blocks.specs.ContinuationRun.{continuationRun, runAt};
 
 // How many of three bytes continue a character, up to the first that does not.

@@ -9,13 +9,14 @@ use lib.ListN.{length}
 use borrow.Author.Tests.{leb-true}
 use mathlib.Mathlib.Data.Bool.Basic.{and-elim-left, and-elim-right}
 use Rattle.note.specs.declared.Refusal.{Refusal}
-use Rattle.note.specs.declared.Refusal.the-variants.{Missing}
+use Rattle.note.specs.declared.Refusal.the-variants.{Missing, Misaligned}
 use Rattle.note.specs.declared.Verdict.{Verdict}
 use Rattle.note.specs.declared.Verdict.the-variants.{Accepted, Refused as Rejected}
 use Rattle.note.specs.Refusals.{none, meets, verdict}
 use Rattle.note.specs.Notes.{Note, fits, Sound}
 use Rattle.note.specs.Faults.{noteFaults}
-use Rattle.note.proofs.Verdicts.{refused-then, accepted-then}
+use Rattle.note.specs.Rank.{upTo}
+use Rattle.note.proofs.FirstMet.{refused-then, accepted-then}
 use Rattle.note.proofs.Faults.{accepted-sound}
 use Rattle.note.proofs.Sound.{length-starts, length-ends, forward-at}
 use Rattle.convert.specs.declared.Range.{Range}
@@ -25,7 +26,7 @@ use Rattle.convert.specs.declared.Converted.the-variants.{Found, Refused
 use Rattle.convert.specs.declared.Places.{Places}
 use Rattle.convert.specs.declared.Places.the-variants.{Neither, Last, Both}
 use Rattle.convert.specs.Converting.{expanded, walked, spanned, toOriginal, toNormalized, converted, missing, unlessRefused, answered}
-use Rattle.convert.specs.Blocks.{Columns}
+use Rattle.convert.specs.Blocks.{OrderedColumns}
 
 -- an answer that has no refusal but `Missing`
 abbrev pub MissingOnly : Converted → Type 0
@@ -60,16 +61,16 @@ module _ (most : ℕ) (n : Note) (answer : Converted) {v : Verdict} (e : v ≡ v
   pub answered-refused : {k : Refusal} → v ≡ Rejected k → Refused k ≡ answered most n answer
   unfolding answered
   answered-refused is =
-      ap (λ (w : Verdict). unlessRefused w answer) (refused-then 4 (noteFaults most n) (meets Missing (missing answer) none) refl refl e is)
+      ap (λ (w : Verdict). unlessRefused w answer) (refused-then (upTo Misaligned) (noteFaults most n) (meets Missing (missing answer) none) refl refl e is)
 
   pub answered-accepted : v ≡ Accepted → MissingOnly answer → answer ≡ answered most n answer
   unfolding answered
   answered-accepted is only =
       only
       ∙ ap (λ (w : Verdict). unlessRefused w answer)
-      (accepted-then 4 (noteFaults most n) (meets Missing (missing answer) none) refl refl e is (missing-verdict (missing answer)))
+      (accepted-then (upTo Misaligned) (noteFaults most n) (meets Missing (missing answer) none) refl refl e is (missing-verdict (missing answer)))
 
-pub accepted-columns : (most : ℕ) (n : Note) → verdict (noteFaults most n) ≡ Accepted → Columns most (n .starts) (n .ends)
+pub accepted-columns : (most : ℕ) (n : Note) → verdict (noteFaults most n) ≡ Accepted → OrderedColumns most (n .starts) (n .ends)
 unfolding fits
 accepted-columns most n ok =
     let sound : Sound n = accepted-sound most n ok .0 in

@@ -16,7 +16,7 @@ use Rattle.note.proofs.Faults.{accepted-sound}
 use Rattle.note.proofs.Sound.{length-starts, length-ends, normalized-formed, inside-at, boundaries-at, shared-at, starts-forward}
 use Rattle.convert.specs.declared.Range.{Range}
 use Rattle.convert.specs.declared.Range.the-variants.{Original, Normalized}
-use Rattle.convert.specs.Converting.{inOriginal, begins, expanded, toOriginal, toNormalized, converted, convertOffsets}
+use Rattle.convert.specs.Converting.{inOriginal, canBeFirst, expanded, toOriginal, toNormalized, converted, convertOffsets}
 use Rattle.convert.specs.Leading.{leading, Qualifies, First}
 use Rattle.convert.specs.Inside.{Lies, Outcome, ConvertedInside}
 use Rattle.convert.proofs.Answered.{answered-accepted, converted-missing}
@@ -29,11 +29,11 @@ first-or-none starts ends from (suc k) first none =
     first-or-none starts ends from k
     (λ i w. first i (record { below = omega (arith, w .below); qualifies = w .qualifies; none-before = w .none-before }))
     (λ never.
-    true-or-false (begins from (getD starts k 0) (getD ends k 0))
+    true-or-false (canBeFirst from (getD starts k 0) (getD ends k 0))
     (λ t. first k (record { below = omega arith; qualifies = begins-qualifies _ _ _ t; none-before = never }))
     (λ f. none (λ i h q.
     le-or-lt k i
-    (λ top. let last : i ≡ k = omega arith in clash (begins from (getD starts k 0) (getD ends k 0)) (qualifies-begins from (getD starts k 0) (getD ends k 0) (rw last at (q .0)) (rw last at (q .1))) f)
+    (λ top. let last : i ≡ k = omega arith in clash (canBeFirst from (getD starts k 0) (getD ends k 0)) (qualifies-begins from (getD starts k 0) (getD ends k 0) (rw last at (q .0)) (rw last at (q .1))) f)
     (λ below. never i below q))))
 
 module _ (n : Note) (sound : Sound n) (from to : ℕ) where

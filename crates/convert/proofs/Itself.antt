@@ -10,8 +10,10 @@ use Rattle.buffers.proofs.Cases.{le-or-lt, clash}
 use Rattle.utf8.specs.Formed.{wellFormed, continues, boundary}
 use Rattle.utf8.proofs.Boundaries.{boundary-most, boundary-begins}
 use Rattle.note.specs.Notes.{startAt, endAt}
-use Rattle.note.specs.Starting.{charStart, charEnd, starting}
-use Rattle.note.proofs.Starting.{Ranged, ranged, charStart-begins, charEnd-begins, length-starting-starts, length-starting-ends, starting-start, starting-end, starting-accepted}
+use Rattle.utf8.specs.CharRanges.{charStart, charEnd}
+use Rattle.note.specs.Starting.{starting}
+use Rattle.utf8.proofs.CharRanges.{Ranged, ranged, charStart-begins, charEnd-begins}
+use Rattle.note.proofs.Starting.{length-starting-starts, length-starting-ends, starting-start, starting-end, starting-accepted}
 use Rattle.convert.specs.declared.Range.{Range}
 use Rattle.convert.specs.declared.Range.the-variants.{Original, Normalized}
 use Rattle.convert.specs.declared.Converted.the-variants.{Found}

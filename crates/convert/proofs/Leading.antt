@@ -12,7 +12,7 @@ use Rattle.buffers.proofs.Cases.{clash, true-or-false}
 use Rattle.note.specs.declared.NormalizedByte.{NormalizedByte}
 use Rattle.convert.specs.declared.Places.{Places}
 use Rattle.convert.specs.declared.Places.the-variants.{Neither, Last, Both}
-use Rattle.convert.specs.Converting.{inOriginal, begins, begun, stepped, walkFrom, walked, spanned, toNormalized, converted}
+use Rattle.convert.specs.Converting.{inOriginal, canBeFirst, firstPlaces, placesAfter, walkFrom, walked, spanned, toNormalized, converted}
 use Rattle.convert.specs.Leading.{leading, Qualifies, First, ConvertedByLeading}
 
 pub leading-most : (ends : List ℕ) (to : ℕ) → leading ends to ≤ length ends
@@ -42,17 +42,17 @@ leading-past (e ∷ ends) to h =
 
 -- whether the alignment at a byte qualifies, as the walk tests it
 module _ (from s e : ℕ) where
-  pub begins-qualifies : begins from s e ≡ true → (from ≤ s) × (s ≡ e → ⊥)
+  pub begins-qualifies : canBeFirst from s e ≡ true → (from ≤ s) × (s ≡ e → ⊥)
   begins-qualifies t = (
     leb-true from s (and-elim-left (leb from s) _ t),
-    λ is. clash (begins from s e) t (rw (le-leb from s (leb-true from s (and-elim-left (leb from s) _ t)), eq-eqb s e is)),
+    λ is. clash (canBeFirst from s e) t (rw (le-leb from s (leb-true from s (and-elim-left (leb from s) _ t)), eq-eqb s e is)),
   )
 
-  pub qualifies-begins : from ≤ s → (s ≡ e → ⊥) → begins from s e ≡ true
+  pub qualifies-begins : from ≤ s → (s ≡ e → ⊥) → canBeFirst from s e ≡ true
   qualifies-begins h wide = rw (le-leb from s h, ne-eqb s e wide)
 
-  begins-not : ((from ≤ s) × (s ≡ e → ⊥) → ⊥) → begins from s e ≡ false
-  begins-not never = true-or-false (begins from s e) (λ t. absurd (never (begins-qualifies t))) (λ f. f)
+  begins-not : ((from ≤ s) × (s ≡ e → ⊥) → ⊥) → canBeFirst from s e ≡ false
+  begins-not never = true-or-false (canBeFirst from s e) (λ t. absurd (never (begins-qualifies t))) (λ f. f)
 
 abbrev byte : ℕ → NormalizedByte
 byte i = record { 0 = i }
@@ -65,15 +65,15 @@ last p = rw p
 
 -- no first place is noted yet
 abbrev NoFirst : Places → Type 0
-NoFirst found = (from i s e : ℕ) → stepped from i s e found ≡ begun from i s e
+NoFirst found = (from i s e : ℕ) → placesAfter from i s e found ≡ firstPlaces from i s e
 
 last-noFirst : (l : NormalizedByte) → NoFirst (Last l)
-unfolding stepped
+unfolding placesAfter
 last-noFirst l from i s e = refl
 
 -- THE WALK FROM THE BYTE AT i ON: with a first place; where there is none; where the first is at j
 rest-both : (starts ends : List ℕ) (from to i f : ℕ) → length starts ≡ length ends → walkFrom i starts ends from to (Both (byte f) (byte i)) ≡ Both (byte f) (byte (i + leading ends to))
-unfolding walkFrom leading stepped
+unfolding walkFrom leading placesAfter
 rest-both [] [] from to i f same = both refl (omega arith)
 rest-both [] (e ∷ ends) from to i f same = absurd (omega arith)
 rest-both (s ∷ starts) [] from to i f same = absurd (omega arith)
@@ -90,7 +90,7 @@ rest-neither (s ∷ starts) (e ∷ ends) from to i found none =
     true-or-false (leb e to) (λ t. absurd (omega (arith, rw t at none))) (λ u. rw u)
 
 rest-last : (starts ends : List ℕ) (from to i : ℕ) → length starts ≡ length ends → ((j : ℕ) → j < leading ends to → Qualifies starts ends from j → ⊥) → walkFrom i starts ends from to (Last (byte i)) ≡ Last (byte (i + leading ends to))
-unfolding walkFrom leading stepped begun
+unfolding walkFrom leading placesAfter firstPlaces
 rest-last [] [] from to i same none = last (omega arith)
 rest-last [] (e ∷ ends) from to i same none = absurd (omega arith)
 rest-last (s ∷ starts) [] from to i same none = absurd (omega arith)
@@ -103,7 +103,7 @@ rest-last (s ∷ starts) (e ∷ ends) from to i same none =
     (λ u. rw u (last (omega arith)))
 
 rest-none : (starts ends : List ℕ) (from to i : ℕ) (found : Places) → NoFirst found → length starts ≡ length ends → 0 < leading ends to → ((j : ℕ) → j < leading ends to → Qualifies starts ends from j → ⊥) → walkFrom i starts ends from to found ≡ Last (byte (i + leading ends to))
-unfolding walkFrom leading begun
+unfolding walkFrom leading firstPlaces
 rest-none starts [] from to i found fresh same some none = absurd (omega arith)
 rest-none [] (e ∷ ends) from to i found fresh same some none = absurd (omega arith)
 rest-none (s ∷ starts) (e ∷ ends) from to i found fresh same some none =
@@ -115,7 +115,7 @@ rest-none (s ∷ starts) (e ∷ ends) from to i found fresh same some none =
     (λ u. absurd (omega (arith, rw u at some)))
 
 rest-first : (starts ends : List ℕ) (from to i j : ℕ) (found : Places) → NoFirst found → length starts ≡ length ends → First starts ends from (leading ends to) j → walkFrom i starts ends from to found ≡ Both (byte (i + j)) (byte (i + leading ends to))
-unfolding walkFrom leading begun
+unfolding walkFrom leading firstPlaces
 rest-first starts [] from to i j found fresh same w = absurd (omega (arith, w .below))
 rest-first [] (e ∷ ends) from to i j found fresh same w = absurd (omega arith)
 rest-first (s ∷ starts) (e ∷ ends) from to i zero found fresh same w =
@@ -141,7 +141,7 @@ converted-walked starts ends from to some =
     rw (ne-eqb from to differ, le-ltb to from (omega arith))
 
 pub converted-by-leading : ConvertedByLeading
-unfolding walked stepped
+unfolding walked placesAfter
 converted-by-leading starts ends from to same some =
     let walks = converted-walked starts ends from to some in
     record {

@@ -5,3 +5,4 @@ pub mod Conversions
 pub mod Answered
 pub mod Inside
 pub mod Itself
+pub mod InText

@@ -13,34 +13,34 @@ use borrow.Author.Tests.{le-leb, lt-leb, lt-ltb, ltb-true, eq-eqb, ne-eqb}
 use Rattle.note.specs.declared.NormalizedByte.{NormalizedByte}
 use Rattle.convert.specs.declared.Places.{Places}
 use Rattle.convert.specs.declared.Places.the-variants.{Neither, Last, Both}
-use Rattle.convert.specs.Converting.{begun, stepped, walkFrom, walked}
-use Rattle.convert.specs.Blocks.{Columns, settled, Block}
+use Rattle.convert.specs.Converting.{firstPlaces, placesAfter, walkFrom, walked}
+use Rattle.convert.specs.Blocks.{OrderedColumns, settled, Block}
 
 -- the byte at i where no first place is found yet, by the two tests
 module _ (from i s e : ℕ) where
-  pub begun-before : s < from → Last (record { 0 = i + 1 }) ≡ begun from i s e
-  unfolding begun
+  pub begun-before : s < from → Last (record { 0 = i + 1 }) ≡ firstPlaces from i s e
+  unfolding firstPlaces
   begun-before h = rw (lt-leb from s h)
 
-  pub begun-narrow : from ≤ s → s ≡ e → Last (record { 0 = i + 1 }) ≡ begun from i s e
-  unfolding begun
+  pub begun-narrow : from ≤ s → s ≡ e → Last (record { 0 = i + 1 }) ≡ firstPlaces from i s e
+  unfolding firstPlaces
   begun-narrow h is = rw (le-leb from s h, eq-eqb s e is)
 
-  pub begun-wide : from ≤ s → (s ≡ e → ⊥) → Both (record { 0 = i }) (record { 0 = i + 1 }) ≡ begun from i s e
-  unfolding begun
+  pub begun-wide : from ≤ s → (s ≡ e → ⊥) → Both (record { 0 = i }) (record { 0 = i + 1 }) ≡ firstPlaces from i s e
+  unfolding firstPlaces
   begun-wide h is = rw (le-leb from s h, ne-eqb s e is)
 
 -- one step, by what was found before it
-pub stepped-both : (from i s e : ℕ) {found : Places} {first last : NormalizedByte} → found ≡ Both first last → Both first (record { 0 = i + 1 }) ≡ stepped from i s e found
-unfolding stepped
+pub stepped-both : (from i s e : ℕ) {found : Places} {first last : NormalizedByte} → found ≡ Both first last → Both first (record { 0 = i + 1 }) ≡ placesAfter from i s e found
+unfolding placesAfter
 stepped-both from i s e is = rw is
 
-pub stepped-last : (from i s e : ℕ) {found r : Places} {last : NormalizedByte} → found ≡ Last last → r ≡ begun from i s e → r ≡ stepped from i s e found
-unfolding stepped
+pub stepped-last : (from i s e : ℕ) {found r : Places} {last : NormalizedByte} → found ≡ Last last → r ≡ firstPlaces from i s e → r ≡ placesAfter from i s e found
+unfolding placesAfter
 stepped-last from i s e is b = rw is b
 
-pub stepped-neither : (from i s e : ℕ) {found r : Places} → found ≡ Neither → r ≡ begun from i s e → r ≡ stepped from i s e found
-unfolding stepped
+pub stepped-neither : (from i s e : ℕ) {found r : Places} → found ≡ Neither → r ≡ firstPlaces from i s e → r ≡ placesAfter from i s e found
+unfolding placesAfter
 stepped-neither from i s e is b = rw is b
 
 -- the test on the last of a block, by what was found before it
@@ -69,7 +69,7 @@ pub none-walked : {starts ends : List ℕ} {from to : ℕ} → Walk starts ends 
 unfolding walked
 none-walked = record { most = omega arith; same = refl }
 
-one-walked : {most : ℕ} {starts ends : List ℕ} {from to : ℕ} {found next : Places} {i : ℕ} → Columns most starts ends → Walk starts ends from to found i → i < length ends → getD ends i 0 ≤ to → next ≡ stepped from i (getD starts i 0) (getD ends i 0) found → Walk starts ends from to next (i + 1)
+one-walked : {most : ℕ} {starts ends : List ℕ} {from to : ℕ} {found next : Places} {i : ℕ} → OrderedColumns most starts ends → Walk starts ends from to found i → i < length ends → getD ends i 0 ≤ to → next ≡ placesAfter from i (getD starts i 0) (getD ends i 0) found → Walk starts ends from to next (i + 1)
 unfolding walkFrom
 one-walked {starts = starts} {ends = ends} {i = i} k w more inside is =
     record {
@@ -78,8 +78,8 @@ one-walked {starts = starts} {ends = ends} {i = i} k w more inside is =
     }
 
 -- of two alignments neither of which is a first place, the second is walked as if the first were not there
-stepped-twice : (from i x u j y v : ℕ) (found : Places) → x ≤ y → settled from y found ≡ true → stepped from j y v (stepped from i x u found) ≡ stepped from j y v found
-unfolding stepped begun settled
+stepped-twice : (from i x u j y v : ℕ) (found : Places) → x ≤ y → settled from y found ≡ true → placesAfter from j y v (placesAfter from i x u found) ≡ placesAfter from j y v found
+unfolding placesAfter firstPlaces settled
 stepped-twice from i x u j y v (Both first last) h t = refl
 stepped-twice from i x u j y v (Last last) h t = rw (lt-leb from x (omega (arith, ltb-true y from t)))
 stepped-twice from i x u j y v Neither h t = rw (lt-leb from x (omega (arith, ltb-true y from t)))
@@ -91,10 +91,10 @@ settled-before from x y (Last last) h t = lt-ltb x from (omega (arith, ltb-true 
 settled-before from x y Neither h t = lt-ltb x from (omega (arith, ltb-true y from t))
 
 -- a block is walked: by one alignment more at each turn of the induction
-module _ {most : ℕ} {starts ends : List ℕ} {from to : ℕ} {found : Places} {i : ℕ} (columns : Columns most starts ends) (w : Walk starts ends from to found i) where
+module _ {most : ℕ} {starts ends : List ℕ} {from to : ℕ} {found : Places} {i : ℕ} (columns : OrderedColumns most starts ends) (w : Walk starts ends from to found i) where
   -- the places found where the alignment at j is walked
   abbrev at : ℕ → Places → Places
-  at j before = stepped from j (getD starts j 0) (getD ends j 0) before
+  at j before = placesAfter from j (getD starts j 0) (getD ends j 0) before
 
   several-walked : (k : ℕ) → i + k < length ends → getD ends (i + k) 0 ≤ to → settled from (getD starts (i + k) 0) found ≡ true → Walk starts ends from to (at (i + k) found) (i + k + 1)
   several-walked zero more inside t =
@@ -121,13 +121,13 @@ module _ {most : ℕ} {starts ends : List ℕ} {from to : ℕ} {found : Places} 
       (b .single-or-settled))
 
 -- the first alignment whose end exceeds the target's
-pub walk-left : {most : ℕ} {starts ends : List ℕ} {from to : ℕ} {found : Places} {i : ℕ} → Columns most starts ends → Walk starts ends from to found i → i < length ends → to < getD ends i 0 → found ≡ walked starts ends from to
+pub walk-left : {most : ℕ} {starts ends : List ℕ} {from to : ℕ} {found : Places} {i : ℕ} → OrderedColumns most starts ends → Walk starts ends from to found i → i < length ends → to < getD ends i 0 → found ≡ walked starts ends from to
 unfolding walkFrom
 walk-left {starts = starts} {ends = ends} {i = i} k w more past =
     sym (w .same ∙ rw (drop-cons starts i 0 (omega arith), drop-cons ends i 0 more, lt-leb _ _ past))
 
 -- no alignment is left
-pub walk-done : {most : ℕ} {starts ends : List ℕ} {from to : ℕ} {found : Places} {i : ℕ} → Columns most starts ends → Walk starts ends from to found i → length ends ≤ i → found ≡ walked starts ends from to
+pub walk-done : {most : ℕ} {starts ends : List ℕ} {from to : ℕ} {found : Places} {i : ℕ} → OrderedColumns most starts ends → Walk starts ends from to found i → length ends ≤ i → found ≡ walked starts ends from to
 unfolding walkFrom
 walk-done {starts = starts} {i = i} k w all =
     let short : length starts ≤ i = omega arith in

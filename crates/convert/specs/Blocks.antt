@@ -11,7 +11,7 @@ use Rattle.convert.specs.declared.Places.{Places}
 use Rattle.convert.specs.declared.Places.the-variants.{Neither, Last, Both}
 
 -- one start for each end, no more than a text has bytes, and neither column ever falls
-pub record Columns (most : ℕ) (starts ends : List ℕ) : Type 0 where
+pub record OrderedColumns (most : ℕ) (starts ends : List ℕ) : Type 0 where
   pub paired : length starts ≡ length ends
   pub few : length ends ≤ most
   pub starts-forward : (i : ℕ) → suc i < length ends → getD starts i 0 ≤ getD starts (suc i) 0

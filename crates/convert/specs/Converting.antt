@@ -64,25 +64,25 @@ expanded starts ends a b =
     cond (leb b (length ends)) (Found (inOriginal (getD starts a 0) (getD ends (b - 1) 0))) (Refused Missing)
 
 -- RULES 4.5: an alignment s..e at which a first place can be: not before the range's start, and not empty
-abbrev pub begins : ℕ → ℕ → ℕ → Bool
-begins from s e = leb from s && not (eqb s e)
+abbrev pub canBeFirst : ℕ → ℕ → ℕ → Bool
+canBeFirst from s e = leb from s && not (eqb s e)
 
 -- the byte at i is walked, with the alignment s..e: where no first place is noted yet, and after any places
-unfoldable pub begun : ℕ → ℕ → ℕ → ℕ → Places
-begun from i s e =
-    cond (begins from s e) (Both (record { 0 = i }) (record { 0 = i + 1 })) (Last (record { 0 = i + 1 }))
+unfoldable pub firstPlaces : ℕ → ℕ → ℕ → ℕ → Places
+firstPlaces from i s e =
+    cond (canBeFirst from s e) (Both (record { 0 = i }) (record { 0 = i + 1 })) (Last (record { 0 = i + 1 }))
 
-unfoldable pub stepped : ℕ → ℕ → ℕ → ℕ → Places → Places
-stepped from i s e (Both first last) = Both first (record { 0 = i + 1 })
-stepped from i s e (Last last) = begun from i s e
-stepped from i s e Neither = begun from i s e
+unfoldable pub placesAfter : ℕ → ℕ → ℕ → ℕ → Places → Places
+placesAfter from i s e (Both first last) = Both first (record { 0 = i + 1 })
+placesAfter from i s e (Last last) = firstPlaces from i s e
+placesAfter from i s e Neither = firstPlaces from i s e
 
 -- the walk from the byte at i on: over at the first alignment that ends past the range
 unfoldable pub walkFrom : ℕ → List ℕ → List ℕ → ℕ → ℕ → Places → Places
 walkFrom i [] ends from to found = found
 walkFrom i (s ∷ starts) [] from to found = found
 walkFrom i (s ∷ starts) (e ∷ ends) from to found =
-    cond (leb e to) (walkFrom (i + 1) starts ends from to (stepped from i s e found)) found
+    cond (leb e to) (walkFrom (i + 1) starts ends from to (placesAfter from i s e found)) found
 
 unfoldable pub walked : List ℕ → List ℕ → ℕ → ℕ → Places
 walked starts ends from to = walkFrom 0 starts ends from to Neither
@@ -109,6 +109,15 @@ toNormalized starts ends a b =
 unfoldable pub converted : List ℕ → List ℕ → Range → Converted
 converted starts ends (Normalized a b) = toOriginal starts ends a b
 converted starts ends (Original a b) = toNormalized starts ends a b
+
+-- a range in the cleaned text, and one in the transcript: converted where it is of the other
+unfoldable pub asNormalized : List ℕ → List ℕ → Range → Converted
+asNormalized starts ends (Original a b) = converted starts ends (Original a b)
+asNormalized starts ends (Normalized a b) = Found (Normalized a b)
+
+unfoldable pub asOriginal : List ℕ → List ℕ → Range → Converted
+asOriginal starts ends (Original a b) = Found (Original a b)
+asOriginal starts ends (Normalized a b) = converted starts ends (Normalized a b)
 
 -- RULES 4.1: what a call says that is lent a note and answers a range: the note's refusals, then `Missing`
 abbrev pub missing : Converted → Bool

@@ -11,9 +11,9 @@ ghost use mathlib.Core.Path.{_≡_};
 ghost use Prim.Native.Nat.{_≤_, _<_, _-_};
 ghost use lib.ListN.{length, getD};
 ghost use Rattle.note.specs.Notes.{lent, limit};
-ghost use Rattle.convert.specs.Converting.{begun, converted, convertOffsets, endOf, expanded, rangeOf};
-ghost use Rattle.convert.specs.Converting.{startOf, stepped, toNormalized, toOriginal, walked};
-ghost use Rattle.convert.specs.Blocks.{Block, Columns, settled};
+ghost use Rattle.convert.specs.Converting.{asNormalized, asOriginal, converted, convertOffsets, endOf, expanded};
+ghost use Rattle.convert.specs.Converting.{firstPlaces, placesAfter, rangeOf, startOf, toNormalized, toOriginal, walked};
+ghost use Rattle.convert.specs.Blocks.{Block, OrderedColumns, settled};
 
 // The text that numbers are of (Rust: `OffsetReferential`).
 pub enum OffsetReferential {
@@ -74,7 +74,7 @@ pub enum Places {
 // The byte at `i` is walked, before a first place is found.
 fn begin(i: NormalizedByte, start: Offset, end: Offset, from: u32) -> Places
     requires { ⌜ i .0 < limit ⌝ }
-    ensures { λ r. ⌜ r ≡ begun from (i .0) start end ⌝ }
+    ensures { λ r. ⌜ r ≡ firstPlaces from (i .0) start end ⌝ }
 {
     let next = NormalizedByte(i.0 + 1);
     if (start as u32) < from {
@@ -89,7 +89,7 @@ fn begin(i: NormalizedByte, start: Offset, end: Offset, from: u32) -> Places
 // The byte at `i` is walked.
 fn step(found: Places, i: NormalizedByte, start: Offset, end: Offset, from: u32) -> Places
     requires { ⌜ i .0 < limit ⌝ }
-    ensures { λ r. ⌜ r ≡ stepped from (i .0) start end found ⌝ }
+    ensures { λ r. ⌜ r ≡ placesAfter from (i .0) start end found ⌝ }
 {
     match found {
         Places::Both(first, _) => Places::Both(first, NormalizedByte(i.0 + 1)),
@@ -119,7 +119,7 @@ fn block_last(
     from: u32,
     to: u32,
 ) -> usize
-    requires { ⌜ (Columns limit (now starts) (now ends)) × (i < length (now ends)) × (getD (now ends) i 0 ≤ to) ⌝ }
+    requires { ⌜ (OrderedColumns limit (now starts) (now ends)) × (i < length (now ends)) × (getD (now ends) i 0 ≤ to) ⌝ }
     ensures { λ r. ⌜ Block (now (starts .entry)) (now (ends .entry)) from to found i r ⌝ }
 {
     if ends.len() - i < 64 {
@@ -137,7 +137,7 @@ fn block_last(
 
 // The alignments are walked up to the first that ends past the range.
 fn walk(starts: &[Offset], ends: &[Offset], from: u32, to: u32) -> Places
-    requires { ⌜ Columns limit (now starts) (now ends) ⌝ }
+    requires { ⌜ OrderedColumns limit (now starts) (now ends) ⌝ }
     ensures { λ r. ⌜ r ≡ walked (now (starts .entry)) (now (ends .entry)) from to ⌝ }
 {
     let mut found = Places::Neither;
@@ -161,7 +161,7 @@ fn walk(starts: &[Offset], ends: &[Offset], from: u32, to: u32) -> Places
 
 // Rust: `expand_alignments`, of the alignments from `from` up to `to`: two reads.
 fn expand_alignments(starts: &[Offset], ends: &[Offset], from: u32, to: u32) -> Converted
-    requires { ⌜ (Columns limit (now starts) (now ends)) × (from < to) ⌝ }
+    requires { ⌜ (OrderedColumns limit (now starts) (now ends)) × (from < to) ⌝ }
     ensures { λ r. ⌜ r ≡ expanded (now (starts .entry)) (now (ends .entry)) from to ⌝ }
 {
     let first = from as usize;
@@ -181,7 +181,7 @@ fn to_original(
     from: NormalizedByte,
     to: NormalizedByte,
 ) -> Converted
-    requires { ⌜ Columns limit (now starts) (now ends) ⌝ }
+    requires { ⌜ OrderedColumns limit (now starts) (now ends) ⌝ }
     ensures { λ r. ⌜ r ≡ toOriginal (now (starts .entry)) (now (ends .entry)) from to ⌝ }
 {
     let a = from.0;
@@ -202,7 +202,7 @@ fn to_normalized(
     from: OriginalByte,
     to: OriginalByte,
 ) -> Converted
-    requires { ⌜ Columns limit (now starts) (now ends) ⌝ }
+    requires { ⌜ OrderedColumns limit (now starts) (now ends) ⌝ }
     ensures { λ r. ⌜ r ≡ toNormalized (now (starts .entry)) (now (ends .entry)) from to ⌝ }
 {
     let a = from.0;
@@ -225,12 +225,34 @@ fn to_normalized(
 
 // `convert_offsets` for proved callers that have had the note checked: it asks for the columns that a check leaves.
 pub fn convert_checked(starts: &[Offset], ends: &[Offset], range: Range) -> Converted
-    requires { ⌜ Columns limit (now starts) (now ends) ⌝ }
+    requires { ⌜ OrderedColumns limit (now starts) (now ends) ⌝ }
     ensures { λ r. ⌜ r ≡ converted (now (starts .entry)) (now (ends .entry)) range ⌝ }
 {
     match range {
         Range::Normalized(from, to) => to_original(starts, ends, from, to),
         Range::Original(from, to) => to_normalized(starts, ends, from, to),
+    }
+}
+
+// A range in the cleaned text, and one in the transcript: converted where it is of the other. Inner functions: they ask
+// for the columns that a check leaves.
+pub fn as_normalized(starts: &[Offset], ends: &[Offset], range: Range) -> Converted
+    requires { ⌜ OrderedColumns limit (now starts) (now ends) ⌝ }
+    ensures { λ r. ⌜ r ≡ asNormalized (now (starts .entry)) (now (ends .entry)) range ⌝ }
+{
+    match range {
+        Range::Original(_, _) => convert_checked(starts, ends, range),
+        Range::Normalized(_, _) => Converted::Found(range),
+    }
+}
+
+pub fn as_original(starts: &[Offset], ends: &[Offset], range: Range) -> Converted
+    requires { ⌜ OrderedColumns limit (now starts) (now ends) ⌝ }
+    ensures { λ r. ⌜ r ≡ asOriginal (now (starts .entry)) (now (ends .entry)) range ⌝ }
+{
+    match range {
+        Range::Original(_, _) => Converted::Found(range),
+        Range::Normalized(_, _) => convert_checked(starts, ends, range),
     }
 }
 

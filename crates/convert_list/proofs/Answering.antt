@@ -11,11 +11,11 @@ use Rattle.buffers.proofs.Splice.{length-part, part-at, splice-overlay, length-
 use Rattle.convert.specs.declared.Converted.{Converted}
 use Rattle.convert.specs.declared.Converted.the-variants.{Found}
 use Rattle.convert.specs.Converting.{inOriginal, startIn, endIn, numberIn, converted}
-use Rattle.convert.specs.Blocks.{Columns}
+use Rattle.convert.specs.Blocks.{OrderedColumns}
 use Rattle.convert.specs.declared.OffsetReferential.{OffsetReferential}
 use Rattle.convert_list.specs.ConvertList.{answerAt}
 use Rattle.convert_list.proofs.TwoReads.{expandable-most, expanding-most, answer-reads}
-use Rattle.convert_list.specs.TwoReads.{expandable, Expanding, AnswerRoom, AnsweredBetween, AnswersWritten, Between, BlockRead, Readable}
+use Rattle.convert_list.specs.TwoReads.{expandable, Expanding, AnswerRoom, AnsweredBetween, AnswersWritten, RangesBetween, BlockRead, Readable}
 
 -- the numbers before the first answer
 module _ (n : ℕ) (n₀ : List ℕ) {z : List ℕ} (room : n ≤ length n₀) (is : z ≡ splice n₀ 0 (replicate n 0)) where
@@ -79,7 +79,7 @@ module _ {starts ends from to : List ℕ} {at : ℕ} {s₀ e₀ s e : List ℕ} 
 pub none-between : {answers : ℕ → Converted} {at : ℕ} {m s e : List ℕ} → AnsweredBetween answers at at m s e m s e
 none-between = record { numbers-are = none-filled _ _ _; starts-are = none-filled _ _ _; ends-are = none-filled _ _ _ }
 
-module _ {answers : ℕ → Converted} {from to m₀ s₀ e₀ m s e : List ℕ} {at past i : ℕ} (b : Between from to at past m₀ s₀ e₀) (f : AnsweredBetween answers at i m₀ s₀ e₀ m s e) (more : i < past) {m₁ s₁ e₁ : List ℕ} where
+module _ {answers : ℕ → Converted} {from to m₀ s₀ e₀ m s e : List ℕ} {at past i : ℕ} (b : RangesBetween from to at past m₀ s₀ e₀) (f : AnsweredBetween answers at i m₀ s₀ e₀ m s e) (more : i < past) {m₁ s₁ e₁ : List ℕ} where
   pub one-answered : {answer : Converted} {x y w : ℕ} → answer ≡ answers i → x ≡ numberIn answer → y ≡ startIn answer → w ≡ endIn answer → m₁ ≡ set m i x → s₁ ≡ set s i y → e₁ ≡ set e i w → AnsweredBetween answers at (i + 1) m₀ s₀ e₀ m₁ s₁ e₁
   one-answered is p q r at-m at-s at-e =
       rw (at-m, at-s, at-e)
@@ -126,7 +126,7 @@ module _ {answers : ℕ → Converted} {from to z s₀ e₀ m s e : List ℕ} {i
   still : (k : ℕ) → i ≤ k → k < past → getD m k 0 ≡ 0
   still k low high = f .columns .first .beyond k low ∙ f .zeros k (omega arith)
 
-  pub between : Between from to i past m s e
+  pub between : RangesBetween from to i past m s e
   between =
       record {
         onward = on;
@@ -166,7 +166,7 @@ module _ {answers : ℕ → Converted} {from to z s₀ e₀ m s e : List ℕ} {i
       }
 
 -- a block that was tested
-module _ {most : ℕ} {starts ends from to m s e : List ℕ} (side : OffsetReferential) {i past len : ℕ} (cols : Columns most starts ends) (b : Between from to i past m s e) (l : len ≡ expandable side (length ends)) (w : Expanding (part from i past) (part to i past) len) where
+module _ {most : ℕ} {starts ends from to m s e : List ℕ} (side : OffsetReferential) {i past len : ℕ} (cols : OrderedColumns most starts ends) (b : RangesBetween from to i past m s e) (l : len ≡ expandable side (length ends)) (w : Expanding (part from i past) (part to i past) len) where
   pub readable : Readable starts ends (part from i past) (part to i past) i s e
   readable =
       let long : length (part from i past) ≡ past - i = length-part from i past (b .inside) in

@@ -9,7 +9,7 @@ use Rattle.note.specs.declared.Refusal.{Refusal}
 use Rattle.note.specs.declared.Verdict.{Verdict}
 use Rattle.note.specs.Refusals.{also, verdict, least, after}
 use Rattle.note.specs.Notes.{Note}
-use Rattle.note.specs.Faults.{noteFaults, roomFaults, unevenFaults}
+use Rattle.note.specs.Faults.{noteFaults, roomFaults, lengthFaults}
 use Rattle.convert.specs.declared.OffsetReferential.{OffsetReferential}
 use Rattle.convert.specs.declared.Range.{Range}
 use Rattle.convert.specs.declared.Converted.{Converted}
@@ -22,7 +22,7 @@ answerAt answer side from to i = answer (rangeOf side (getD from i 0) (getD to i
 -- the note's refusals, beside them a list that has not as many ends as starts; then the room for one answer a range
 abbrev pub convertListFaults : ℕ → Note → List ℕ → List ℕ → ℕ → Refusal → Bool
 convertListFaults most n from to room =
-    also (also (noteFaults most n) (unevenFaults from to)) (roomFaults (length from) room)
+    also (also (noteFaults most n) (lengthFaults from to)) (roomFaults (length from) room)
 
 -- the note, the ranges, the lent columns before, the answer, the lent columns after
 pub record ConvertedList (most : ℕ) (n : Note) (side : OffsetReferential) (from to numbers₀ starts₀ ends₀ : List ℕ)

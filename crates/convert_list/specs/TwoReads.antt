@@ -47,7 +47,7 @@ pub record BlockRead (starts ends from to : List ℕ) (at : ℕ) (s₀ e₀ s e 
   pub ends-are : Filled (λ k. getD ends (getD to (k - at) 0 - 1) 0) e₀ at (at + length from) e
 
 -- ranges from `at` up to `past` of a list that has room, whose numbers are 0 so far
-pub record Between (from to : List ℕ) (at past : ℕ) (numbers starts ends : List ℕ) : Type 0 where
+pub record RangesBetween (from to : List ℕ) (at past : ℕ) (numbers starts ends : List ℕ) : Type 0 where
   pub onward : at ≤ past
   pub inside : past ≤ length from
   pub room : AnswerRoom from to numbers starts ends

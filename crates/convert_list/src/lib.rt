@@ -12,18 +12,18 @@ use convert::range_of;
 use convert::start_of;
 use note::Refusal;
 use note::Verdict;
-use note::answers::earlier;
-use note::answers::number;
-use note::answers::refused_if;
+use note::verdicts::earlier;
+use note::verdicts::number;
+use note::verdicts::refused_if;
 ghost use mathlib.Core.Path.{_≡_};
 ghost use mathlib.Core.Bool.{true};
 ghost use Prim.Native.Nat.{_-_, _≤_, _<_};
 ghost use lib.ListN.{length, getD};
 ghost use Rattle.note.specs.Notes.{lent, limit};
 ghost use Rattle.convert.specs.Converting.{converted, endIn, numberIn, startIn};
-ghost use Rattle.convert.specs.Blocks.{Columns};
+ghost use Rattle.convert.specs.Blocks.{OrderedColumns};
 ghost use Rattle.convert_list.specs.ConvertList.{answerAt, ConvertedList};
-ghost use Rattle.convert_list.specs.TwoReads.{AnswerRoom, AnsweredBetween, AnswersWritten, Between};
+ghost use Rattle.convert_list.specs.TwoReads.{AnswerRoom, AnsweredBetween, AnswersWritten, RangesBetween};
 ghost use Rattle.convert_list.specs.TwoReads.{BlockRead, expandable, Expanding, expands, Readable};
 
 // An answer's three numbers.
@@ -136,8 +136,8 @@ fn convert_between(
     out_starts: &mut [u32],
     out_ends: &mut [u32],
 )
-    requires { ⌜ Columns limit (now starts) (now ends) ⌝ }
-    requires { ⌜ Between (now from) (now to) at past (now numbers) (now «out_starts») (now «out_ends») ⌝ }
+    requires { ⌜ OrderedColumns limit (now starts) (now ends) ⌝ }
+    requires { ⌜ RangesBetween (now from) (now to) at past (now numbers) (now «out_starts») (now «out_ends») ⌝ }
     ensures { λ _. ⌜ AnsweredBetween
         (answerAt (converted (now (starts .entry)) (now (ends .entry))) side (now (from .entry)) (now (to .entry)))
         at past (now (numbers .entry)) (now («out_starts» .entry)) (now («out_ends» .entry))
@@ -173,7 +173,7 @@ fn convert_each(
     out_starts: &mut [u32],
     out_ends: &mut [u32],
 )
-    requires { ⌜ Columns limit (now starts) (now ends) ⌝ }
+    requires { ⌜ OrderedColumns limit (now starts) (now ends) ⌝ }
     requires { ⌜ AnswerRoom (now from) (now to) (now numbers) (now «out_starts») (now «out_ends») ⌝ }
     ensures { λ _. ⌜ AnswersWritten
         (answerAt (converted (now (starts .entry)) (now (ends .entry))) side (now (from .entry)) (now (to .entry)))

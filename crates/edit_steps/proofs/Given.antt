@@ -1,4 +1,4 @@
--- Laws of `given` and `relaid`: what commands give is as long as their characters, and it is laid down command by command.
+-- Laws of `produced` and `relaid`: what commands give is as long as their characters, and it is laid down command by command.
 use Prim.Native.Nat.{ℕ, _+_, _-_, _^_, _≤_, _<_}
 use mathlib.Core.Path.{_≡_, _∙_, ap, refl, sym}
 use mathlib.Core.Bool.{true, false}
@@ -15,42 +15,43 @@ use Rattle.utf8.specs.Scalar.{bytesOf}
 use Rattle.utf8.proofs.Boundaries.{boundary-most}
 use Rattle.note.specs.Notes.{beforeEnd}
 use Rattle.script.specs.declared.Command.{Command}
-use Rattle.script.specs.Scripts.{sizeOf}
+use Rattle.utf8.specs.Scalar.{lenUtf8}
 use Rattle.edit_steps.specs.declared.walking.Progress.{Progress}
-use Rattle.edit_steps.specs.Edits.{skipped, starves, moved, starved, carries, characters, carried, given, begins, relaid, edited, transformed, Unchanged}
-use Rattle.edit_steps.specs.Walking.{Standing, Counting, sizes, stepped}
-use Rattle.edit_steps.specs.Laying.{KeepRoom, Kept, Reached, Room, CommandLaid, Below, CommandOver, CommandsRoom, CommandsLaid, EditRoom, EditLaid}
+use Rattle.edit_steps.specs.Edits.{skipped, starves, moved, starved, carriedValue, characters, carriedValues, produced, firstPosition, relaid, edited, transformed, Unchanged}
+use Rattle.edit_steps.specs.Walking.{Standing, Counting, commandsSize, progressAfter}
+use Rattle.buffers.specs.Keeping.{KeepRoom, PartKept}
+use Rattle.edit_steps.specs.Laying.{Reached, Room, CommandLaid, Below, CommandOver, CommandsRoom, CommandsLaid, EditRoom, EditLaid}
 use Rattle.edit_steps.proofs.Positions.{feeds, standing-moved, stepped-fed}
 
--- what a command carries
-pub carries-added : (xs : List ℕ) (p : ℕ) (c : Command) {v : ℕ} → c .added ≡ true → v ≡ beforeEnd xs p → v ≡ carries xs p c
-unfolding carries
+-- what a command carriedValue
+pub carries-added : (xs : List ℕ) (p : ℕ) (c : Command) {v : ℕ} → c .added ≡ true → v ≡ beforeEnd xs p → v ≡ carriedValue xs p c
+unfolding carriedValue
 carries-added xs p c e is = is ∙ rw e
 
-pub carries-replacing : (xs : List ℕ) (p : ℕ) (c : Command) → c .added ≡ false → getD xs p 0 ≡ carries xs p c
-unfolding carries
+pub carries-replacing : (xs : List ℕ) (p : ℕ) (c : Command) → c .added ≡ false → getD xs p 0 ≡ carriedValue xs p c
+unfolding carriedValue
 carries-replacing xs p c e = rw e
 
-pub characters-wide : (p : ℕ) (c : Command) → length (characters p c) ≡ sizeOf (c .character)
-unfolding sizeOf
+pub characters-wide : (p : ℕ) (c : Command) → length (characters p c) ≡ lenUtf8 (c .character)
+unfolding lenUtf8
 characters-wide p c = refl
 
-pub carried-wide : (xs : List ℕ) (p : ℕ) (c : Command) → length (carried xs p c) ≡ sizeOf (c .character)
-carried-wide xs p c = length-replicate (sizeOf (c .character)) (carries xs p c)
+pub carried-wide : (xs : List ℕ) (p : ℕ) (c : Command) → length (carriedValues xs p c) ≡ lenUtf8 (c .character)
+carried-wide xs p c = length-replicate (lenUtf8 (c .character)) (carriedValue xs p c)
 
 -- one command, laid down
-module _ (starts ends : List ℕ) (g : Progress) (c : Command) {size x y : ℕ} (wide : size ≡ sizeOf (c .character)) where
-  pub command-over : (until : ℕ) {out₀ starts₀ ends₀ out starts₁ ends₁ : List ℕ} → Over (bytesOf (c .character)) out₀ (g .written) until out → x ≡ carries starts (g .position) c → y ≡ carries ends (g .position) c → Over (replicate size x) starts₀ (g .written) until starts₁ → Over (replicate size y) ends₀ (g .written) until ends₁ → CommandOver starts ends g c out₀ starts₀ ends₀ until out starts₁ ends₁
+module _ (starts ends : List ℕ) (g : Progress) (c : Command) {size x y : ℕ} (wide : size ≡ lenUtf8 (c .character)) where
+  pub command-over : (until : ℕ) {out₀ starts₀ ends₀ out starts₁ ends₁ : List ℕ} → Over (bytesOf (c .character)) out₀ (g .written) until out → x ≡ carriedValue starts (g .position) c → y ≡ carriedValue ends (g .position) c → Over (replicate size x) starts₀ (g .written) until starts₁ → Over (replicate size y) ends₀ (g .written) until ends₁ → CommandOver starts ends g c out₀ starts₀ ends₀ until out starts₁ ends₁
   command-over until l sx sy ps pe = record { text-over = l; starts-over = rw (wide, sx) at ps; ends-over = rw (wide, sy) at pe }
 
 -- all commands
-module _ (piece : ℕ → Command → List ℕ) (wide : (p : ℕ) (c : Command) → length (piece p c) ≡ sizeOf (c .character)) (s : List ℕ) (b : ℕ) where
-  pub length-given : (p : ℕ) (cs : List Command) → length (given piece s b p cs) ≡ sizes cs
-  unfolding given sizes
+module _ (piece : ℕ → Command → List ℕ) (wide : (p : ℕ) (c : Command) → length (piece p c) ≡ lenUtf8 (c .character)) (s : List ℕ) (b : ℕ) where
+  pub length-given : (p : ℕ) (cs : List Command) → length (produced piece s b p cs) ≡ commandsSize cs
+  unfolding produced commandsSize
   length-given p [] = refl
   length-given p (c ∷ cs) = rw (length-append, wide p c, length-given (moved s b p c) cs)
 
-  pub length-relaid : (a p : ℕ) (cs : List Command) (xs : List ℕ) → a ≤ length xs → length (relaid piece s a b p cs xs) ≡ a + sizes cs + (length xs - b)
+  pub length-relaid : (a p : ℕ) (cs : List Command) (xs : List ℕ) → a ≤ length xs → length (relaid piece s a b p cs xs) ≡ a + commandsSize cs + (length xs - b)
   unfolding relaid
   length-relaid a p cs xs h =
       length-append (take a xs) _ ∙ rw (length-take-le a xs h, length-append, length-given p cs, length-drop b xs) (omega arith)
@@ -75,34 +76,34 @@ reached {s} {xs} {b} {p} {c} same at f =
       found = λ u. omega (arith, feeds b p c f u, boundary-most s b (at .ends));
     }
 
--- what a column has given into d, up to the commands that are left
+-- what a column has produced into d, up to the commands that are left
 abbrev Column : (ℕ → Command → List ℕ) → List ℕ → ℕ → ℕ → List Command → ℕ → Progress → List Command → List ℕ → List ℕ → Type 0
 Column piece s b p all at g rest d₀ d =
-    Reaching (take at d₀ ++ given piece s b p all) (given piece s b (g .position) rest) d₀ (g .written) d
+    Reaching (take at d₀ ++ produced piece s b p all) (produced piece s b (g .position) rest) d₀ (g .written) d
 
-module _ (piece : ℕ → Command → List ℕ) (wide : (p : ℕ) (c : Command) → length (piece p c) ≡ sizeOf (c .character)) (s : List ℕ) (b p : ℕ) (all : List Command) (at : ℕ) where
-  column-none : {d₀ : List ℕ} → at + sizes all ≤ length d₀ → Column piece s b p all at (record { position = p; written = at; starved = false }) all d₀ d₀
+module _ (piece : ℕ → Command → List ℕ) (wide : (p : ℕ) (c : Command) → length (piece p c) ≡ lenUtf8 (c .character)) (s : List ℕ) (b p : ℕ) (all : List Command) (at : ℕ) where
+  column-none : {d₀ : List ℕ} → at + commandsSize all ≤ length d₀ → Column piece s b p all at (record { position = p; written = at; starved = false }) all d₀ d₀
   column-none h = record { so-far = refl; beyond = refl; room = omega (arith, length-given piece wide s b p all); same = refl }
 
   module _ (g : Progress) (rest : List Command) {d₀ d : List ℕ} (k : Column piece s b p all at g rest d₀ d) where
     module _ {c : Command} {others : List Command} (next : rest ≡ c ∷ others) where
-      column-room : g .written + sizeOf (c .character) ≤ length d
-      unfolding given
+      column-room : g .written + lenUtf8 (c .character) ≤ length d
+      unfolding produced
       column-room =
-          let room : g .written + length (piece (g .position) c ++ given piece s b (moved s b (g .position) c) others) ≤ length d = rw next at (k .room) in
-          omega (arith, length-append (piece (g .position) c) (given piece s b (moved s b (g .position) c) others), wide (g .position) c)
+          let room : g .written + length (piece (g .position) c ++ produced piece s b (moved s b (g .position) c) others) ≤ length d = rw next at (k .room) in
+          omega (arith, length-append (piece (g .position) c) (produced piece s b (moved s b (g .position) c) others), wide (g .position) c)
 
-      column-next : {d₁ : List ℕ} {until : ℕ} → at ≤ length d₀ → until ≤ at + sizes all → Over (piece (g .position) c) d (g .written) until d₁ → Column piece s b p all at (record { position = moved s b (g .position) c; written = g .written + sizeOf (c .character); starved = false }) others d₀ d₁
-      unfolding given
+      column-next : {d₁ : List ℕ} {until : ℕ} → at ≤ length d₀ → until ≤ at + commandsSize all → Over (piece (g .position) c) d (g .written) until d₁ → Column piece s b p all at (record { position = moved s b (g .position) c; written = g .written + lenUtf8 (c .character); starved = false }) others d₀ d₁
+      unfolding produced
       column-next h below o =
-          let made : List ℕ = given piece s b p all in
+          let made : List ℕ = produced piece s b p all in
           let long : length (take at d₀ ++ made) ≡ at + length made = length-append (take at d₀) made ∙ rw (length-take-le at d₀ h) in
-          run-reached (piece (g .position) c) (given piece s b (moved s b (g .position) c) others) (rw next at k) (omega (arith, length-given piece wide s b p all)) (rw (wide (g .position) c)) o
+          run-reached (piece (g .position) c) (produced piece s b (moved s b (g .position) c) others) (rw next at k) (omega (arith, length-given piece wide s b p all)) (rw (wide (g .position) c)) o
 
-    column-done : rest ≡ [] → at ≤ length d₀ → (g .written ≡ at + sizes all) × (d ≡ splice d₀ at (given piece s b p all))
-    unfolding given splice overlay
+    column-done : rest ≡ [] → at ≤ length d₀ → (g .written ≡ at + commandsSize all) × (d ≡ splice d₀ at (produced piece s b p all))
+    unfolding produced splice overlay
     column-done none h =
-        let made : List ℕ = given piece s b p all in
+        let made : List ℕ = produced piece s b p all in
         let done : Reaching (take at d₀ ++ made) [] d₀ (g .written) d = rw none at k in
         let long : length (take at d₀ ++ made) ≡ at + length made = length-append (take at d₀) made ∙ rw (length-take-le at d₀ h) in (
           omega (arith, reaching-size done, long, length-given piece wide s b p all),
@@ -114,8 +115,8 @@ pub record Going (s starts ends : List ℕ) (b p : ℕ) (all : List Command) (ou
   pub standing : Standing s b (g .position)
   pub feeding : starved s b (g .position) rest ≡ false
   pub text-laid : Column characters s b p all at g rest out₀ out
-  pub starts-laid : Column (carried starts) s b p all at g rest starts₀ starts₁
-  pub ends-laid : Column (carried ends) s b p all at g rest ends₀ ends₁
+  pub starts-laid : Column (carriedValues starts) s b p all at g rest starts₀ starts₁
+  pub ends-laid : Column (carriedValues ends) s b p all at g rest ends₀ ends₁
 
 module _ {s starts ends : List ℕ} {b p : ℕ} {all : List Command} {table out₀ starts₀ ends₀ : List ℕ} {at : ℕ} (r : CommandsRoom s starts ends b p all table out₀ starts₀ ends₀ at) where
   pub none-going : Going s starts ends b p all out₀ starts₀ ends₀ at (record { position = p; written = at; starved = false }) all out₀ starts₀ ends₀
@@ -124,8 +125,8 @@ module _ {s starts ends : List ℕ} {b p : ℕ} {all : List Command} {table out�
         standing = r .tabled .standing;
         feeding = r .feeds;
         text-laid = column-none characters characters-wide s b p all at (r .text-room);
-        starts-laid = column-none (carried starts) (carried-wide starts) s b p all at (r .starts-room);
-        ends-laid = column-none (carried ends) (carried-wide ends) s b p all at (r .ends-room);
+        starts-laid = column-none (carriedValues starts) (carried-wide starts) s b p all at (r .starts-room);
+        ends-laid = column-none (carriedValues ends) (carried-wide ends) s b p all at (r .ends-room);
       }
 
   module _ {g : Progress} {rest : List Command} {out starts₁ ends₁ : List ℕ} (k : Going s starts ends b p all out₀ starts₀ ends₀ at g rest out starts₁ ends₁) where
@@ -139,8 +140,8 @@ module _ {s starts ends : List ℕ} {b p : ℕ} {all : List Command} {table out�
             in-starts = reached (r .one-start) (k .standing) (both-fed .0);
             in-ends = reached (r .one-end) (k .standing) (both-fed .0);
             text-room = column-room characters characters-wide s b p all at g rest (k .text-laid) next;
-            starts-room = column-room (carried starts) (carried-wide starts) s b p all at g rest (k .starts-laid) next;
-            ends-room = column-room (carried ends) (carried-wide ends) s b p all at g rest (k .ends-laid) next;
+            starts-room = column-room (carriedValues starts) (carried-wide starts) s b p all at g rest (k .starts-laid) next;
+            ends-room = column-room (carriedValues ends) (carried-wide ends) s b p all at g rest (k .ends-laid) next;
           }
 
       pub counting : length out₀ < 2 ^ 64 → Counting s b g c table
@@ -150,33 +151,33 @@ module _ {s starts ends : List ℕ} {b p : ℕ} {all : List Command} {table out�
             counts = omega (arith, column-room characters characters-wide s b p all at g rest (k .text-laid) next, k .text-laid .same);
           }
 
-      module _ {h : Progress} {until : ℕ} {out₂ starts₂ ends₂ : List ℕ} (m : CommandOver starts ends g c out starts₁ ends₁ until out₂ starts₂ ends₂) (below : until ≤ at + sizes all) (on : h ≡ stepped s b g c) where
+      module _ {h : Progress} {until : ℕ} {out₂ starts₂ ends₂ : List ℕ} (m : CommandOver starts ends g c out starts₁ ends₁ until out₂ starts₂ ends₂) (below : until ≤ at + commandsSize all) (on : h ≡ progressAfter s b g c) where
         pub going-over : Going s starts ends b p all out₀ starts₀ ends₀ at h others out₂ starts₂ ends₂
         going-over =
-            let now : h ≡ record { position = moved s b (g .position) c; written = g .written + sizeOf (c .character); starved = false } = on ∙ stepped-fed s b g c (sym (both-fed .0)) refl in
+            let now : h ≡ record { position = moved s b (g .position) c; written = g .written + lenUtf8 (c .character); starved = false } = on ∙ stepped-fed s b g c (sym (both-fed .0)) refl in
             rw now
             (record {
               standing = standing-moved c (k .standing) .0;
               feeding = both-fed .1;
               text-laid = column-next characters characters-wide s b p all at g rest (k .text-laid) next (omega (arith, r .text-room)) below (m .text-over);
-              starts-laid = column-next (carried starts) (carried-wide starts) s b p all at g rest (k .starts-laid) next (omega (arith, r .starts-room)) below (m .starts-over);
-              ends-laid = column-next (carried ends) (carried-wide ends) s b p all at g rest (k .ends-laid) next (omega (arith, r .ends-room)) below (m .ends-over);
+              starts-laid = column-next (carriedValues starts) (carried-wide starts) s b p all at g rest (k .starts-laid) next (omega (arith, r .starts-room)) below (m .starts-over);
+              ends-laid = column-next (carriedValues ends) (carried-wide ends) s b p all at g rest (k .ends-laid) next (omega (arith, r .ends-room)) below (m .ends-over);
             })
 
-      pub going-on : {h : Progress} {out₂ starts₂ ends₂ : List ℕ} → CommandLaid starts ends g c out starts₁ ends₁ out₂ starts₂ ends₂ → h ≡ stepped s b g c → Going s starts ends b p all out₀ starts₀ ends₀ at h others out₂ starts₂ ends₂
+      pub going-on : {h : Progress} {out₂ starts₂ ends₂ : List ℕ} → CommandLaid starts ends g c out starts₁ ends₁ out₂ starts₂ ends₂ → h ≡ progressAfter s b g c → Going s starts ends b p all out₀ starts₀ ends₀ at h others out₂ starts₂ ends₂
       going-on m on =
           let room = command-room in
           going-over
           (record {
             text-over = over-exact (characters (g .position) c) out (g .written) 0 (omega (arith, room .text-room, characters-wide (g .position) c)) (m .text-is);
-            starts-over = over-exact (carried starts (g .position) c) starts₁ (g .written) 0 (omega (arith, room .starts-room, carried-wide starts (g .position) c)) (m .starts-are);
-            ends-over = over-exact (carried ends (g .position) c) ends₁ (g .written) 0 (omega (arith, room .ends-room, carried-wide ends (g .position) c)) (m .ends-are);
+            starts-over = over-exact (carriedValues starts (g .position) c) starts₁ (g .written) 0 (omega (arith, room .starts-room, carried-wide starts (g .position) c)) (m .starts-are);
+            ends-over = over-exact (carriedValues ends (g .position) c) ends₁ (g .written) 0 (omega (arith, room .ends-room, carried-wide ends (g .position) c)) (m .ends-are);
           })
           (omega arith)
           on
 
     -- what may be written up to where the commands reach
-    pub below-all : {until : ℕ} → until ≤ at + sizes all → Below until out starts₁ ends₁
+    pub below-all : {until : ℕ} → until ≤ at + commandsSize all → Below until out starts₁ ends₁
     below-all h =
         record {
           text-below = omega (arith, r .text-room, k .text-laid .same);
@@ -190,33 +191,33 @@ module _ {s starts ends : List ℕ} {b p : ℕ} {all : List Command} {table out�
         record {
           reached = text .0;
           text-is = text .1;
-          starts-are = column-done (carried starts) (carried-wide starts) s b p all at g rest (k .starts-laid) none (omega (arith, r .starts-room)) .1;
-          ends-are = column-done (carried ends) (carried-wide ends) s b p all at g rest (k .ends-laid) none (omega (arith, r .ends-room)) .1;
+          starts-are = column-done (carriedValues starts) (carried-wide starts) s b p all at g rest (k .starts-laid) none (omega (arith, r .starts-room)) .1;
+          ends-are = column-done (carriedValues ends) (carried-wide ends) s b p all at g rest (k .ends-laid) none (omega (arith, r .ends-room)) .1;
         }
 
 -- a list in three pieces: what stands before the range, what the commands give, what stands behind
-module _ (piece : ℕ → Command → List ℕ) (wide : (p : ℕ) (c : Command) → length (piece p c) ≡ sizeOf (c .character)) (s xs : List ℕ) (a b p m : ℕ) (cs : List Command) (d₀ : List ℕ) (long : length xs ≡ m) (forward : a ≤ b) (inside : b ≤ m) where
+module _ (piece : ℕ → Command → List ℕ) (wide : (p : ℕ) (c : Command) → length (piece p c) ≡ lenUtf8 (c .character)) (s xs : List ℕ) (a b p m : ℕ) (cs : List Command) (d₀ : List ℕ) (long : length xs ≡ m) (forward : a ≤ b) (inside : b ≤ m) where
   front : part xs 0 a ≡ take a xs
   front = let none : a - 0 ≡ a = omega arith in rw none
 
   back : part xs b m ≡ drop b xs
   back = rw (← long) (part-end xs b)
 
-  pub pieces-room : a + sizes cs + (m - b) ≤ length d₀ → {d₁ d₂ : List ℕ} → d₁ ≡ splice d₀ 0 (part xs 0 a) → d₂ ≡ splice d₁ a (given piece s b p cs) → (length d₁ ≡ length d₀) × (length d₂ ≡ length d₀)
+  pub pieces-room : a + commandsSize cs + (m - b) ≤ length d₀ → {d₁ d₂ : List ℕ} → d₁ ≡ splice d₀ 0 (part xs 0 a) → d₂ ≡ splice d₁ a (produced piece s b p cs) → (length d₁ ≡ length d₀) × (length d₂ ≡ length d₀)
   pieces-room room first second =
       let before : length (part xs 0 a) ≡ a - 0 = length-part xs 0 a (omega arith) in
       let one = ap length first ∙ length-splice d₀ 0 (part xs 0 a) (omega arith) in
       let size = length-given piece wide s b p cs in
-      (one, ap length second ∙ length-splice _ a (given piece s b p cs) (omega arith) ∙ one)
+      (one, ap length second ∙ length-splice _ a (produced piece s b p cs) (omega arith) ∙ one)
 
-  pub pieces-laid : {d₁ d₂ d₃ : List ℕ} {at : ℕ} → d₁ ≡ splice d₀ 0 (part xs 0 a) → d₂ ≡ splice d₁ a (given piece s b p cs) → at ≡ a + sizes cs → d₃ ≡ splice d₂ at (part xs b m) → d₃ ≡ overlay (relaid piece s a b p cs xs) d₀
+  pub pieces-laid : {d₁ d₂ d₃ : List ℕ} {at : ℕ} → d₁ ≡ splice d₀ 0 (part xs 0 a) → d₂ ≡ splice d₁ a (produced piece s b p cs) → at ≡ a + commandsSize cs → d₃ ≡ splice d₂ at (part xs b m) → d₃ ≡ overlay (relaid piece s a b p cs xs) d₀
   unfolding relaid
   pieces-laid {d₂ = d₂} first second reach third =
-      let made : List ℕ = given piece s b p cs in
+      let made : List ℕ = produced piece s b p cs in
       let near : 0 + length (take a xs) ≡ a = omega (arith, length-take-le a xs (omega arith)) in
       let two : d₂ ≡ splice d₀ 0 (take a xs ++ made) = second ∙ rw (first, front) (rw near at (splice-splice d₀ (take a xs) made 0 (omega arith))) in
-      let far : 0 + length (take a xs ++ made) ≡ a + sizes cs = omega (arith, length-append (take a xs) made, near, length-given piece wide s b p cs) in
-      let all : splice (splice d₀ 0 (take a xs ++ made)) (a + sizes cs) (drop b xs) ≡ splice d₀ 0 (take a xs ++ made ++ drop b xs) = rw far at (splice-splice d₀ (take a xs ++ made) (drop b xs) 0 (omega arith)) in
+      let far : 0 + length (take a xs ++ made) ≡ a + commandsSize cs = omega (arith, length-append (take a xs) made, near, length-given piece wide s b p cs) in
+      let all : splice (splice d₀ 0 (take a xs ++ made)) (a + commandsSize cs) (drop b xs) ≡ splice d₀ 0 (take a xs ++ made ++ drop b xs) = rw far at (splice-splice d₀ (take a xs ++ made) (drop b xs) 0 (omega arith)) in
       let same : take a xs ++ made ++ drop b xs ≡ take a xs ++ (made ++ drop b xs) = append-assoc (take a xs) made (drop b xs) in
       third ∙ rw (two, reach, back, all, same) (splice-overlay d₀ (take a xs ++ (made ++ drop b xs)))
 
@@ -234,12 +235,12 @@ module _ {s starts ends : List ℕ} {a b p : ℕ} {cs : List Command} {table out
         ends-room = omega (arith, r .ends-room);
       }
 
-  module _ {out₁ starts₁ ends₁ : List ℕ} (k : Kept s starts ends 0 a out₀ starts₀ ends₀ 0 out₁ starts₁ ends₁) where
+  module _ {out₁ starts₁ ends₁ : List ℕ} (k : PartKept s starts ends 0 a out₀ starts₀ ends₀ 0 out₁ starts₁ ends₁) where
     pub middle-room : CommandsRoom s starts ends b p cs table out₁ starts₁ ends₁ a
     middle-room =
         let text = pieces-room characters characters-wide s s a b p (length s) cs out₀ refl (r .forward) (r .inside) (r .text-room) (k .text-is) refl in
-        let first = pieces-room (carried starts) (carried-wide starts) s starts a b p (length s) cs starts₀ (r .one-start) (r .forward) (r .inside) (r .starts-room) (k .starts-are) refl in
-        let last = pieces-room (carried ends) (carried-wide ends) s ends a b p (length s) cs ends₀ (r .one-end) (r .forward) (r .inside) (r .ends-room) (k .ends-are) refl in
+        let first = pieces-room (carriedValues starts) (carried-wide starts) s starts a b p (length s) cs starts₀ (r .one-start) (r .forward) (r .inside) (r .starts-room) (k .starts-are) refl in
+        let last = pieces-room (carriedValues ends) (carried-wide ends) s ends a b p (length s) cs ends₀ (r .one-end) (r .forward) (r .inside) (r .ends-room) (k .ends-are) refl in
         record {
           one-start = r .one-start;
           one-end = r .one-end;
@@ -254,8 +255,8 @@ module _ {s starts ends : List ℕ} {a b p : ℕ} {cs : List Command} {table out
       pub back-room : KeepRoom s starts ends b (length s) out₂ starts₂ ends₂ at
       back-room =
           let text = pieces-room characters characters-wide s s a b p (length s) cs out₀ refl (r .forward) (r .inside) (r .text-room) (k .text-is) (m .text-is) in
-          let first = pieces-room (carried starts) (carried-wide starts) s starts a b p (length s) cs starts₀ (r .one-start) (r .forward) (r .inside) (r .starts-room) (k .starts-are) (m .starts-are) in
-          let last = pieces-room (carried ends) (carried-wide ends) s ends a b p (length s) cs ends₀ (r .one-end) (r .forward) (r .inside) (r .ends-room) (k .ends-are) (m .ends-are) in
+          let first = pieces-room (carriedValues starts) (carried-wide starts) s starts a b p (length s) cs starts₀ (r .one-start) (r .forward) (r .inside) (r .starts-room) (k .starts-are) (m .starts-are) in
+          let last = pieces-room (carriedValues ends) (carried-wide ends) s ends a b p (length s) cs ends₀ (r .one-end) (r .forward) (r .inside) (r .ends-room) (k .ends-are) (m .ends-are) in
           record {
             onward = r .inside;
             in-text = omega arith;
@@ -266,15 +267,15 @@ module _ {s starts ends : List ℕ} {a b p : ℕ} {cs : List Command} {table out
             ends-room = omega (arith, last .1, r .ends-room, m .reached);
           }
 
-      pub edit-laid : {out₃ starts₃ ends₃ : List ℕ} → Kept s starts ends b (length s) out₂ starts₂ ends₂ at out₃ starts₃ ends₃ → EditLaid s starts ends a b p cs out₀ starts₀ ends₀ (at + (length s - b)) out₃ starts₃ ends₃
+      pub edit-laid : {out₃ starts₃ ends₃ : List ℕ} → PartKept s starts ends b (length s) out₂ starts₂ ends₂ at out₃ starts₃ ends₃ → EditLaid s starts ends a b p cs out₀ starts₀ ends₀ (at + (length s - b)) out₃ starts₃ ends₃
       edit-laid j =
           record {
             reached = omega (arith, length-relaid characters characters-wide s b a p cs s (omega (arith, r .forward, r .inside)), m .reached);
             text-is = pieces-laid characters characters-wide s s a b p (length s) cs out₀ refl (r .forward) (r .inside) (k .text-is) (m .text-is) (m .reached) (j .text-is);
-            starts-are = pieces-laid (carried starts) (carried-wide starts) s starts a b p (length s) cs starts₀ (r .one-start) (r .forward) (r .inside) (k .starts-are) (m .starts-are) (m .reached) (j .starts-are);
-            ends-are = pieces-laid (carried ends) (carried-wide ends) s ends a b p (length s) cs ends₀ (r .one-end) (r .forward) (r .inside) (k .ends-are) (m .ends-are) (m .reached) (j .ends-are);
+            starts-are = pieces-laid (carriedValues starts) (carried-wide starts) s starts a b p (length s) cs starts₀ (r .one-start) (r .forward) (r .inside) (k .starts-are) (m .starts-are) (m .reached) (j .starts-are);
+            ends-are = pieces-laid (carriedValues ends) (carried-wide ends) s ends a b p (length s) cs ends₀ (r .one-end) (r .forward) (r .inside) (k .ends-are) (m .ends-are) (m .reached) (j .ends-are);
           }
 
 pub unchanged : Unchanged
-unfolding transformed edited relaid given begins skipped
+unfolding transformed edited relaid produced firstPosition skipped
 unchanged n = refl

@@ -9,18 +9,19 @@ use Rattle.buffers.proofs.Cases.{true-or-false}
 use Rattle.script.specs.declared.Command.{Command}
 use Rattle.script.specs.declared.Entry.{Entry}
 use Rattle.script.specs.declared.Entry.the-variants.{At, Broken}
-use Rattle.script.specs.Scripts.{sizeOf, entryAt, commandsOf}
+use Rattle.utf8.specs.Scalar.{lenUtf8}
+use Rattle.script.specs.Scripts.{commandAt, commandsOf}
 use Rattle.script.proofs.Scripts.{Stepped, entry-step, entry-broken, entries-end}
 use Rattle.edit_steps.specs.declared.walking.Progress.{Progress}
 use Rattle.edit_steps.specs.declared.walking.Extent.the-variants.{Size, Starved}
 use Rattle.edit_steps.specs.Edits.{starves, moved, starved}
-use Rattle.edit_steps.specs.Walking.{Standing, Tabled, Counting, sizes, stepped, measured}
+use Rattle.edit_steps.specs.Walking.{Standing, Tabled, Counting, commandsSize, progressAfter, measured}
 use Rattle.edit_steps.proofs.Positions.{standing-moved, stepped-fed, stepped-told}
 
 -- some commands have gone by: what is left starves and counts as all did
 pub record Passed (s : List ℕ) (b from : ℕ) (all rest : List Command) (g : Progress) : Type 0 where
   pub starving : starved s b from all ≡ starved s b (g .position) rest
-  pub counted : sizes all ≡ g .written + sizes rest
+  pub counted : commandsSize all ≡ g .written + commandsSize rest
   pub standing : Standing s b (g .position)
 
 pub none-passed : {s : List ℕ} {b from : ℕ} {all : List Command} → Standing s b from → Passed s b from all all (record { position = from; written = 0; starved = false })
@@ -36,11 +37,11 @@ module _ {s : List ℕ} {b from : ℕ} {all rest : List Command} {g : Progress} 
     unfolding measured
     starves-here e = let yes : starved s b from all ≡ true = one ∙ rw e in rw yes
 
-    pub one-passed : {h : Progress} → t ≡ false → h ≡ stepped s b g c → Passed s b from all others h
-    unfolding sizes
+    pub one-passed : {h : Progress} → t ≡ false → h ≡ progressAfter s b g c → Passed s b from all others h
+    unfolding commandsSize
     one-passed {h} e on =
-        let now : h ≡ record { position = moved s b (g .position) c; written = g .written + sizeOf (c .character); starved = false } = on ∙ stepped-fed s b g c test e in
-        let left : sizes rest ≡ sizeOf (c .character) + sizes others = rw next in
+        let now : h ≡ record { position = moved s b (g .position) c; written = g .written + lenUtf8 (c .character); starved = false } = on ∙ stepped-fed s b g c test e in
+        let left : commandsSize rest ≡ lenUtf8 (c .character) + commandsSize others = rw next in
         rw now
         (record {
           starving = one ∙ rw e;
@@ -49,11 +50,11 @@ module _ {s : List ℕ} {b from : ℕ} {all rest : List Command} {g : Progress} 
         })
 
   pub all-passed : rest ≡ [] → Size (g .written) ≡ measured s b from all
-  unfolding measured starved sizes
+  unfolding measured starved commandsSize
   all-passed none =
       let feeds : starved s b from all ≡ false = m .starving ∙ rw none in
-      let zero : sizes rest ≡ 0 = rw none in
-      let whole : sizes all ≡ g .written = omega (arith, m .counted) in
+      let zero : commandsSize rest ≡ 0 = rw none in
+      let whole : commandsSize all ≡ g .written = omega (arith, m .counted) in
       rw (feeds, whole)
 
 -- the same for a script, read up to i
@@ -66,7 +67,7 @@ pub none-measured : {s l : List ℕ} {b from : ℕ} → Standing s b from → Me
 none-measured at = record { passed = none-passed at; small = omega arith; most = omega arith }
 
 module _ {s l : List ℕ} {b from : ℕ} {g : Progress} {i : ℕ} (m : Measuring s b from l g i) where
-  module _ {entry : Entry} {c : Command} {next : ℕ} (is : entry ≡ entryAt l i) (there : entry ≡ At c next) where
+  module _ {entry : Entry} {c : Command} {next : ℕ} (is : entry ≡ commandAt l i) (there : entry ≡ At c next) where
     step : Stepped l i c next
     step = entry-step l is there
 
@@ -77,7 +78,7 @@ module _ {s l : List ℕ} {b from : ℕ} {g : Progress} {i : ℕ} (m : Measuring
           counts = omega (arith, m .small, step .onward, step .most);
         }
 
-    module _ {h : Progress} (on : h ≡ stepped s b g c) where
+    module _ {h : Progress} (on : h ≡ progressAfter s b g c) where
       told : h .starved ≡ starves b (g .position) c
       told = ap (λ (x : Progress). x .starved) on ∙ stepped-told s b g c refl
 
@@ -86,15 +87,15 @@ module _ {s l : List ℕ} {b from : ℕ} {g : Progress} {i : ℕ} (m : Measuring
 
       pub one-measured : h .starved ≡ false → Measuring s b from l h next
       one-measured e =
-          let now : h ≡ record { position = moved s b (g .position) c; written = g .written + sizeOf (c .character); starved = false } = on ∙ stepped-fed s b g c told e in
-          let count : h .written ≡ g .written + sizeOf (c .character) = ap (λ (x : Progress). x .written) now in
+          let now : h ≡ record { position = moved s b (g .position) c; written = g .written + lenUtf8 (c .character); starved = false } = on ∙ stepped-fed s b g c told e in
+          let count : h .written ≡ g .written + lenUtf8 (c .character) = ap (λ (x : Progress). x .written) now in
           record {
             passed = one-passed (m .passed) (step .commands) told e on;
             small = omega (arith, m .small, step .onward, count);
             most = step .most;
           }
 
-  pub broken-measured : {entry : Entry} → i < length l → entry ≡ entryAt l i → entry ≡ Broken → Size (g .written) ≡ measured s b from (commandsOf l)
+  pub broken-measured : {entry : Entry} → i < length l → entry ≡ commandAt l i → entry ≡ Broken → Size (g .written) ≡ measured s b from (commandsOf l)
   broken-measured h is e = all-passed (m .passed) (entry-broken l h is e .0)
 
   pub all-measured : length l ≤ i → Size (g .written) ≡ measured s b from (commandsOf l)
@@ -106,11 +107,11 @@ module _ (s : List ℕ) (b p : ℕ) (cs : List Command) where
   unfolding measured
   measured-starved e =
       true-or-false (starved s b p cs) (λ t. t)
-      (λ u. let z : Size (sizes cs) ≡ Starved = rw u at e in let y : _≡_ {A = ℕ} 0 1 = cc in absurd (omega arith))
+      (λ u. let z : Size (commandsSize cs) ≡ Starved = rw u at e in let y : _≡_ {A = ℕ} 0 1 = cc in absurd (omega arith))
 
-  pub measured-size : {size : ℕ} → measured s b p cs ≡ Size size → (starved s b p cs ≡ false) × (size ≡ sizes cs)
+  pub measured-size : {size : ℕ} → measured s b p cs ≡ Size size → (starved s b p cs ≡ false) × (size ≡ commandsSize cs)
   unfolding measured
   measured-size {size} e =
       true-or-false (starved s b p cs)
       (λ t. let z : Starved ≡ Size size = rw t at e in let y : _≡_ {A = ℕ} 0 1 = cc in absurd (omega arith))
-      (λ u. let z : Size (sizes cs) ≡ Size size = rw u at e in (u, cc))
+      (λ u. let z : Size (commandsSize cs) ≡ Size size = rw u at e in (u, cc))

@@ -12,10 +12,10 @@ use Rattle.utf8.specs.Formed.{announced, continues}
 use Rattle.utf8.specs.Lengths.{CharBegins, CharLen}
 use Rattle.utf8.proofs.Boundaries.{CharAt, char-at, boundary-begins, boundary-most}
 use Rattle.script.specs.declared.Command.{Command}
-use Rattle.script.specs.Scripts.{sizeOf}
+use Rattle.utf8.specs.Scalar.{lenUtf8}
 use Rattle.edit_steps.specs.declared.walking.Progress.{Progress}
 use Rattle.edit_steps.specs.Edits.{skipped, starves, moved}
-use Rattle.edit_steps.specs.Walking.{Standing, Tabled, stepped}
+use Rattle.edit_steps.specs.Walking.{Standing, Tabled, progressAfter}
 
 -- one character on
 pub standing-next : {s : List ℕ} {b p : ℕ} → Standing s b p → p < b → Standing s b (p + announced (getD s p 0))
@@ -111,28 +111,28 @@ module _ {s : List ℕ} {b count from k p : ℕ} (g : Skipping s b count from k 
 
 -- how far an edit is
 module _ (s : List ℕ) (b : ℕ) (g : Progress) (c : Command) {t : Bool} (is : t ≡ starves b (g .position) c) where
-  pub stepped-starves : t ≡ true → record { position = g .position; written = g .written; starved = true } ≡ stepped s b g c
-  unfolding stepped
+  pub stepped-starves : t ≡ true → record { position = g .position; written = g .written; starved = true } ≡ progressAfter s b g c
+  unfolding progressAfter
   stepped-starves e = rw (sym is ∙ e)
 
-  module _ (e : t ≡ false) {size : ℕ} (wide : size ≡ sizeOf (c .character)) where
-    step-on : {p : ℕ} → p ≡ moved s b (g .position) c → record { position = p; written = g .written + size; starved = false } ≡ stepped s b g c
-    unfolding stepped
+  module _ (e : t ≡ false) {size : ℕ} (wide : size ≡ lenUtf8 (c .character)) where
+    step-on : {p : ℕ} → p ≡ moved s b (g .position) c → record { position = p; written = g .written + size; starved = false } ≡ progressAfter s b g c
+    unfolding progressAfter
     step-on at = rw (sym is ∙ e, at, wide)
 
-    pub stepped-added : c .added ≡ true → record { position = g .position; written = g .written + size; starved = false } ≡ stepped s b g c
+    pub stepped-added : c .added ≡ true → record { position = g .position; written = g .written + size; starved = false } ≡ progressAfter s b g c
     stepped-added a = step-on (sym (moved-added s b (g .position) c a))
 
-    pub stepped-replacing : {p : ℕ} → c .added ≡ false → p ≡ skipped s b (c .removed + 1) (g .position) → record { position = p; written = g .written + size; starved = false } ≡ stepped s b g c
+    pub stepped-replacing : {p : ℕ} → c .added ≡ false → p ≡ skipped s b (c .removed + 1) (g .position) → record { position = p; written = g .written + size; starved = false } ≡ progressAfter s b g c
     stepped-replacing a at =
         let one : c .removed + 1 ≡ suc (c .removed) = omega arith in
         step-on ((rw one at at) ∙ sym (moved-replacing s b (g .position) c a))
 
-  pub stepped-fed : t ≡ false → stepped s b g c ≡ record { position = moved s b (g .position) c; written = g .written + sizeOf (c .character); starved = false }
-  unfolding stepped
+  pub stepped-fed : t ≡ false → progressAfter s b g c ≡ record { position = moved s b (g .position) c; written = g .written + lenUtf8 (c .character); starved = false }
+  unfolding progressAfter
   stepped-fed e = rw (sym is ∙ e)
 
   -- the record says whether the command starved
-  pub stepped-told : (stepped s b g c) .starved ≡ t
-  unfolding stepped
+  pub stepped-told : (progressAfter s b g c) .starved ≡ t
+  unfolding progressAfter
   stepped-told = true-or-false t (λ e. rw (sym is ∙ e, e)) (λ e. rw (sym is ∙ e, e))

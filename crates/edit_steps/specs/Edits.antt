@@ -10,7 +10,7 @@ use Rattle.utf8.specs.Formed.{announced, boundary}
 use Rattle.utf8.specs.Scalar.{bytesOf}
 use Rattle.note.specs.Notes.{Note, lent, beforeEnd}
 use Rattle.script.specs.declared.Command.{Command}
-use Rattle.script.specs.Scripts.{sizeOf}
+use Rattle.utf8.specs.Scalar.{lenUtf8}
 
 -- k characters on from p, or up to b where fewer are left
 unfoldable pub skipped : List ℕ → ℕ → ℕ → ℕ → ℕ
@@ -31,26 +31,22 @@ unfoldable pub starved : List ℕ → ℕ → ℕ → List Command → Bool
 starved s b p [] = false
 starved s b p (c ∷ cs) = starves b p c || starved s b (moved s b p c) cs
 
--- what a command at a position carries of a column: an added character what stands before the position, 0 at the text's
+-- what a command at a position carriedValue of a column: an added character what stands before the position, 0 at the text's
 -- beginning; a replacing one what stands at the position
-unfoldable pub carries : List ℕ → ℕ → Command → ℕ
-carries xs p c = cond (c .added) (beforeEnd xs p) (getD xs p 0)
+unfoldable pub carriedValue : List ℕ → ℕ → Command → ℕ
+carriedValue xs p c = cond (c .added) (beforeEnd xs p) (getD xs p 0)
 
--- what a command gives: its character's bytes, to the text; and what it carries, once for each of these, to a column
+-- what a command gives: its character's bytes, to the text; and what it carriedValue, once for each of these, to a column
 abbrev pub characters : ℕ → Command → List ℕ
 characters p c = bytesOf (c .character)
 
-abbrev pub carried : List ℕ → ℕ → Command → List ℕ
-carried xs p c = replicate (sizeOf (c .character)) (carries xs p c)
+abbrev pub carriedValues : List ℕ → ℕ → Command → List ℕ
+carriedValues xs p c = replicate (lenUtf8 (c .character)) (carriedValue xs p c)
 
 -- what all commands give, one behind the other, from position p on
-unfoldable pub given : (ℕ → Command → List ℕ) → List ℕ → ℕ → ℕ → List Command → List ℕ
-given piece s b p [] = []
-given piece s b p (c ∷ cs) = piece p c ++ given piece s b (moved s b p c) cs
-
--- a range lies in a text, from a boundary to a boundary
-unfoldable pub placed : List ℕ → ℕ → ℕ → Bool
-placed s a b = leb a b && boundary s a && boundary s b
+unfoldable pub produced : (ℕ → Command → List ℕ) → List ℕ → ℕ → ℕ → List Command → List ℕ
+produced piece s b p [] = []
+produced piece s b p (c ∷ cs) = piece p c ++ produced piece s b (moved s b p c) cs
 
 -- an edit: a range of the cleaned text, how many of its characters are skipped at first, and the commands
 pub record Edit : Type 0 where
@@ -60,23 +56,23 @@ pub record Edit : Type 0 where
   pub commands : List Command
 
 -- where the first command stands
-unfoldable pub begins : List ℕ → Edit → ℕ
-begins s e = skipped s (e .to) (e .skip) (e .from)
+unfoldable pub firstPosition : List ℕ → Edit → ℕ
+firstPosition s e = skipped s (e .to) (e .skip) (e .from)
 
 -- a list of which the elements a..b give way to what the commands give from position p on
 unfoldable pub relaid : (ℕ → Command → List ℕ) → List ℕ → ℕ → ℕ → ℕ → List Command → List ℕ → List ℕ
-relaid piece s a b p cs xs = take a xs ++ (given piece s b p cs ++ drop b xs)
+relaid piece s a b p cs xs = take a xs ++ (produced piece s b p cs ++ drop b xs)
 
 unfoldable pub edited : (ℕ → Command → List ℕ) → List ℕ → Edit → List ℕ → List ℕ
-edited piece s e xs = relaid piece s (e .from) (e .to) (begins s e) (e .commands) xs
+edited piece s e xs = relaid piece s (e .from) (e .to) (firstPosition s e) (e .commands) xs
 
 -- the note that an edit leaves: transcript and shift stay
 unfoldable pub transformed : Note → Edit → Note
 transformed n e =
     lent (n .original)
     (edited characters (n .normalized) e (n .normalized))
-    (edited (carried (n .starts)) (n .normalized) e (n .starts))
-    (edited (carried (n .ends)) (n .normalized) e (n .ends))
+    (edited (carriedValues (n .starts)) (n .normalized) e (n .starts))
+    (edited (carriedValues (n .ends)) (n .normalized) e (n .ends))
     (n .original-shift)
 
 -- the edit that leaves a note as it is: nothing gives way to nothing

@@ -7,7 +7,7 @@ use mathlib.Core.List.{List, [], _∷_}
 use Rattle.utf8.specs.Formed.{wellFormed, boundary}
 use Rattle.utf8.specs.Lengths.{lengthTable}
 use Rattle.script.specs.declared.Command.{Command}
-use Rattle.script.specs.Scripts.{sizeOf}
+use Rattle.utf8.specs.Scalar.{lenUtf8}
 use Rattle.edit_steps.specs.declared.walking.Progress.{Progress}
 use Rattle.edit_steps.specs.declared.walking.Extent.{Extent}
 use Rattle.edit_steps.specs.declared.walking.Extent.the-variants.{Size, Starved}
@@ -26,21 +26,21 @@ pub record Tabled (s : List ℕ) (b p : ℕ) (table : List ℕ) : Type 0 where
   pub lent : table ≡ lengthTable
 
 -- how many bytes commands give
-unfoldable pub sizes : List Command → ℕ
-sizes [] = 0
-sizes (c ∷ cs) = sizeOf (c .character) + sizes cs
+unfoldable pub commandsSize : List Command → ℕ
+commandsSize [] = 0
+commandsSize (c ∷ cs) = lenUtf8 (c .character) + commandsSize cs
 
 -- a command goes by: the position moves, the bytes are counted; a command that starves says so, and leaves both
-unfoldable pub stepped : List ℕ → ℕ → Progress → Command → Progress
-stepped s b g c =
+unfoldable pub progressAfter : List ℕ → ℕ → Progress → Command → Progress
+progressAfter s b g c =
     cond (starves b (g .position) c) (record { position = g .position; written = g .written; starved = true })
-    (record { position = moved s b (g .position) c; written = g .written + sizeOf (c .character); starved = false })
+    (record { position = moved s b (g .position) c; written = g .written + lenUtf8 (c .character); starved = false })
 
 -- what a step is told: the text, the range's end, how far the edit is, and that the count does not run over
 pub record Counting (s : List ℕ) (b : ℕ) (g : Progress) (c : Command) (table : List ℕ) : Type 0 where
   pub tabled : Tabled s b (g .position) table
-  pub counts : g .written + sizeOf (c .character) < 2 ^ 64
+  pub counts : g .written + lenUtf8 (c .character) < 2 ^ 64
 
 -- a script measured from a position on
 unfoldable pub measured : List ℕ → ℕ → ℕ → List Command → Extent
-measured s b p cs = cond (starved s b p cs) Starved (Size (sizes cs))
+measured s b p cs = cond (starved s b p cs) Starved (Size (commandsSize cs))

@@ -4,8 +4,7 @@ use crate::walking::Progress;
 use crate::walking::advanced;
 use buffers::Offset;
 use buffers::blocks::fill_offsets_over;
-use buffers::copy_bytes;
-use buffers::copy_offsets;
+use buffers::parts::keep;
 use code_points::put_character;
 use note::before_end;
 use script::Command;
@@ -14,38 +13,15 @@ use script::entry_at;
 ghost use mathlib.Core.Path.{_≡_};
 ghost use Prim.Native.Nat.{_+_, _≤_};
 ghost use Rattle.script.specs.Scripts.{commandsOf};
-ghost use Rattle.edit_steps.specs.Edits.{carries};
-ghost use Rattle.edit_steps.specs.Laying.{Below, CommandOver, EditLaid, EditRoom, Kept, KeepRoom, Reached, Room};
+ghost use Rattle.edit_steps.specs.Edits.{carriedValue};
+ghost use Rattle.edit_steps.specs.Laying.{Below, CommandOver, EditLaid, EditRoom, Reached, Room};
 ghost use Rattle.edit_steps.specs.Laying.{CommandsLaid, CommandsRoom};
-ghost use Rattle.edit_steps.specs.Walking.{sizes};
-
-// Bytes that stay, with their alignments, laid into the buffers from `at` on.
-pub fn keep(
-    text: &[u8],
-    starts: &[Offset],
-    ends: &[Offset],
-    from: usize,
-    to: usize,
-    out: &mut [u8],
-    out_starts: &mut [Offset],
-    out_ends: &mut [Offset],
-    at: usize,
-)
-    requires { ⌜ KeepRoom (now text) (now starts) (now ends) from to
-        (now out) (now «out_starts») (now «out_ends») at ⌝ }
-    ensures { λ _. ⌜ Kept (now (text .entry)) (now (starts .entry)) (now (ends .entry)) from to
-        (now (out .entry)) (now («out_starts» .entry)) (now («out_ends» .entry)) at
-        (now (out .exit)) (now («out_starts» .exit)) (now («out_ends» .exit)) ⌝ }
-{
-    copy_bytes(&text[from..to], out, at);
-    copy_offsets(&starts[from..to], out_starts, at);
-    copy_offsets(&ends[from..to], out_ends, at);
-}
+ghost use Rattle.edit_steps.specs.Walking.{commandsSize};
 
 // What a command's character carries of a column.
 fn carries(column: &[Offset], position: usize, command: Command) -> Offset
     requires { ⌜ Reached (now column) position command ⌝ }
-    ensures { λ r. ⌜ r ≡ carries (now (column .entry)) position command ⌝ }
+    ensures { λ r. ⌜ r ≡ carriedValue (now (column .entry)) position command ⌝ }
 {
     if command.added {
         return before_end(column, position);
@@ -100,7 +76,7 @@ fn lay_script(
 ) -> usize
     requires { ⌜ CommandsRoom (now text) (now starts) (now ends) to position (commandsOf (now script)) (now table)
         (now out) (now «out_starts») (now «out_ends») at
-        × (until ≤ at + sizes (commandsOf (now script))) ⌝ }
+        × (until ≤ at + commandsSize (commandsOf (now script))) ⌝ }
     ensures { λ r. ⌜ CommandsLaid (now (text .entry)) (now (starts .entry)) (now (ends .entry)) to position
         (commandsOf (now (script .entry))) (now (out .entry)) (now («out_starts» .entry)) (now («out_ends» .entry)) at
         r (now (out .exit)) (now («out_starts» .exit)) (now («out_ends» .exit)) ⌝ }
@@ -151,7 +127,7 @@ pub fn lay_edit(
 ) -> usize
     requires { ⌜ EditRoom (now text) (now starts) (now ends) from to position (commandsOf (now script)) (now table)
         (now out) (now «out_starts») (now «out_ends»)
-        × (size ≡ sizes (commandsOf (now script))) ⌝ }
+        × (size ≡ commandsSize (commandsOf (now script))) ⌝ }
     ensures { λ r. ⌜ EditLaid (now (text .entry)) (now (starts .entry)) (now (ends .entry)) from to position
         (commandsOf (now (script .entry))) (now (out .entry)) (now («out_starts» .entry)) (now («out_ends» .entry))
         r (now (out .exit)) (now («out_starts» .exit)) (now («out_ends» .exit)) ⌝ }

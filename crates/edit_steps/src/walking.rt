@@ -3,12 +3,12 @@
 use script::Command;
 use script::Entry;
 use script::entry_at;
-use script::size_of;
+use utf8::lead::len_utf8;
 use utf8::lead::char_len;
 ghost use mathlib.Core.Path.{_≡_};
 ghost use Rattle.script.specs.Scripts.{commandsOf};
 ghost use Rattle.edit_steps.specs.Edits.{skipped, starves};
-ghost use Rattle.edit_steps.specs.Walking.{Counting, Tabled, measured, stepped};
+ghost use Rattle.edit_steps.specs.Walking.{Counting, Tabled, measured, progressAfter};
 
 // How far an edit is: the running position in the cleaned text, how many bytes have been written so far, and whether
 // the last command found no character left. It is lent to each command and advanced there.
@@ -54,7 +54,7 @@ pub fn starves(to: usize, position: usize, command: Command) -> bool
 // A command goes by; one that finds no character left leaves position and count as they were.
 fn step(text: &[u8], to: usize, progress: Progress, command: Command, table: &[u8; 256]) -> Progress
     requires { ⌜ Counting (now text) to progress command (now table) ⌝ }
-    ensures { λ r. ⌜ r ≡ stepped (now (text .entry)) to progress command ⌝ }
+    ensures { λ r. ⌜ r ≡ progressAfter (now (text .entry)) to progress command ⌝ }
 {
     let position = progress.position;
     if starves(to, position, command) {
@@ -64,7 +64,7 @@ fn step(text: &[u8], to: usize, progress: Progress, command: Command, table: &[u
             starved: true,
         };
     }
-    let written = progress.written + size_of(command.character);
+    let written = progress.written + len_utf8(command.character);
     if command.added {
         return Progress {
             position,
@@ -82,7 +82,7 @@ fn step(text: &[u8], to: usize, progress: Progress, command: Command, table: &[u
 // The record is lent to a command, which advances it.
 fn advance(progress: &mut Progress, text: &[u8], to: usize, command: Command, table: &[u8; 256])
     requires { ⌜ Counting (now text) to (now progress) command (now table) ⌝ }
-    ensures { λ _. ⌜ now (progress .exit) ≡ stepped (now (text .entry)) to (now (progress .entry)) command ⌝ }
+    ensures { λ _. ⌜ now (progress .exit) ≡ progressAfter (now (text .entry)) to (now (progress .entry)) command ⌝ }
 {
     *progress = step(text, to, *progress, command, table);
 }
@@ -96,7 +96,7 @@ pub fn advanced(
     table: &[u8; 256],
 ) -> Progress
     requires { ⌜ Counting (now text) to progress command (now table) ⌝ }
-    ensures { λ r. ⌜ r ≡ stepped (now (text .entry)) to progress command ⌝ }
+    ensures { λ r. ⌜ r ≡ progressAfter (now (text .entry)) to progress command ⌝ }
 {
     let mut running = progress;
     advance(&mut running, text, to, command, table);

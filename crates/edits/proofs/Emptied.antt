@@ -7,13 +7,14 @@ use lib.ListN.{length, take}
 use lib.Seq.{length-take-le}
 use Rattle.buffers.specs.Splice.{splice}
 use Rattle.note.specs.declared.Refusal.{Refusal}
-use Rattle.note.specs.declared.Refusal.the-variants.{NoRoom}
+use Rattle.note.specs.declared.Refusal.the-variants.{NoRoom, CountMismatch}
 use Rattle.note.specs.declared.Verdict.{Verdict}
 use Rattle.note.specs.declared.Verdict.the-variants.{Accepted, Refused as Rejected}
 use Rattle.note.specs.Refusals.{least, verdict}
 use Rattle.note.specs.Notes.{Note, Sound}
 use Rattle.note.specs.Faults.{noteFaults}
-use Rattle.note.proofs.Verdicts.{refused-then}
+use Rattle.note.specs.Rank.{upTo}
+use Rattle.note.proofs.FirstMet.{refused-then}
 use Rattle.note.proofs.Sound.{length-starts, length-ends}
 use Rattle.note.proofs.Faults.{accepted-sound}
 use Rattle.edit_steps.specs.Edits.{transformed}
@@ -35,7 +36,7 @@ module _ (most : ℕ) (n : Note) (out₀ starts₀ ends₀ : List ℕ) {v : Verd
       Emptied (verdict (clearFaults most n (least (length out₀) (length starts₀) (length ends₀)))) n (transformed n (clearEdit n)) out₀ starts₀ ends₀ r out starts ends
 
   pub note-refuses : {k : Refusal} → v ≡ Rejected k → Result (Refused k) out₀ starts₀ ends₀
-  note-refuses is = clear-refused (refused-then 7 (noteFaults most n) (editFaults most (n .normalized) (clearEdit n) rooms) refl refl noted is)
+  note-refuses is = clear-refused (refused-then (upTo CountMismatch) (noteFaults most n) (editFaults most (n .normalized) (clearEdit n) rooms) refl refl noted is)
 
   module _ (ok : v ≡ Accepted) where
     sound : Sound n

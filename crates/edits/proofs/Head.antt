@@ -25,7 +25,8 @@ use Rattle.convert.specs.Converting.{inOriginal, inNormalized, toNormalized, co
 use Rattle.convert.specs.Leading.{leading, First}
 use Rattle.convert.proofs.Leading.{leading-most, leading-past, converted-by-leading}
 use Rattle.script.specs.declared.Command.{Command}
-use Rattle.edit_steps.specs.Edits.{starved, given, Edit, placed, relaid, edited, transformed, unchanging}
+use Rattle.utf8.specs.Formed.{charRange}
+use Rattle.edit_steps.specs.Edits.{starved, produced, Edit, relaid, edited, transformed, unchanging}
 use Rattle.transform.specs.Transforming.{editOf}
 use Rattle.edits.specs.Whole.{wholeEdit, clearEdit}
 use Rattle.edits.specs.Plain.{Makes, WholePlaced, widthless, headBytes, HeadWhole, cleared, ClearedClosed}
@@ -35,8 +36,8 @@ pub none-of : (xs : List ℕ) → length xs ≡ 0 → xs ≡ []
 none-of [] e = refl
 none-of (x ∷ xs) e = absurd (omega arith)
 
-pub is-placed : (s : List ℕ) (a b : ℕ) → a ≤ b → boundary s a ≡ true → boundary s b ≡ true → placed s a b ≡ true
-unfolding placed
+pub is-placed : (s : List ℕ) (a b : ℕ) → a ≤ b → boundary s a ≡ true → boundary s b ≡ true → charRange s a b ≡ true
+unfolding charRange
 is-placed s a b h p q = rw (le-leb a b h, p, q)
 
 pub widthless-most : (starts ends : List ℕ) → widthless starts ends ≤ length starts
@@ -196,17 +197,17 @@ module _ (n : Note) (sound : Sound n) where
   pub whole-cases : (skip : ℕ) (cs : List Command) (P : Edit → Type 0) → P (record { from = H; to = N; skip = skip; commands = cs }) → (H ≡ N → P (record { from = 0; to = 0; skip = skip; commands = cs })) → (N ≡ 0 → P unchanging) → P (wholeEdit n skip cs)
   whole-cases skip cs P behind start nothing = whole-converted (λ x. P (editOf x skip cs)) behind start nothing
 
-  pub head-placed : placed (n .normalized) H N ≡ true
+  pub head-placed : charRange (n .normalized) H N ≡ true
   head-placed = is-placed (n .normalized) H N head-most head-stands (boundary-length (n .normalized))
 
-  pub zero-placed : placed (n .normalized) 0 0 ≡ true
+  pub zero-placed : charRange (n .normalized) 0 0 ≡ true
   zero-placed =
       let here = boundary-zero (n .normalized) (normalized-formed n sound) in
       is-placed (n .normalized) 0 0 (omega arith) here here
 
 pub whole-placed : WholePlaced
 whole-placed n skip cs sound =
-    whole-cases n sound skip cs (λ e. placed (n .normalized) (e .from) (e .to) ≡ true) (head-placed n sound) (λ _. zero-placed n sound) (λ _. zero-placed n sound)
+    whole-cases n sound skip cs (λ e. charRange (n .normalized) (e .from) (e .to) ≡ true) (head-placed n sound) (λ _. zero-placed n sound) (λ _. zero-placed n sound)
 
 pub head-whole : HeadWhole
 head-whole n sound = head-stands n sound
@@ -228,7 +229,7 @@ module _ (n : Note) (sound : Sound n) where
       rw (all, all-column (n .normalized) refl, all-column (n .starts) (length-starts n sound), all-column (n .ends) (length-ends n sound))
 
   behind-cleared : (skip : ℕ) → Makes n (record { from = headBytes n; to = length (n .normalized); skip = skip; commands = [] }) (cleared n)
-  unfolding cleared transformed edited relaid given starved
+  unfolding cleared transformed edited relaid produced starved
   behind-cleared skip =
       record {
         lies = head-placed n sound;
@@ -237,7 +238,7 @@ module _ (n : Note) (sound : Sound n) where
       }
 
   start-cleared : (skip : ℕ) → headBytes n ≡ length (n .normalized) → Makes n (record { from = 0; to = 0; skip = skip; commands = [] }) (cleared n)
-  unfolding transformed edited relaid given starved
+  unfolding transformed edited relaid produced starved
   start-cleared skip all = record { lies = zero-placed n sound; feeds = refl; leaves = sym (head-is-all all) }
 
   nothing-cleared : length (n .normalized) ≡ 0 → Makes n unchanging (cleared n)

@@ -7,16 +7,17 @@ use mathlib.Core.List.{List}
 use lib.Dec.{leb}
 use lib.ListN.{length}
 use borrow.Author.Tests.{not-true, not-false, leb-true, eq-eqb, ne-eqb}
-use Rattle.utf8.specs.Letters.{letters, leads}
-use Rattle.utf8.proofs.Letters.{letters-leads}
+use Rattle.utf8.specs.Chars.{chars, leads}
+use Rattle.utf8.proofs.Chars.{chars-leads}
 use Rattle.note.specs.declared.Refusal.{Refusal}
-use Rattle.note.specs.declared.Refusal.the-variants.{BadScript, CountMismatch}
+use Rattle.note.specs.declared.Refusal.the-variants.{BadScript, CountMismatch, Misaligned}
 use Rattle.note.specs.declared.Verdict.{Verdict}
 use Rattle.note.specs.declared.Verdict.the-variants.{Accepted, Refused as Rejected}
 use Rattle.note.specs.Refusals.{also, verdict}
 use Rattle.note.specs.Notes.{Note, fits}
 use Rattle.note.specs.Faults.{noteFaults}
-use Rattle.note.proofs.Verdicts.{refused-then, accepted-then}
+use Rattle.note.specs.Rank.{upTo}
+use Rattle.note.proofs.FirstMet.{refused-then, accepted-then}
 use Rattle.note.proofs.Sound.{normalized-formed}
 use Rattle.note.proofs.Faults.{accepted-sound}
 use Rattle.code_point_blocks.specs.Codes.{allScalar}
@@ -38,11 +39,11 @@ module _ (most : ℕ) (n : Note) {v : Verdict} (noted : v ≡ verdict (noteFault
 -- code points
 module _ (most : ℕ) (n : Note) (codes : List ℕ) {v : Verdict} (noted : v ≡ verdict (noteFaults most n)) where
   pub note-first : {k : Refusal} → v ≡ Rejected k → Rejected k ≡ verdict (also (noteFaults most n) (codesFaults (n .normalized) codes))
-  note-first e = refused-then 4 (noteFaults most n) (codesFaults (n .normalized) codes) refl refl noted e
+  note-first e = refused-then (upTo Misaligned) (noteFaults most n) (codesFaults (n .normalized) codes) refl refl noted e
 
   module _ (ok : v ≡ Accepted) {t : Bool} (is : t ≡ allScalar codes) where
     second : {w : Verdict} → w ≡ verdict (codesFaults (n .normalized) codes) → w ≡ verdict (also (noteFaults most n) (codesFaults (n .normalized) codes))
-    second e = accepted-then 4 (noteFaults most n) (codesFaults (n .normalized) codes) refl refl noted ok e
+    second e = accepted-then (upTo Misaligned) (noteFaults most n) (codesFaults (n .normalized) codes) refl refl noted ok e
 
     bad : not t ≡ true → Rejected BadScript ≡ verdict (codesFaults (n .normalized) codes)
     unfolding verdict
@@ -52,16 +53,16 @@ module _ (most : ℕ) (n : Note) (codes : List ℕ) {v : Verdict} (noted : v ≡
     bad-codes u = second (bad u)
 
     module _ (u : not t ≡ false) {m : ℕ} (counted : m ≡ leads (n .normalized)) where
-      number : m ≡ letters (n .normalized)
-      number = counted ∙ sym (letters-leads (n .normalized) (normalized-formed n (accepted-sound most n (sym noted ∙ ok) .0)))
+      number : m ≡ chars (n .normalized)
+      number = counted ∙ sym (chars-leads (n .normalized) (normalized-formed n (accepted-sound most n (sym noted ∙ ok) .0)))
 
       uneven : (length codes ≡ m → ⊥) → Rejected CountMismatch ≡ verdict (codesFaults (n .normalized) codes)
       unfolding verdict
-      uneven h = rw (sym is ∙ not-false t u, ne-eqb (length codes) (letters (n .normalized)) (λ z. h (z ∙ sym number)))
+      uneven h = rw (sym is ∙ not-false t u, ne-eqb (length codes) (chars (n .normalized)) (λ z. h (z ∙ sym number)))
 
       even : length codes ≡ m → Accepted ≡ verdict (codesFaults (n .normalized) codes)
       unfolding verdict
-      even h = rw (sym is ∙ not-false t u, eq-eqb (length codes) (letters (n .normalized)) (h ∙ number))
+      even h = rw (sym is ∙ not-false t u, eq-eqb (length codes) (chars (n .normalized)) (h ∙ number))
 
       pub miscounted : (length codes ≡ m → ⊥) → Rejected CountMismatch ≡ verdict (also (noteFaults most n) (codesFaults (n .normalized) codes))
       miscounted h = second (uneven h)

@@ -8,12 +8,13 @@ use lib.ListN.{length, drop}
 use Rattle.buffers.specs.Splice.{splice}
 use Rattle.buffers.proofs.Splice.{splice-overlay}
 use Rattle.note.specs.declared.Refusal.{Refusal}
-use Rattle.note.specs.declared.Refusal.the-variants.{NoRoom}
+use Rattle.note.specs.declared.Refusal.the-variants.{NoRoom, CountMismatch}
 use Rattle.note.specs.declared.Verdict.{Verdict}
 use Rattle.note.specs.declared.Verdict.the-variants.{Accepted, Refused as Rejected}
 use Rattle.note.specs.Refusals.{order, also, verdict}
 use Rattle.note.specs.Notes.{Note}
-use Rattle.note.proofs.Verdicts.{unmet, accepted-then}
+use Rattle.note.specs.Rank.{upTo}
+use Rattle.note.proofs.FirstMet.{unmet, accepted-then}
 use Rattle.edit_steps.specs.Edits.{characters, Edit, edited, transformed}
 use Rattle.transform.specs.Transforming.{editFaults}
 use Rattle.transform.proofs.Verdicts.{too-large, small-enough}
@@ -21,12 +22,12 @@ use Rattle.edits.specs.declared.Clearing.the-variants.{Cleared, Refused}
 use Rattle.edits.specs.Whole.{Emptied}
 use Rattle.edits.specs.Plain.{Makes}
 
-module _ (most : ℕ) (n : Note) (inputs : Refusal → Bool) (low : unmet (drop 7 order) inputs ≡ true) {v : Verdict} (judged : v ≡ verdict inputs) (ok : v ≡ Accepted) (e : Edit) (room : ℕ) where
+module _ (most : ℕ) (n : Note) (inputs : Refusal → Bool) (low : unmet (drop (upTo CountMismatch) order) inputs ≡ true) {v : Verdict} (judged : v ≡ verdict inputs) (ok : v ≡ Accepted) (e : Edit) (room : ℕ) where
   abbrev rest : Refusal → Bool
   rest = editFaults most (n .normalized) e room
 
   last : {w : Verdict} → w ≡ verdict rest → w ≡ verdict (also inputs rest)
-  last is = accepted-then 7 inputs rest low refl judged ok is
+  last is = accepted-then (upTo CountMismatch) inputs rest low refl judged ok is
 
   module _ {made : Note} (m : Makes n e made) where
     size : length (edited characters (n .normalized) e (n .normalized)) ≡ length (made .normalized)

@@ -11,8 +11,8 @@ use Rattle.buffers.specs.Splice.{overlay}
 use Rattle.buffers.specs.Over.{Over}
 use Rattle.buffers.proofs.Cases.{true-or-false}
 use Rattle.buffers.proofs.Splice.{splice-overlay}
-use Rattle.utf8.specs.Letters.{letters, leads}
-use Rattle.utf8.proofs.Letters.{letters-leads}
+use Rattle.utf8.specs.Chars.{chars, leads}
+use Rattle.utf8.proofs.Chars.{chars-leads}
 use Rattle.note.specs.declared.Refusal.the-variants.{Exhausted, NoRoom}
 use Rattle.note.specs.declared.Verdict.{Verdict}
 use Rattle.note.specs.declared.Verdict.the-variants.{Accepted}
@@ -25,18 +25,18 @@ use Rattle.code_point_blocks.specs.Codes.{textOf}
 use Rattle.code_points.specs.declared.Judged.{Judged}
 use Rattle.code_points.specs.Laying.{JudgedAs}
 use Rattle.code_point_blocks.proofs.Parts.{over-splice}
-use Rattle.letter_columns.specs.declared.Reached.{Reached}
-use Rattle.letter_columns.specs.Spreading.{ofLetters, spread}
-use Rattle.letter_columns.specs.Laying.{ColumnRoom, CodesRoom, CodesLaid}
-use Rattle.letter_columns.proofs.Letters.{length-letters}
-use Rattle.letter_columns.proofs.Spread.{spread-all}
+use Rattle.map_columns.specs.declared.Reached.{Reached}
+use Rattle.map_columns.specs.Spreading.{ofChars, spread}
+use Rattle.map_columns.specs.Laying.{SpreadRoom, CodesRoom, CodesLaid}
+use Rattle.map_columns.proofs.Chars.{length-chars}
+use Rattle.map_columns.proofs.Spread.{spread-all}
 use Rattle.edit_steps.specs.Edits.{characters, edited, transformed}
 use Rattle.transform.specs.declared.Editing.{Editing}
 use Rattle.transform.specs.declared.Editing.the-variants.{Edited, Refused as Refusing}
 use Rattle.transform.specs.Transforming.{Rewritten}
 use Rattle.transform.proofs.Verdicts.{inputs-accepted, starving, too-large, small-enough, refused-rewritten, accepted-rewritten}
 use Rattle.edits.specs.Whole.{codesFaults, mapEdit, mapFaults}
-use Rattle.edits.specs.Plain.{MakesUnless, widthless, headLetters, mapped}
+use Rattle.edits.specs.Plain.{MakesUnless, widthless, headChars, mapped}
 use Rattle.edits.proofs.Inputs.{well-counted}
 use Rattle.edits.proofs.Sifted.{head-told, mapped-closed}
 
@@ -62,17 +62,17 @@ module _ (most : ℕ) (n : Note) (codes out₀ starts₀ ends₀ : List ℕ) {v 
   sound : Sound n
   sound = accepted-sound most n (sym noted ∙ ok) .0
 
-  coded : length codes ≡ letters (n .normalized)
-  coded = each ∙ counted ∙ sym (letters-leads (n .normalized) (normalized-formed n sound))
+  coded : length codes ≡ chars (n .normalized)
+  coded = each ∙ counted ∙ sym (chars-leads (n .normalized) (normalized-formed n sound))
 
   inputs : Accepted ≡ verdict (also (noteFaults most n) (codesFaults (n .normalized) codes))
   inputs = well-counted most n codes noted ok (judged .scalar-is) scalars counted each
 
-  makes : MakesUnless n (mapEdit n codes) (ltb 0 (headLetters n)) (mapped n codes)
+  makes : MakesUnless n (mapEdit n codes) (ltb 0 (headChars n)) (mapped n codes)
   makes = mapped-closed n codes sound coded
 
   module _ {t : Bool} (head : t ≡ ltb 0 (widthless (n .starts) (n .ends))) where
-    told : t ≡ ltb 0 (headLetters n)
+    told : t ≡ ltb 0 (headChars n)
     told = head ∙ sym (head-told n sound codes coded)
 
     pub head-refused : t ≡ true → Mapped (Refusing Exhausted) out₀ starts₀ ends₀
@@ -81,7 +81,7 @@ module _ (most : ℕ) (n : Note) (codes out₀ starts₀ ends₀ : List ℕ) {v 
         (refused-rewritten (starving most (n .normalized) (mapEdit n codes) (least (length out₀) (length starts₀) (length ends₀)) (makes .lies) (makes .exhausts ∙ sym told ∙ e)))
 
     module _ (none : t ≡ false) {low room : ℕ} (lowest : low ≡ least (length out₀) (length starts₀) (length ends₀)) (r : room ≡ min most low) where
-      headless : ltb 0 (headLetters n) ≡ false
+      headless : ltb 0 (headChars n) ≡ false
       headless = sym told ∙ none
 
       size : length (edited characters (n .normalized) (mapEdit n codes) (n .normalized)) ≡ j .size
@@ -94,13 +94,13 @@ module _ (most : ℕ) (n : Note) (codes out₀ starts₀ ends₀ : List ℕ) {v 
           (refused-rewritten (too-large most (n .normalized) (mapEdit n codes) (least (length out₀) (length starts₀) (length ends₀)) (makes .lies) (makes .exhausts ∙ headless) (omega (arith, size, lowest, r))))
 
       module _ (h : j .size ≤ room) where
-        column-room : (xs d : List ℕ) → length xs ≡ length (n .normalized) → room ≤ length d → ColumnRoom (n .normalized) xs codes d 0 (j .size)
+        column-room : (xs d : List ℕ) → length xs ≡ length (n .normalized) → room ≤ length d → SpreadRoom (n .normalized) xs codes d 0 (j .size)
         column-room xs d one long = record { one-each = one; room = omega (arith, judged .size-is); bounded = omega arith }
 
         pub map-room : CodesRoom (n .normalized) (n .starts) (n .ends) 0 codes out₀ starts₀ ends₀ 0 (j .size)
         map-room =
             record {
-              letters-room =
+              chars-room =
                   record {
                     inside = omega arith;
                     enough = omega (arith, each, counted);
@@ -114,10 +114,10 @@ module _ (most : ℕ) (n : Note) (codes out₀ starts₀ ends₀ : List ℕ) {v 
               bounded = omega (arith, lowest, r);
             }
 
-        column-made : (xs d₀ d : List ℕ) → length xs ≡ length (n .normalized) → Over (spread codes (ofLetters (n .normalized) xs)) d₀ 0 (j .size) d → d ≡ overlay (spread codes (ofLetters (n .normalized) xs)) d₀
+        column-made : (xs d₀ d : List ℕ) → length xs ≡ length (n .normalized) → Over (spread codes (ofChars (n .normalized) xs)) d₀ 0 (j .size) d → d ≡ overlay (spread codes (ofChars (n .normalized) xs)) d₀
         column-made xs d₀ d one o =
-            let long : length (spread codes (ofLetters (n .normalized) xs)) ≡ length (textOf codes) = spread-all codes (ofLetters (n .normalized) xs) (omega (arith, length-letters (n .normalized) xs one, each, counted)) in
-            over-splice o (omega (arith, judged .size-is, long)) ∙ splice-overlay d₀ (spread codes (ofLetters (n .normalized) xs))
+            let long : length (spread codes (ofChars (n .normalized) xs)) ≡ length (textOf codes) = spread-all codes (ofChars (n .normalized) xs) (omega (arith, length-chars (n .normalized) xs one, each, counted)) in
+            over-splice o (omega (arith, judged .size-is, long)) ∙ splice-overlay d₀ (spread codes (ofChars (n .normalized) xs))
 
         pub map-made : {l : Reached} {out starts ends : List ℕ} → CodesLaid (n .normalized) (n .starts) (n .ends) 0 codes out₀ starts₀ ends₀ 0 (j .size) l out starts ends → Mapped (Edited (l .written)) out starts ends
         unfolding transformed mapped
@@ -126,5 +126,5 @@ module _ (most : ℕ) (n : Note) (codes out₀ starts₀ ends₀ : List ℕ) {v 
             (accepted-rewritten (small-enough most (n .normalized) (mapEdit n codes) (least (length out₀) (length starts₀) (length ends₀)) (makes .lies) (makes .exhausts ∙ headless) (omega (arith, size, lowest, r)))
             (omega (arith, l .written-is, size, judged .size-is))
             (over-splice (l .text-over) (omega (arith, judged .size-is)) ∙ splice-overlay out₀ (textOf codes) ∙ ap (λ (x : Note). overlay (x .normalized) out₀) (sym (makes .leaves headless)))
-            (column-made (n .starts) starts₀ starts (length-starts n sound) (l .letters-laid .starts-over) ∙ ap (λ (x : Note). overlay (x .starts) starts₀) (sym (makes .leaves headless)))
-            (column-made (n .ends) ends₀ ends (length-ends n sound) (l .letters-laid .ends-over) ∙ ap (λ (x : Note). overlay (x .ends) ends₀) (sym (makes .leaves headless))))
+            (column-made (n .starts) starts₀ starts (length-starts n sound) (l .chars-laid .starts-over) ∙ ap (λ (x : Note). overlay (x .starts) starts₀) (sym (makes .leaves headless)))
+            (column-made (n .ends) ends₀ ends (length-ends n sound) (l .chars-laid .ends-over) ∙ ap (λ (x : Note). overlay (x .ends) ends₀) (sym (makes .leaves headless))))

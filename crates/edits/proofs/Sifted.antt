@@ -13,23 +13,23 @@ use Rattle.buffers.proofs.Cases.{le-or-lt, true-or-false, clash}
 use Rattle.buffers.proofs.Splice.{length-part}
 use Rattle.utf8.specs.Formed.{announced, wellFormed, boundary}
 use Rattle.utf8.specs.Scalar.{bytesOf}
-use Rattle.utf8.specs.Letters.{lettersFrom, letters, leads}
+use Rattle.utf8.specs.Chars.{charsFrom, chars, leads}
 use Rattle.utf8.proofs.Boundaries.{char-at, boundary-zero, boundary-length, formed-take}
-use Rattle.utf8.proofs.Letters.{letters-leads, leads-append, leads-le-length}
+use Rattle.utf8.proofs.Chars.{chars-leads, leads-append, leads-le-length}
 use Rattle.note.specs.Notes.{Note, Sound}
 use Rattle.note.proofs.Sound.{length-starts, length-ends, normalized-formed}
 use Rattle.script.specs.declared.Command.{Command}
-use Rattle.script.specs.Scripts.{sizeOf}
-use Rattle.edit_steps.specs.Edits.{skipped, starves, moved, starved, carries, characters, carried, given, begins, relaid, edited, transformed, unchanging}
+use Rattle.utf8.specs.Scalar.{lenUtf8}
+use Rattle.edit_steps.specs.Edits.{skipped, starves, moved, starved, carriedValue, characters, carriedValues, produced, firstPosition, relaid, edited, transformed, unchanging}
 use Rattle.edit_steps.specs.Walking.{Standing}
 use Rattle.edit_steps.proofs.Positions.{standing-next, skipped-none, skipped-past, skipped-on, starves-replacing, moved-replacing}
 use Rattle.edits.specs.Characters.{codeAt, codesFrom, codesOf}
 use Rattle.code_point_blocks.specs.Codes.{textOf}
-use Rattle.letter_columns.specs.Spreading.{ofLetters, spread}
-use Rattle.letter_columns.proofs.Letters.{letters-drop, length-letters, letter-at, leads-at}
-use Rattle.letter_columns.proofs.Spread.{spread-on}
+use Rattle.map_columns.specs.Spreading.{ofChars, spread}
+use Rattle.map_columns.proofs.Chars.{chars-drop, length-chars, of-chars-at, leads-at}
+use Rattle.map_columns.proofs.Spread.{spread-on}
 use Rattle.edits.specs.Whole.{replacing, allReplacing, wholeEdit, mapEdit, droppedAhead, anyKept, keptCommands, filterEdit}
-use Rattle.edits.specs.Plain.{MakesUnless, headBytes, headLetters, mapped, MappedClosed, sifted, cleared, sieved, tailKept, FilteredClosed}
+use Rattle.edits.specs.Plain.{MakesUnless, headBytes, headChars, mapped, MappedClosed, sifted, cleared, sieved, tailKept, FilteredClosed}
 use Rattle.edits.proofs.Characters.{code-bytes}
 use Rattle.edits.proofs.Head.{none-of, head-is-all, head-most, head-stands, head-placed, zero-placed, whole-cases}
 
@@ -50,8 +50,8 @@ unfolding keptCommands
 keeps-command c k cs ks e = rw e
 
 -- what they give to the text, wherever they stand
-pub given-sifted : (s : List ℕ) (b p : ℕ) (cs ks : List ℕ) → given characters s b p (keptCommands cs ks) ≡ textOf (sifted ks cs)
-unfolding keptCommands given sifted textOf
+pub given-sifted : (s : List ℕ) (b p : ℕ) (cs ks : List ℕ) → produced characters s b p (keptCommands cs ks) ≡ textOf (sifted ks cs)
+unfolding keptCommands produced sifted textOf
 given-sifted s b p [] [] = refl
 given-sifted s b p [] (k ∷ ks) = refl
 given-sifted s b p (c ∷ cs) [] = refl
@@ -148,20 +148,20 @@ module _ (s : List ℕ) where
       (λ keeps. rw (keeps-command c k cs ks keeps, next-kept k ks p keeps) (starved-cons p (replacing (droppedAhead ks) c) (keptCommands cs ks) refl more ∙ rw (after-kept c ks p, one-on p more) rest))))
 
   module _ (xs : List ℕ) (long : length xs ≡ length s) where
-    given-cons : (p c r : ℕ) (cs : List Command) → given (carried xs) s end p (replacing r c ∷ cs) ≡ replicate (sizeOf c) (getD xs p 0) ++ given (carried xs) s end (moved s end p (replacing r c)) cs
-    unfolding given carries
+    given-cons : (p c r : ℕ) (cs : List Command) → produced (carriedValues xs) s end p (replacing r c ∷ cs) ≡ replicate (lenUtf8 c) (getD xs p 0) ++ produced (carriedValues xs) s end (moved s end p (replacing r c)) cs
+    unfolding produced carriedValue
     given-cons p c r cs = refl
 
-    nothing : (p : ℕ) (ys : List ℕ) → given (carried xs) s end p [] ≡ spread [] ys
-    unfolding given spread
+    nothing : (p : ℕ) (ys : List ℕ) → produced (carriedValues xs) s end p [] ≡ spread [] ys
+    unfolding produced spread
     nothing p ys = refl
 
-    no-given : (p : ℕ) → given (carried xs) s end (next [] p) (keptCommands [] []) ≡ spread (sifted [] []) (sifted [] (ofLetters (drop p s) (drop p xs)))
-    unfolding given spread sifted keptCommands
+    no-given : (p : ℕ) → produced (carriedValues xs) s end (next [] p) (keptCommands [] []) ≡ spread (sifted [] []) (sifted [] (ofChars (drop p s) (drop p xs)))
+    unfolding produced spread sifted keptCommands
     no-given p = refl
 
-    -- and none does: each carries what the column has for its character
-    pub column-sifted : (cs ks : List ℕ) (p : ℕ) → Standing s end p → length cs ≡ length ks → anyKept (drop (leads (drop p s)) ks) ≡ false → given (carried xs) s end (next ks p) (keptCommands cs ks) ≡ spread (sifted ks cs) (sifted ks (ofLetters (drop p s) (drop p xs)))
+    -- and none does: each carriedValue what the column has for its character
+    pub column-sifted : (cs ks : List ℕ) (p : ℕ) → Standing s end p → length cs ≡ length ks → anyKept (drop (leads (drop p s)) ks) ≡ false → produced (carriedValues xs) s end (next ks p) (keptCommands cs ks) ≡ spread (sifted ks cs) (sifted ks (ofChars (drop p s) (drop p xs)))
     column-sifted [] [] p at same fed = no-given p
     column-sifted [] (k ∷ ks) p at same fed = absurd (omega arith)
     column-sifted (c ∷ cs) [] p at same fed = absurd (omega arith)
@@ -169,34 +169,34 @@ module _ (s : List ℕ) where
         le-or-lt end p
         (λ past.
         let none : anyKept (k ∷ ks) ≡ false = rw (no-leads p past) at fed in
-        rw (none-sifted (k ∷ ks) (c ∷ cs) none, none-commands (c ∷ cs) (k ∷ ks) none) (nothing (next (k ∷ ks) p) (sifted (k ∷ ks) (ofLetters (drop p s) (drop p xs)))))
+        rw (none-sifted (k ∷ ks) (c ∷ cs) none, none-commands (c ∷ cs) (k ∷ ks) none) (nothing (next (k ∷ ks) p) (sifted (k ∷ ks) (ofChars (drop p s) (drop p xs)))))
         (λ more.
         let q : ℕ = p + announced (getD s p 0) in
-        let rest : given (carried xs) s end (next ks q) (keptCommands cs ks) ≡ spread (sifted ks cs) (sifted ks (ofLetters (drop q s) (drop q xs))) = column-sifted cs ks q (standing-next at more) (omega arith) (rw (leads-at s s refl p (at .formed) (at .stands) more) at fed) in
-        rw (letter-at s xs long p (at .formed) (at .stands) more)
+        let rest : produced (carriedValues xs) s end (next ks q) (keptCommands cs ks) ≡ spread (sifted ks cs) (sifted ks (ofChars (drop q s) (drop q xs))) = column-sifted cs ks q (standing-next at more) (omega arith) (rw (leads-at s s refl p (at .formed) (at .stands) more) at fed) in
+        rw (of-chars-at s xs long p (at .formed) (at .stands) more)
         (true-or-false (eqb k 0)
-        (λ drops. rw (drops-command c k cs ks drops, next-dropped k ks p drops, one-on p more, sifts-out k c cs ks drops, sifts-out k (getD xs p 0) (ofLetters (drop q s) (drop q xs)) ks drops) rest)
-        (λ keeps. rw (keeps-command c k cs ks keeps, next-kept k ks p keeps, sifts-in k c cs ks keeps, sifts-in k (getD xs p 0) (ofLetters (drop q s) (drop q xs)) ks keeps, given-cons p c (droppedAhead ks) (keptCommands cs ks), after-kept c ks p, one-on p more) (spread-on c (getD xs p 0) (sifted ks cs) (sifted ks (ofLetters (drop q s) (drop q xs))) rest))))
+        (λ drops. rw (drops-command c k cs ks drops, next-dropped k ks p drops, one-on p more, sifts-out k c cs ks drops, sifts-out k (getD xs p 0) (ofChars (drop q s) (drop q xs)) ks drops) rest)
+        (λ keeps. rw (keeps-command c k cs ks keeps, next-kept k ks p keeps, sifts-in k c cs ks keeps, sifts-in k (getD xs p 0) (ofChars (drop q s) (drop q xs)) ks keeps, given-cons p c (droppedAhead ks) (keptCommands cs ks), after-kept c ks p, one-on p more) (spread-on c (getD xs p 0) (sifted ks cs) (sifted ks (ofChars (drop q s) (drop q xs))) rest))))
 
 -- THE WHOLE TRANSCRIPT, by code points and flags, one for each character
-module _ (n : Note) (sound : Sound n) (codes flags : List ℕ) (coded : length codes ≡ length flags) (flagged : length flags ≡ letters (n .normalized)) where
+module _ (n : Note) (sound : Sound n) (codes flags : List ℕ) (coded : length codes ≡ length flags) (flagged : length flags ≡ chars (n .normalized)) where
   abbrev skips : ℕ
   skips = cond (anyKept flags) (droppedAhead flags) 0
 
-  head-leads : headLetters n ≡ leads (take (headBytes n) (n .normalized))
-  unfolding headLetters
-  head-leads = letters-leads _ (formed-take (n .normalized) (headBytes n) (normalized-formed n sound) (head-stands n sound))
+  head-leads : headChars n ≡ leads (take (headBytes n) (n .normalized))
+  unfolding headChars
+  head-leads = chars-leads _ (formed-take (n .normalized) (headBytes n) (normalized-formed n sound) (head-stands n sound))
 
-  split-letters : letters (n .normalized) ≡ headLetters n + leads (drop (headBytes n) (n .normalized))
-  split-letters =
-      letters-leads (n .normalized) (normalized-formed n sound) ∙ ap leads (sym (take-append-drop (headBytes n) (n .normalized)))
+  split-chars : chars (n .normalized) ≡ headChars n + leads (drop (headBytes n) (n .normalized))
+  split-chars =
+      chars-leads (n .normalized) (normalized-formed n sound) ∙ ap leads (sym (take-append-drop (headBytes n) (n .normalized)))
       ∙ leads-append (take (headBytes n) (n .normalized)) (drop (headBytes n) (n .normalized))
       ∙ ap (λ (k : ℕ). k + leads (drop (headBytes n) (n .normalized))) (sym head-leads)
 
   tail-is : tailKept n flags ≡ anyKept (drop (leads (drop (headBytes n) (n .normalized))) flags)
   unfolding tailKept
   tail-is =
-      let left : letters (n .normalized) - headLetters n ≡ leads (drop (headBytes n) (n .normalized)) = omega (arith, split-letters) in
+      let left : chars (n .normalized) - headChars n ≡ leads (drop (headBytes n) (n .normalized)) = omega (arith, split-chars) in
       rw left
 
   head-standing : Standing (n .normalized) (length (n .normalized)) (headBytes n)
@@ -216,8 +216,8 @@ module _ (n : Note) (sound : Sound n) (codes flags : List ℕ) (coded : length c
   unfolding starved
   begun-starved = true-or-false (anyKept flags) (λ t. rw t) (λ u. rw (none-commands codes flags u))
 
-  begun-given : (piece : ℕ → Command → List ℕ) → given piece (n .normalized) (length (n .normalized)) (begun (length (n .normalized))) (keptCommands codes flags) ≡ given piece (n .normalized) (length (n .normalized)) (next (n .normalized) flags (headBytes n)) (keptCommands codes flags)
-  unfolding given
+  begun-given : (piece : ℕ → Command → List ℕ) → produced piece (n .normalized) (length (n .normalized)) (begun (length (n .normalized))) (keptCommands codes flags) ≡ produced piece (n .normalized) (length (n .normalized)) (next (n .normalized) flags (headBytes n)) (keptCommands codes flags)
+  unfolding produced
   begun-given piece = true-or-false (anyKept flags) (λ t. rw t) (λ u. rw (none-commands codes flags u))
 
   -- nothing kept: the head alone
@@ -226,20 +226,20 @@ module _ (n : Note) (sound : Sound n) (codes flags : List ℕ) (coded : length c
   sieved-none none =
       rw (none, append-nil (take (headBytes n) (n .normalized)), append-nil (take (headBytes n) (n .starts)), append-nil (take (headBytes n) (n .ends)))
 
-  column : (xs : List ℕ) → length xs ≡ length (n .normalized) → tailKept n flags ≡ false → take (headBytes n) xs ++ (given (carried xs) (n .normalized) (length (n .normalized)) (begun (length (n .normalized))) (keptCommands codes flags) ++ drop (length (n .normalized)) xs) ≡ take (headBytes n) xs ++ spread (sifted flags codes) (sifted flags (drop (headLetters n) (ofLetters (n .normalized) xs)))
+  column : (xs : List ℕ) → length xs ≡ length (n .normalized) → tailKept n flags ≡ false → take (headBytes n) xs ++ (produced (carriedValues xs) (n .normalized) (length (n .normalized)) (begun (length (n .normalized))) (keptCommands codes flags) ++ drop (length (n .normalized)) xs) ≡ take (headBytes n) xs ++ spread (sifted flags codes) (sifted flags (drop (headChars n) (ofChars (n .normalized) xs)))
   column xs long fed =
       let past : length xs ≤ length (n .normalized) = omega arith in
       rw (
         drop-of-length-le xs past,
-        begun-given (carried xs),
+        begun-given (carriedValues xs),
         column-sifted (n .normalized) xs long codes flags (headBytes n) head-standing coded (sym tail-is ∙ fed),
-        append-nil (spread (sifted flags codes) (sifted flags (ofLetters (drop (headBytes n) (n .normalized)) (drop (headBytes n) xs)))),
-        letters-drop (headBytes n) (n .normalized) xs long,
+        append-nil (spread (sifted flags codes) (sifted flags (ofChars (drop (headBytes n) (n .normalized)) (drop (headBytes n) xs)))),
+        chars-drop (headBytes n) (n .normalized) xs long,
         ← head-leads,
       )
 
   behind-sieved : MakesUnless n (record { from = headBytes n; to = length (n .normalized); skip = skips; commands = keptCommands codes flags }) (tailKept n flags) (sieved n codes flags)
-  unfolding transformed edited relaid begins sieved
+  unfolding transformed edited relaid firstPosition sieved
   behind-sieved =
       let past : length (n .normalized) ≤ length (n .normalized) = omega arith in
       record {
@@ -256,11 +256,11 @@ module _ (n : Note) (sound : Sound n) (codes flags : List ℕ) (coded : length c
       }
 
   no-edit : (skip : ℕ) → transformed n (record { from = 0; to = 0; skip = skip; commands = [] }) ≡ n
-  unfolding transformed edited relaid given
+  unfolding transformed edited relaid produced
   no-edit skip = refl
 
   start-sieved : headBytes n ≡ length (n .normalized) → MakesUnless n (record { from = 0; to = 0; skip = skips; commands = keptCommands codes flags }) (tailKept n flags) (sieved n codes flags)
-  unfolding begins
+  unfolding firstPosition
   start-sieved all =
       let far : length (n .normalized) ≤ headBytes n = omega arith in
       let is : tailKept n flags ≡ anyKept flags = tail-is ∙ rw (no-leads (n .normalized) (headBytes n) far) in
@@ -275,7 +275,7 @@ module _ (n : Note) (sound : Sound n) (codes flags : List ℕ) (coded : length c
   nothing-sieved : length (n .normalized) ≡ 0 → MakesUnless n unchanging (tailKept n flags) (sieved n codes flags)
   unfolding starved anyKept
   nothing-sieved none =
-      let empty : flags ≡ [] = none-of flags (flagged ∙ omega (arith, letters-leads (n .normalized) (normalized-formed n sound), leads-le-length (n .normalized))) in
+      let empty : flags ≡ [] = none-of flags (flagged ∙ omega (arith, chars-leads (n .normalized) (normalized-formed n sound), leads-le-length (n .normalized))) in
       let past : length flags ≤ leads (drop (headBytes n) (n .normalized)) = rw empty (omega arith) in
       let unkept : anyKept flags ≡ false = rw empty in
       record {
@@ -291,26 +291,26 @@ module _ (n : Note) (sound : Sound n) (codes flags : List ℕ) (coded : length c
 
 -- FILTER
 -- a code point's width
-pub code-size : (s : List ℕ) (q : ℕ) → wellFormed s ≡ true → boundary s q ≡ true → q < length s → sizeOf (codeAt s q) ≡ announced (getD s q 0)
-unfolding sizeOf
+pub code-size : (s : List ℕ) (q : ℕ) → wellFormed s ≡ true → boundary s q ≡ true → q < length s → lenUtf8 (codeAt s q) ≡ announced (getD s q 0)
+unfolding lenUtf8
 code-size s q w e h =
     let here = char-at s q w e h in
     ap length (code-bytes s q w e h) ∙ (length-part s q (q + announced (getD s q 0)) (here .inside) ∙ omega arith)
 
-length-codes : (k : ℕ) (s : List ℕ) → length (codesFrom k s) ≡ lettersFrom k s
-unfolding codesFrom lettersFrom
+length-codes : (k : ℕ) (s : List ℕ) → length (codesFrom k s) ≡ charsFrom k s
+unfolding codesFrom charsFrom
 length-codes k [] = refl
 length-codes zero (b ∷ s) = ap suc (length-codes (announced b - 1) s)
 length-codes (suc k) (b ∷ s) = length-codes k s
 
-pub codes-letters : (s : List ℕ) → length (codesOf s) ≡ letters s
-unfolding codesOf letters
-codes-letters s = length-codes 0 s
+pub codes-chars : (s : List ℕ) → length (codesOf s) ≡ chars s
+unfolding codesOf chars
+codes-chars s = length-codes 0 s
 
 pub filtered-closed : FilteredClosed
 unfolding filterEdit
 filtered-closed n flags sound flagged =
-    sieved-closed n sound (codesOf (n .normalized)) flags (codes-letters (n .normalized) ∙ sym flagged) flagged
+    sieved-closed n sound (codesOf (n .normalized)) flags (codes-chars (n .normalized) ∙ sym flagged) flagged
 
 -- MAP: each flag keeps
 abbrev ones : ℕ → List ℕ
@@ -342,7 +342,7 @@ all-sifted zero xs h = sym (none-of xs (omega arith))
 all-sifted (suc m) [] h = refl
 all-sifted (suc m) (x ∷ xs) h = ap (_∷_ x) (all-sifted m xs (omega arith))
 
-module _ (n : Note) (sound : Sound n) (codes : List ℕ) (coded : length codes ≡ letters (n .normalized)) where
+module _ (n : Note) (sound : Sound n) (codes : List ℕ) (coded : length codes ≡ chars (n .normalized)) where
   abbrev flags : List ℕ
   flags = ones (length codes)
 
@@ -358,42 +358,42 @@ module _ (n : Note) (sound : Sound n) (codes : List ℕ) (coded : length codes �
       let none : _≡_ {A = ℕ} (cond (anyKept flags) 0 0) 0 = true-or-false (anyKept flags) (λ t. rw t) (λ u. rw u) in
       rw (none-dropped (length codes), none, all-commands codes)
 
-  same-tail : tailKept n flags ≡ ltb 0 (headLetters n)
+  same-tail : tailKept n flags ≡ ltb 0 (headChars n)
   unfolding tailKept
   same-tail =
-      let left : length codes - (letters (n .normalized) - headLetters n) ≡ headLetters n = omega (arith, split-letters n sound codes flags one-each (sym one-each ∙ coded)) in
-      rw (drop-ones (letters (n .normalized) - headLetters n) (length codes), left) (any-ones (headLetters n))
+      let left : length codes - (chars (n .normalized) - headChars n) ≡ headChars n = omega (arith, split-chars n sound codes flags one-each (sym one-each ∙ coded)) in
+      rw (drop-ones (chars (n .normalized) - headChars n) (length codes), left) (any-ones (headChars n))
 
-  no-head : ltb 0 (headLetters n) ≡ false → (headLetters n ≡ 0) × (headBytes n ≡ 0)
+  no-head : ltb 0 (headChars n) ≡ false → (headChars n ≡ 0) × (headBytes n ≡ 0)
   no-head none =
-      let letterless : headLetters n ≡ 0 = omega (arith, ltb-false 0 (headLetters n) none) in (
-        letterless,
+      let charless : headChars n ≡ 0 = omega (arith, ltb-false 0 (headChars n) none) in (
+        charless,
         le-or-lt (headBytes n) 0
             (λ is. omega arith)
             (λ some.
             let formed = formed-take (n .normalized) (headBytes n) (normalized-formed n sound) (head-stands n sound) in
             let long : length (take (headBytes n) (n .normalized)) ≡ headBytes n = length-take-le (headBytes n) (n .normalized) (head-most n sound) in
             let first = leads-at (take (headBytes n) (n .normalized)) (take (headBytes n) (n .normalized)) refl 0 formed (boundary-zero _ formed) (omega arith) in
-            absurd (omega (arith, first, letterless, head-leads n sound codes flags one-each (sym one-each ∙ coded)))),
+            absurd (omega (arith, first, charless, head-leads n sound codes flags one-each (sym one-each ∙ coded)))),
       )
 
   -- a head that has bytes has letters
-  pub head-told : ltb 0 (headLetters n) ≡ ltb 0 (headBytes n)
-  unfolding headLetters lettersFrom letters
+  pub head-told : ltb 0 (headChars n) ≡ ltb 0 (headBytes n)
+  unfolding headChars charsFrom chars
   head-told =
-      true-or-false (ltb 0 (headLetters n))
+      true-or-false (ltb 0 (headChars n))
       (λ t.
       t ∙ sym (lt-ltb 0 (headBytes n)
       (le-or-lt (headBytes n) 0
-      (λ none. let zero : headBytes n ≡ 0 = omega arith in let z : ltb 0 (headLetters n) ≡ false = rw zero in clash (ltb 0 (headLetters n)) t z)
+      (λ none. let zero : headBytes n ≡ 0 = omega arith in let z : ltb 0 (headChars n) ≡ false = rw zero in clash (ltb 0 (headChars n)) t z)
       (λ some. some))))
       (λ u. u ∙ sym (le-ltb 0 (headBytes n) (omega (arith, no-head u .1))))
 
-  column-mapped : (xs : List ℕ) → length xs ≡ length (n .normalized) → sifted flags (ofLetters (n .normalized) xs) ≡ ofLetters (n .normalized) xs
+  column-mapped : (xs : List ℕ) → length xs ≡ length (n .normalized) → sifted flags (ofChars (n .normalized) xs) ≡ ofChars (n .normalized) xs
   column-mapped xs long =
-      all-sifted (length codes) (ofLetters (n .normalized) xs) (omega (arith, length-letters (n .normalized) xs long, letters-leads (n .normalized) (normalized-formed n sound)))
+      all-sifted (length codes) (ofChars (n .normalized) xs) (omega (arith, length-chars (n .normalized) xs long, chars-leads (n .normalized) (normalized-formed n sound)))
 
-  same-note : ltb 0 (headLetters n) ≡ false → sieved n codes flags ≡ mapped n codes
+  same-note : ltb 0 (headChars n) ≡ false → sieved n codes flags ≡ mapped n codes
   unfolding sieved mapped
   same-note none =
       let zero = no-head none in

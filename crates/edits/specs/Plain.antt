@@ -6,32 +6,33 @@ use mathlib.Core.List.{List, [], _∷_, _++_}
 use lib.Dec.{ltb, eqb}
 use lib.ListN.{length, take, drop}
 use Rattle.utf8.specs.Formed.{boundary}
-use Rattle.utf8.specs.Letters.{letters}
+use Rattle.utf8.specs.Chars.{chars}
 use Rattle.note.specs.Notes.{Note, lent, Sound}
 use Rattle.script.specs.declared.Command.{Command}
 use Rattle.code_point_blocks.specs.Codes.{textOf}
-use Rattle.letter_columns.specs.Spreading.{ofLetters, spread}
-use Rattle.edit_steps.specs.Edits.{starved, Edit, placed, begins, transformed}
+use Rattle.map_columns.specs.Spreading.{ofChars, spread}
+use Rattle.utf8.specs.Formed.{charRange}
+use Rattle.edit_steps.specs.Edits.{starved, Edit, firstPosition, transformed}
 use Rattle.edits.specs.Characters.{codesOf}
 use Rattle.edits.specs.Whole.{wholeEdit, clearEdit, mapEdit, anyKept, filterEdit}
 
 -- an edit that neither 5 nor 7 refuses, and the note that it makes
 pub record Makes (n : Note) (e : Edit) (made : Note) : Type 0 where
-  pub lies : placed (n .normalized) (e .from) (e .to) ≡ true
-  pub feeds : starved (n .normalized) (e .to) (begins (n .normalized) e) (e .commands) ≡ false
+  pub lies : charRange (n .normalized) (e .from) (e .to) ≡ true
+  pub feeds : starved (n .normalized) (e .to) (firstPosition (n .normalized) e) (e .commands) ≡ false
   pub leaves : transformed n e ≡ made
 
 -- an edit that 5 does not refuse and 7 refuses where `short` says so, nowhere else, and the note that it makes there
 pub record MakesUnless (n : Note) (e : Edit) (short : Bool) (made : Note) : Type 0 where
-  pub lies : placed (n .normalized) (e .from) (e .to) ≡ true
-  pub exhausts : starved (n .normalized) (e .to) (begins (n .normalized) e) (e .commands) ≡ short
+  pub lies : charRange (n .normalized) (e .from) (e .to) ≡ true
+  pub exhausts : starved (n .normalized) (e .to) (firstPosition (n .normalized) e) (e .commands) ≡ short
   pub leaves : short ≡ false → transformed n e ≡ made
 
 -- CLAIM: an edit of the whole transcript is never refused for its range (5).
 abbrev pub WholePlaced : Type 0
 WholePlaced =
     (n : Note) (skip : ℕ) (cs : List Command) → Sound n
-    → placed (n .normalized) (wholeEdit n skip cs .from) (wholeEdit n skip cs .to) ≡ true
+    → charRange (n .normalized) (wholeEdit n skip cs .from) (wholeEdit n skip cs .to) ≡ true
 
 -- how many alignments, one after the other from the first on, have no width
 unfoldable pub widthless : List ℕ → List ℕ → ℕ
@@ -43,8 +44,8 @@ widthless (s ∷ starts) (e ∷ ends) = cond (eqb s e) (suc (widthless starts en
 abbrev pub headBytes : Note → ℕ
 headBytes n = widthless (n .starts) (n .ends)
 
-unfoldable pub headLetters : Note → ℕ
-headLetters n = letters (take (headBytes n) (n .normalized))
+unfoldable pub headChars : Note → ℕ
+headChars n = chars (take (headBytes n) (n .normalized))
 
 -- CLAIM: the head ends between two characters.
 abbrev pub HeadWhole : Type 0
@@ -63,14 +64,14 @@ ClearedClosed = (n : Note) → Sound n → Makes n (clearEdit n) (cleared n)
 -- MAP: the code points, each with the alignment of the character that it replaces
 unfoldable pub mapped : Note → List ℕ → Note
 mapped n codes =
-    lent (n .original) (textOf codes) (spread codes (ofLetters (n .normalized) (n .starts)))
-    (spread codes (ofLetters (n .normalized) (n .ends))) (n .original-shift)
+    lent (n .original) (textOf codes) (spread codes (ofChars (n .normalized) (n .starts)))
+    (spread codes (ofChars (n .normalized) (n .ends))) (n .original-shift)
 
 -- CLAIM: so does `map` leave every sound note that has no head; one that has a head it refuses (7).
 abbrev pub MappedClosed : Type 0
 MappedClosed =
-    (n : Note) (codes : List ℕ) → Sound n → length codes ≡ letters (n .normalized)
-    → MakesUnless n (mapEdit n codes) (ltb 0 (headLetters n)) (mapped n codes)
+    (n : Note) (codes : List ℕ) → Sound n → length codes ≡ chars (n .normalized)
+    → MakesUnless n (mapEdit n codes) (ltb 0 (headChars n)) (mapped n codes)
 
 -- the elements whose flag is not 0
 unfoldable pub sifted : List ℕ → List ℕ → List ℕ
@@ -84,9 +85,9 @@ unfoldable pub sieved : Note → List ℕ → List ℕ → Note
 sieved n codes flags =
     lent (n .original) (take (headBytes n) (n .normalized) ++ textOf (sifted flags codes))
     (take (headBytes n) (n .starts)
-    ++ spread (sifted flags codes) (sifted flags (drop (headLetters n) (ofLetters (n .normalized) (n .starts)))))
+    ++ spread (sifted flags codes) (sifted flags (drop (headChars n) (ofChars (n .normalized) (n .starts)))))
     (take (headBytes n) (n .ends)
-    ++ spread (sifted flags codes) (sifted flags (drop (headLetters n) (ofLetters (n .normalized) (n .ends)))))
+    ++ spread (sifted flags codes) (sifted flags (drop (headChars n) (ofChars (n .normalized) (n .ends)))))
     (n .original-shift)
 
 abbrev pub filtered : Note → List ℕ → Note
@@ -94,10 +95,10 @@ filtered n flags = sieved n (codesOf (n .normalized)) flags
 
 -- one of the last characters, as many as the head has, is kept
 unfoldable pub tailKept : Note → List ℕ → Bool
-tailKept n flags = anyKept (drop (letters (n .normalized) - headLetters n) flags)
+tailKept n flags = anyKept (drop (chars (n .normalized) - headChars n) flags)
 
 -- CLAIM: so does `filter` leave every sound note; but it refuses where such a character is kept (7).
 abbrev pub FilteredClosed : Type 0
 FilteredClosed =
-    (n : Note) (flags : List ℕ) → Sound n → length flags ≡ letters (n .normalized)
+    (n : Note) (flags : List ℕ) → Sound n → length flags ≡ chars (n .normalized)
     → MakesUnless n (filterEdit n flags) (tailKept n flags) (filtered n flags)

@@ -7,27 +7,27 @@ use mathlib.Core.List.{List, [], _∷_, _++_}
 use lib.Dec.{eqb}
 use lib.ListN.{length, getD}
 use Rattle.utf8.specs.Formed.{announced}
-use Rattle.utf8.specs.Letters.{letters}
+use Rattle.utf8.specs.Chars.{chars}
 use Rattle.note.specs.declared.Refusal.{Refusal}
 use Rattle.note.specs.declared.Refusal.the-variants.{BadScript, CountMismatch}
 use Rattle.note.specs.declared.Verdict.{Verdict}
 use Rattle.note.specs.declared.Verdict.the-variants.{Accepted, Refused as Rejected}
 use Rattle.note.specs.Refusals.{none, meets, also, after}
 use Rattle.note.specs.Notes.{Note}
-use Rattle.note.specs.Starting.{charStart}
+use Rattle.utf8.specs.CharRanges.{charStart}
 use Rattle.note.specs.Faults.{noteFaults, stringFaults}
 use Rattle.convert.specs.declared.Range.{Range}
 use Rattle.script.specs.declared.Command.{Command}
 use Rattle.code_point_blocks.specs.Codes.{allScalar}
 use Rattle.edit_steps.specs.Edits.{Edit, unchanging}
-use Rattle.transform.specs.Transforming.{target, editOf, editFaults, wholeTranscript}
+use Rattle.transform.specs.Transforming.{target, editOf, editFaults, wholeOriginal}
 use Rattle.edits.specs.declared.Clearing.{Clearing}
 use Rattle.edits.specs.declared.Clearing.the-variants.{Cleared, Refused}
 use Rattle.edits.specs.Characters.{codeAt, codesOf}
 
 -- the range that `filter`, `map` and `clear` edit: the whole transcript
 abbrev pub wholeRange : Note → Range
-wholeRange n = wholeTranscript (n .original)
+wholeRange n = wholeOriginal (n .original)
 
 abbrev pub wholeEdit : Note → ℕ → List Command → Edit
 wholeEdit n skip cs = editOf (target (n .starts) (n .ends) (wholeRange n)) skip cs
@@ -54,7 +54,7 @@ mapEdit n codes = wholeEdit n 0 (allReplacing codes)
 -- code points are scalar values, one for each cleaned character
 abbrev pub codesFaults : List ℕ → List ℕ → Refusal → Bool
 codesFaults text codes =
-    meets BadScript (not (allScalar codes)) (meets CountMismatch (not (eqb (length codes) (letters text))) none)
+    meets BadScript (not (allScalar codes)) (meets CountMismatch (not (eqb (length codes) (chars text))) none)
 
 abbrev pub mapFaults : ℕ → Note → List ℕ → ℕ → Refusal → Bool
 mapFaults most n codes room =
@@ -136,5 +136,5 @@ filterEdit n flags =
 
 abbrev pub filterFaults : ℕ → Note → List ℕ → ℕ → Refusal → Bool
 filterFaults most n flags room =
-    also (also (noteFaults most n) (meets CountMismatch (not (eqb (length flags) (letters (n .normalized)))) none))
+    also (also (noteFaults most n) (meets CountMismatch (not (eqb (length flags) (chars (n .normalized)))) none))
     (editFaults most (n .normalized) (filterEdit n flags) room)

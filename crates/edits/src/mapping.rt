@@ -4,7 +4,7 @@ use checks::check_note;
 use checks::least_of_two;
 use checks::least_room;
 use code_points::judge;
-use letter_columns::lay_codes;
+use map_columns::lay_codes;
 use note::LIMIT;
 use note::Refusal;
 use note::Verdict;

@@ -8,24 +8,26 @@ use Rattle.utf8.specs.Table.{within}
 use Rattle.utf8.specs.Formed.{announced, second, asked, formed, continues, boundary}
 use Rattle.note.specs.Refusals.{verdict}
 use Rattle.note.specs.Notes.{fits, paired, textsFormed, inside, onBoundaries, shared, forward, aligned, beforeEnd}
-use Rattle.note.specs.Starting.{charStart, charEnd, starting}
-use Rattle.convert.specs.Converting.{expanded, begun, stepped, walkFrom, walked, toOriginal, toNormalized, converted, answered, convertOffsets}
+use Rattle.utf8.specs.CharRanges.{charStart, charEnd}
+use Rattle.note.specs.Starting.{starting}
+use Rattle.convert.specs.Converting.{expanded, firstPlaces, placesAfter, walkFrom, walked, toOriginal, toNormalized, converted, answered, convertOffsets}
 use Rattle.char_offsets.specs.Positions.{indexOf, endIndex, pairOf, charOffsets}
 use Rattle.pattern.specs.Entries.{positionAt, placeAt, entryAt, placesFrom, placesOf, wholeFrom, whole}
 use Rattle.pattern.specs.Places.{fitsAt, coversFrom, covers}
 use Rattle.replace.specs.Replacing.{piece, laid, replaced}
 use mathlib.Core.List.{flatMap}
-use Rattle.get_range.specs.Reading.{asOriginal, asNormalized}
+use Rattle.convert.specs.Converting.{asOriginal, asNormalized}
 use Rattle.slice.specs.Slicing.{sliceOf, sliced, lowered, slicedColumn}
-use Rattle.behaviors.specs.Splits.{unremoved, spanning, endMoved, folded, splits, goes, isPiece, remaining, pieces}
-use Rattle.split.specs.Splitting.{pieceOf, transcriptLength, cut}
+use Rattle.behaviors.specs.Splits.{unremoved, spanning, endMoved, folded, splits, isDropped, isPiece, remaining, pieces}
+use Rattle.split.specs.Splitting.{pieceOf, originalLength, cut}
 use Rattle.utf8.specs.Scalar.{scalar, encoded, bytesOf}
-use Rattle.script.specs.Scripts.{sizeOf}
-use Rattle.edit_steps.specs.Edits.{skipped, starves, moved as stepTo, starved, carries, given, placed, begins, relaid, edited, transformed}
+use Rattle.utf8.specs.Scalar.{lenUtf8}
+use Rattle.utf8.specs.Formed.{charRange}
+use Rattle.edit_steps.specs.Edits.{skipped, starves, moved as stepTo, starved, carriedValue, produced, firstPosition, relaid, edited, transformed}
 use Rattle.edits.specs.Characters.{codeAt, codesFrom, codesOf}
 use Rattle.edits.specs.Whole.{allAdding, prependEdit, clearEdit}
-use Rattle.examples.specs.Worked.{aéb, nest, blank, final, hyphens, worked, every, WorkedNotes, aé, moved}
+use Rattle.examples.specs.Worked.{aéb, nest, blank, final, hyphens, worked, every, WorkedNotes, aé, prependedNothing}
 
 pub worked-notes : WorkedNotes
-unfolding every worked aéb nest blank final hyphens flatMap asOriginal asNormalized sliceOf sliced lowered slicedColumn unremoved spanning endMoved folded splits goes isPiece remaining pieces pieceOf transcriptLength cut starting column charStart charEnd announced second asked formed within continues boundary fits paired textsFormed inside onBoundaries shared forward aligned everyBelow verdict converted toOriginal toNormalized expanded begun stepped walkFrom walked answered convertOffsets indexOf endIndex pairOf charOffsets valueOf positionAt placeAt entryAt placesFrom placesOf wholeFrom whole fitsAt coversFrom covers piece laid beforeEnd replaced same aé moved scalar encoded bytesOf sizeOf skipped starves stepTo starved carries given placed begins relaid edited transformed codeAt codesFrom codesOf allAdding prependEdit clearEdit
+unfolding every worked aéb nest blank final hyphens flatMap asOriginal asNormalized sliceOf sliced lowered slicedColumn unremoved spanning endMoved folded splits isDropped isPiece remaining pieces pieceOf originalLength cut starting column charStart charEnd announced second asked formed within continues boundary fits paired textsFormed inside onBoundaries shared forward aligned everyBelow verdict converted toOriginal toNormalized expanded firstPlaces placesAfter walkFrom walked answered convertOffsets indexOf endIndex pairOf charOffsets valueOf positionAt placeAt entryAt placesFrom placesOf wholeFrom whole fitsAt coversFrom covers piece laid beforeEnd replaced same aé prependedNothing scalar encoded bytesOf lenUtf8 skipped starves stepTo starved carriedValue produced charRange firstPosition relaid edited transformed codeAt codesFrom codesOf allAdding prependEdit clearEdit
 worked-notes = refl

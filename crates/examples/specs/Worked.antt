@@ -29,7 +29,7 @@ use Rattle.behaviors.specs.declared.SplitDelimiterBehavior.the-variants.{
   Contiguous,
 }
 use Rattle.behaviors.specs.declared.EmptyPieces.the-variants.{Kept}
-use Rattle.split.specs.Splitting.{Columns, cutBy, splitFaults}
+use Rattle.split.specs.Splitting.{PieceColumns, cutBy, splitFaults}
 use Rattle.edit_steps.specs.Edits.{transformed}
 use Rattle.edits.specs.declared.Clearing.{Clearing}
 use Rattle.edits.specs.declared.Clearing.the-variants.{Cleared, Refused as Uncleared}
@@ -65,7 +65,7 @@ publishes n list content text starts ends =
     && isNote (replaced (placesOf list) content n) text starts ends
 
 -- whether splitting accepts, in columns as long as the pieces and their alignments, and gives the pieces from..to
-abbrev pub areSpans : Columns → List ℕ → List ℕ → Bool
+abbrev pub areSpans : PieceColumns → List ℕ → List ℕ → Bool
 areSpans c from to = same (c .starts) from && same (c .ends) to
 
 abbrev pub cutsInto : Note → List ℕ → SplitDelimiterBehavior → List ℕ → List ℕ → Bool
@@ -87,8 +87,8 @@ clears (Uncleared k) a b = false
 unfoldable pub aé : Note
 aé = starting (0x61 ∷ 0xC3 ∷ 0xA9 ∷ [])
 
-unfoldable pub moved : Note
-moved = transformed aé (prependEdit aé [])
+unfoldable pub prependedNothing : Note
+prependedNothing = transformed aé (prependEdit aé [])
 
 -- the starting note of `aéb`
 unfoldable pub aéb : Note
@@ -139,10 +139,10 @@ worked =
     ∷ cutsInto final hyphens Contiguous (0 ∷ 3 ∷ 4 ∷ 9 ∷ 11 ∷ []) (3 ∷ 4 ∷ 9 ∷ 11 ∷ 20 ∷ [])
     -- `prepend("")` on `aé` keeps the text, and its first letter loses its alignment; `clear` then leaves that letter
     ∷ accepts (verdict (joinFaults limit aé [] (prependEdit aé []) 3))
-    ∷ holds moved (0x61 ∷ 0xC3 ∷ 0xA9 ∷ []) (0 ∷ 1 ∷ 1 ∷ []) (0 ∷ 3 ∷ 3 ∷ [])
-    ∷ clears (clearing (verdict (clearFaults limit moved 1)) (length (moved .normalized))
-    (length (transformed moved (clearEdit moved) .normalized))) 3 1
-    ∷ holds (transformed moved (clearEdit moved)) (0x61 ∷ []) (0 ∷ []) (0 ∷ [])
+    ∷ holds prependedNothing (0x61 ∷ 0xC3 ∷ 0xA9 ∷ []) (0 ∷ 1 ∷ 1 ∷ []) (0 ∷ 3 ∷ 3 ∷ [])
+    ∷ clears (clearing (verdict (clearFaults limit prependedNothing 1)) (length (prependedNothing .normalized))
+    (length (transformed prependedNothing (clearEdit prependedNothing) .normalized))) 3 1
+    ∷ holds (transformed prependedNothing (clearEdit prependedNothing)) (0x61 ∷ []) (0 ∷ []) (0 ∷ [])
     ∷ []
 
 unfoldable pub every : List Bool → Bool

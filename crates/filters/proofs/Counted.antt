@@ -6,16 +6,17 @@ use mathlib.Core.List.{List, []}
 use lib.Dec.{eqb}
 use lib.ListN.{length}
 use borrow.Author.Tests.{eq-eqb, ne-eqb}
-use Rattle.utf8.specs.Letters.{letters, leads}
-use Rattle.utf8.proofs.Letters.{letters-leads}
+use Rattle.utf8.specs.Chars.{chars, leads}
+use Rattle.utf8.proofs.Chars.{chars-leads}
 use Rattle.note.specs.declared.Refusal.{Refusal}
-use Rattle.note.specs.declared.Refusal.the-variants.{CountMismatch}
+use Rattle.note.specs.declared.Refusal.the-variants.{CountMismatch, Misaligned}
 use Rattle.note.specs.declared.Verdict.{Verdict}
 use Rattle.note.specs.declared.Verdict.the-variants.{Accepted, Refused as Rejected}
 use Rattle.note.specs.Refusals.{none, meets, also, verdict}
 use Rattle.note.specs.Notes.{Note}
 use Rattle.note.specs.Faults.{noteFaults}
-use Rattle.note.proofs.Verdicts.{refused-then, accepted-then}
+use Rattle.note.specs.Rank.{upTo}
+use Rattle.note.proofs.FirstMet.{refused-then, accepted-then}
 use Rattle.note.proofs.Sound.{normalized-formed}
 use Rattle.note.proofs.Faults.{accepted-sound}
 use Rattle.convert.specs.declared.Range.{Range}
@@ -27,43 +28,43 @@ use Rattle.edit_steps.specs.Edits.{skipped, Edit}
 use Rattle.transform.specs.Transforming.{target}
 use Rattle.transform.proofs.Verdicts.{edit-found, edit-none}
 use Rattle.edits.specs.Whole.{wholeRange, filterEdit}
-use Rattle.filters.specs.Flags.{skips, begun, kept}
+use Rattle.filters.specs.Flags.{skips, firstKept, flagCommands}
 
 abbrev pub flagFaults : List ℕ → List ℕ → Refusal → Bool
-flagFaults text flags = meets CountMismatch (not (eqb (length flags) (letters text))) none
+flagFaults text flags = meets CountMismatch (not (eqb (length flags) (chars text))) none
 
-pub begun-skipped : (s : List ℕ) (b from : ℕ) (flags : List ℕ) → begun s b from flags ≡ skipped s b (skips flags) from
-unfolding begun
+pub begun-skipped : (s : List ℕ) (b from : ℕ) (flags : List ℕ) → firstKept s b from flags ≡ skipped s b (skips flags) from
+unfolding firstKept
 begun-skipped s b from flags = refl
 
 module _ (most : ℕ) (n : Note) (flags : List ℕ) {v : Verdict} (noted : v ≡ verdict (noteFaults most n)) where
   pub note-first : {k : Refusal} → v ≡ Rejected k → Rejected k ≡ verdict (also (noteFaults most n) (flagFaults (n .normalized) flags))
-  note-first e = refused-then 4 (noteFaults most n) (flagFaults (n .normalized) flags) refl refl noted e
+  note-first e = refused-then (upTo Misaligned) (noteFaults most n) (flagFaults (n .normalized) flags) refl refl noted e
 
   module _ (ok : v ≡ Accepted) {m : ℕ} (counted : m ≡ leads (n .normalized)) where
-    number : m ≡ letters (n .normalized)
-    number = counted ∙ sym (letters-leads (n .normalized) (normalized-formed n (accepted-sound most n (sym noted ∙ ok) .0)))
+    number : m ≡ chars (n .normalized)
+    number = counted ∙ sym (chars-leads (n .normalized) (normalized-formed n (accepted-sound most n (sym noted ∙ ok) .0)))
 
-    pub flag-each : length flags ≡ m → length flags ≡ letters (n .normalized)
+    pub flag-each : length flags ≡ m → length flags ≡ chars (n .normalized)
     flag-each h = h ∙ number
 
     uneven : (length flags ≡ m → ⊥) → Rejected CountMismatch ≡ verdict (flagFaults (n .normalized) flags)
     unfolding verdict
-    uneven h = rw (ne-eqb (length flags) (letters (n .normalized)) (λ z. h (z ∙ sym number)))
+    uneven h = rw (ne-eqb (length flags) (chars (n .normalized)) (λ z. h (z ∙ sym number)))
 
     even : length flags ≡ m → Accepted ≡ verdict (flagFaults (n .normalized) flags)
     unfolding verdict
-    even h = rw (eq-eqb (length flags) (letters (n .normalized)) (h ∙ number))
+    even h = rw (eq-eqb (length flags) (chars (n .normalized)) (h ∙ number))
 
     pub miscounted : (length flags ≡ m → ⊥) → Rejected CountMismatch ≡ verdict (also (noteFaults most n) (flagFaults (n .normalized) flags))
-    miscounted h = accepted-then 4 (noteFaults most n) (flagFaults (n .normalized) flags) refl refl noted ok (uneven h)
+    miscounted h = accepted-then (upTo Misaligned) (noteFaults most n) (flagFaults (n .normalized) flags) refl refl noted ok (uneven h)
 
     pub well-counted : length flags ≡ m → Accepted ≡ verdict (also (noteFaults most n) (flagFaults (n .normalized) flags))
-    well-counted h = accepted-then 4 (noteFaults most n) (flagFaults (n .normalized) flags) refl refl noted ok (even h)
+    well-counted h = accepted-then (upTo Misaligned) (noteFaults most n) (flagFaults (n .normalized) flags) refl refl noted ok (even h)
 
 module _ (n : Note) (flags : List ℕ) {x : Converted} (is : x ≡ target (n .starts) (n .ends) (wholeRange n)) where
-  pub filter-found : {r : Range} {a b : ℕ} → x ≡ Found r → a ≡ startOf r → b ≡ endOf r → record { from = a; to = b; skip = skips flags; commands = kept (n .normalized) flags } ≡ filterEdit n flags
-  unfolding filterEdit skips kept
+  pub filter-found : {r : Range} {a b : ℕ} → x ≡ Found r → a ≡ startOf r → b ≡ endOf r → record { from = a; to = b; skip = skips flags; commands = flagCommands (n .normalized) flags } ≡ filterEdit n flags
+  unfolding filterEdit skips flagCommands
   filter-found found from to = edit-found _ _ is found from to
 
   pub filter-none : {k : Refusal} → x ≡ Refused k → record { from = 0; to = 0; skip = 0; commands = commandsOf [] } ≡ filterEdit n flags

@@ -15,23 +15,23 @@ use Rattle.utf8.specs.Formed.{announced, wellFormed, boundary}
 use Rattle.utf8.specs.Scalar.{bytesOf}
 use Rattle.utf8.specs.Lengths.{CharLen}
 use Rattle.script.specs.declared.Command.{Command}
-use Rattle.script.specs.Scripts.{sizeOf}
+use Rattle.utf8.specs.Scalar.{lenUtf8}
 use Rattle.edit_steps.specs.declared.walking.Progress.{Progress}
-use Rattle.edit_steps.specs.Edits.{skipped, starves, moved, starved, carries, characters, carried, given}
-use Rattle.edit_steps.specs.Walking.{Standing, Tabled, stepped}
+use Rattle.edit_steps.specs.Edits.{skipped, starves, moved, starved, carriedValue, characters, carriedValues, produced}
+use Rattle.edit_steps.specs.Walking.{Standing, Tabled, progressAfter}
 use Rattle.edit_steps.specs.Laying.{Room, CommandLaid, CommandsRoom, CommandsLaid}
 use Rattle.edit_steps.proofs.Positions.{standing-skipped, stepped-fed}
 use Rattle.edit_steps.proofs.Given.{Going, none-going, command-room, going-on, gone, fed}
 use Rattle.edits.specs.Characters.{codeAt, codesOf}
 use Rattle.edits.specs.Whole.{replacing, droppedAhead, keptCommands}
 use Rattle.edits.proofs.Characters.{code-bytes}
-use Rattle.filters.specs.Flags.{begun, kept, counts, FlagsReady, FlagRoom, FlagLaid, FlagsRoom}
+use Rattle.filters.specs.Flags.{firstKept, flagCommands, flagLen, FlagsReady, FlagRoom, FlagLaid, FlagsRoom}
 use Rattle.filters.proofs.Kept.{begun-starved, begun-given, Beside, ahead, restAt, none-beside, next-beside, inside, dropped-rest, dropped-ahead, kept-rest, kept-here, kept-moves, code-wide, rest-none}
 
 -- one flag
 module _ {flag : ℕ} {s starts ends : List ℕ} {q wide p : ℕ} {out₀ starts₀ ends₀ : List ℕ} {at : ℕ} where
   pub flag-dropped : flag ≡ 0 → FlagLaid flag s starts ends q wide p out₀ starts₀ ends₀ at at out₀ starts₀ ends₀
-  unfolding counts
+  unfolding flagLen
   flag-dropped z =
       let e : eqb flag 0 ≡ true = eq-eqb flag 0 z in
       record {
@@ -42,13 +42,13 @@ module _ {flag : ℕ} {s starts ends : List ℕ} {q wide p : ℕ} {out₀ starts
       }
 
   pub flag-kept : {out starts₁ ends₁ : List ℕ} → (flag ≡ 0 → ⊥) → out ≡ splice out₀ at (part s q (q + wide)) → starts₁ ≡ splice starts₀ at (replicate wide (getD starts p 0)) → ends₁ ≡ splice ends₀ at (replicate wide (getD ends p 0)) → FlagLaid flag s starts ends q wide p out₀ starts₀ ends₀ at (at + wide) out starts₁ ends₁
-  unfolding counts
+  unfolding flagLen
   flag-kept h o st en =
       let e : eqb flag 0 ≡ false = ne-eqb flag 0 h in
       record { reached = rw e; text-is = rw e o; starts-are = rw e st; ends-are = rw e en }
 
   pub kept-room : FlagRoom flag s starts ends q wide p out₀ starts₀ ends₀ at → (flag ≡ 0 → ⊥) → (at + wide ≤ length out₀) × ((at + wide ≤ length starts₀) × (at + wide ≤ length ends₀))
-  unfolding counts
+  unfolding flagLen
   kept-room r h =
       let e : cond (eqb flag 0) 0 wide ≡ wide = rw (ne-eqb flag 0 h) in
       (omega (arith, r .text-room, e), (omega (arith, r .starts-room, e), omega (arith, r .ends-room, e)))
@@ -60,11 +60,11 @@ laying-as e l = rw e at l
 -- the flags before i are laid down
 pub record Flagged (s starts ends : List ℕ) (b from : ℕ) (flags out₀ starts₀ ends₀ : List ℕ) (at q p written i : ℕ) (out starts₁ ends₁ : List ℕ) : Type 0 where
   pub beside : Beside s b flags q p i
-  pub going : Going s starts ends b (begun s b from flags) (kept s flags) out₀ starts₀ ends₀ at (ahead s b flags p i written) (restAt s flags q i) out starts₁ ends₁
+  pub going : Going s starts ends b (firstKept s b from flags) (flagCommands s flags) out₀ starts₀ ends₀ at (ahead s b flags p i written) (restAt s flags q i) out starts₁ ends₁
 
 module _ {s starts ends : List ℕ} {b from : ℕ} {flags table out₀ starts₀ ends₀ : List ℕ} {at : ℕ} (r : FlagsRoom s starts ends b from flags table out₀ starts₀ ends₀ at) where
   pub none-flagged : Flagged s starts ends b from flags out₀ starts₀ ends₀ at 0 from at 0 out₀ starts₀ ends₀
-  unfolding kept
+  unfolding flagCommands
   none-flagged =
       let start = none-going (r .rooms) in
       record {
@@ -73,8 +73,8 @@ module _ {s starts ends : List ℕ} {b from : ℕ} {flags table out₀ starts₀
           standing = standing-skipped (droppedAhead flags) (r .ready .tabled .standing) .0;
           feeding = sym (begun-starved s b from flags) ∙ r .rooms .feeds;
           text-laid = laying-as (begun-given s b from flags characters) (start .text-laid);
-          starts-laid = laying-as (begun-given s b from flags (carried starts)) (start .starts-laid);
-          ends-laid = laying-as (begun-given s b from flags (carried ends)) (start .ends-laid);
+          starts-laid = laying-as (begun-given s b from flags (carriedValues starts)) (start .starts-laid);
+          ends-laid = laying-as (begun-given s b from flags (carriedValues ends)) (start .ends-laid);
         };
       }
 
@@ -91,7 +91,7 @@ module _ {s starts ends : List ℕ} {b from : ℕ} {flags table out₀ starts₀
         unfolding c
         room = command-room (r .rooms) (f .going) (kept-rest k h keeps)
 
-        fits : sizeOf (codeAt s q) ≡ w
+        fits : lenUtf8 (codeAt s q) ≡ w
         fits = code-wide k h ∙ sym (len .long)
 
         found : (p < length starts) × (p < length ends)
@@ -101,7 +101,7 @@ module _ {s starts ends : List ℕ} {b from : ℕ} {flags table out₀ starts₀
             (omega (arith, here, room .in-starts .found refl), omega (arith, here, room .in-ends .found refl))
 
       pub flag-room : FlagRoom (getD flags i 0) s starts ends q w p out starts₁ ends₁ written
-      unfolding counts c
+      unfolding flagLen c
       flag-room =
           true-or-false (eqb (getD flags i 0) 0)
           (λ drops.
@@ -125,7 +125,7 @@ module _ {s starts ends : List ℕ} {b from : ℕ} {flags table out₀ starts₀
 
       module _ {n m : ℕ} {out₂ starts₂ ends₂ : List ℕ} (l : FlagLaid (getD flags i 0) s starts ends q w p out starts₁ ends₁ written n out₂ starts₂ ends₂) (on : m ≡ skipped s b 1 p) where
         dropped-flagged : eqb (getD flags i 0) 0 ≡ true → Flagged s starts ends b from flags out₀ starts₀ ends₀ at (q + w) m n (i + 1) out₂ starts₂ ends₂
-        unfolding counts
+        unfolding flagLen
         dropped-flagged drops =
             let zero : n ≡ written = (rw drops at (l .reached)) ∙ omega arith in
             let text : out₂ ≡ out = (rw drops at (l .text-is)) ∙ splice-nil out written in
@@ -137,7 +137,7 @@ module _ {s starts ends : List ℕ} {b from : ℕ} {flags table out₀ starts₀
             }
 
         kept-laid : eqb (getD flags i 0) 0 ≡ false → CommandLaid starts ends (ahead s b flags p i written) c out starts₁ ends₁ out₂ starts₂ ends₂
-        unfolding c carries
+        unfolding c carriedValue
         kept-laid keeps =
             let bytes : part s q (q + w) ≡ bytesOf (codeAt s q) = rw (len .long) (sym (code-bytes s q (k .standing .formed) (k .begins) (inside k h))) in
             record {
@@ -147,12 +147,12 @@ module _ {s starts ends : List ℕ} {b from : ℕ} {flags table out₀ starts₀
             }
 
         kept-flagged : eqb (getD flags i 0) 0 ≡ false → Flagged s starts ends b from flags out₀ starts₀ ends₀ at (q + w) m n (i + 1) out₂ starts₂ ends₂
-        unfolding counts c
+        unfolding flagLen c
         kept-flagged keeps =
             let g : Progress = ahead s b flags p i written in
             let first : starves b (g .position) c ≡ false = fed s b (g .position) c (restAt s flags (q + announced (getD s q 0)) (i + 1)) (rw (kept-rest k h keeps) at (f .going .feeding)) .0 in
             let many : n ≡ written + announced (getD s q 0) = (rw keeps at (l .reached)) ∙ ap (_+_ written) (len .long) in
-            let now : ahead s b flags m (i + 1) n ≡ stepped s b g c = sym (stepped-fed s b g c (sym first) refl ∙ rw (kept-here k h keeps, kept-moves k h keeps, code-wide k h, on, many)) in
+            let now : ahead s b flags m (i + 1) n ≡ progressAfter s b g c = sym (stepped-fed s b g c (sym first) refl ∙ rw (kept-here k h keeps, kept-moves k h keeps, code-wide k h, on, many)) in
             record {
               beside = next-beside k h len on;
               going = rw (len .long) (going-on (r .rooms) (f .going) (kept-rest k h keeps) (kept-laid keeps) now);
@@ -161,5 +161,5 @@ module _ {s starts ends : List ℕ} {b from : ℕ} {flags table out₀ starts₀
         pub next-flagged : Flagged s starts ends b from flags out₀ starts₀ ends₀ at (q + w) m n (i + 1) out₂ starts₂ ends₂
         next-flagged = true-or-false (eqb (getD flags i 0) 0) dropped-flagged kept-flagged
 
-    pub all-flagged : length flags ≤ i → CommandsLaid s starts ends b (begun s b from flags) (kept s flags) out₀ starts₀ ends₀ at written out starts₁ ends₁
+    pub all-flagged : length flags ≤ i → CommandsLaid s starts ends b (firstKept s b from flags) (flagCommands s flags) out₀ starts₀ ends₀ at written out starts₁ ends₁
     all-flagged done = gone (r .rooms) (f .going) (rest-none s flags q done)

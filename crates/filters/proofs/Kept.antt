@@ -1,4 +1,4 @@
--- Laws of `kept` and `begun`: flag by flag, a character of the text and one of the range go by.
+-- Laws of `flagCommands` and `firstKept`: flag by flag, a character of the text and one of the range go by.
 use Prim.Native.Nat.{ℕ, zero, suc, _+_, _≤_, _<_}
 use mathlib.Core.Path.{_≡_, _∙_, refl, sym}
 use mathlib.Core.Bool.{Bool, true, false, cond}
@@ -14,18 +14,18 @@ use Rattle.utf8.specs.Formed.{announced, wellFormed, boundary}
 use Rattle.utf8.specs.Lengths.{CharBegins, CharLen}
 use Rattle.utf8.proofs.Boundaries.{boundary-zero}
 use Rattle.script.specs.declared.Command.{Command}
-use Rattle.script.specs.Scripts.{sizeOf}
+use Rattle.utf8.specs.Scalar.{lenUtf8}
 use Rattle.edit_steps.specs.declared.walking.Progress.{Progress}
 use Rattle.edit_steps.specs.declared.walking.Extent.the-variants.{Size, Starved}
-use Rattle.edit_steps.specs.Edits.{skipped, starves, moved, starved, given}
-use Rattle.edit_steps.specs.Walking.{Standing, Tabled, stepped, measured}
+use Rattle.edit_steps.specs.Edits.{skipped, starves, moved, starved, produced}
+use Rattle.edit_steps.specs.Walking.{Standing, Tabled, progressAfter, measured}
 use Rattle.edit_steps.proofs.Positions.{skipped-none, standing-skipped, starves-replacing, moved-replacing, stepped-fed}
 use Rattle.edit_steps.proofs.Measured.{Passed, starves-here, one-passed, all-passed}
 use Rattle.edits.specs.Characters.{codeAt, codesOf}
 use Rattle.edits.specs.Whole.{replacing, droppedAhead, anyKept, keptCommands}
 use Rattle.edits.proofs.Characters.{codes-none, codes-cons}
-use Rattle.edits.proofs.Sifted.{skipped-suc, none-commands, code-size, codes-letters}
-use Rattle.filters.specs.Flags.{skips, begun, kept, wants, counts, FlagsReady}
+use Rattle.edits.proofs.Sifted.{skipped-suc, none-commands, code-size, codes-chars}
+use Rattle.filters.specs.Flags.{skips, firstKept, flagCommands, flagStarves, flagLen, FlagsReady}
 
 no-flags : (cs : List ℕ) → keptCommands cs [] ≡ []
 unfolding keptCommands
@@ -34,19 +34,19 @@ no-flags (c ∷ cs) = refl
 
 -- so the first command may stand behind all that is dropped before it
 module _ (s : List ℕ) (b from : ℕ) (flags : List ℕ) where
-  begun-kept : anyKept flags ≡ true → begun s b from flags ≡ skipped s b (droppedAhead flags) from
-  unfolding begun skips
+  begun-kept : anyKept flags ≡ true → firstKept s b from flags ≡ skipped s b (droppedAhead flags) from
+  unfolding firstKept skips
   begun-kept e = rw e
 
-  pub begun-starved : starved s b (begun s b from flags) (kept s flags) ≡ starved s b (skipped s b (droppedAhead flags) from) (kept s flags)
-  unfolding kept starved
+  pub begun-starved : starved s b (firstKept s b from flags) (flagCommands s flags) ≡ starved s b (skipped s b (droppedAhead flags) from) (flagCommands s flags)
+  unfolding flagCommands starved
   begun-starved =
       true-or-false (anyKept flags)
       (λ t. rw (begun-kept t))
       (λ u. rw (none-commands (codesOf s) flags u))
 
-  pub begun-given : (piece : ℕ → Command → List ℕ) → given piece s b (begun s b from flags) (kept s flags) ≡ given piece s b (skipped s b (droppedAhead flags) from) (kept s flags)
-  unfolding kept given
+  pub begun-given : (piece : ℕ → Command → List ℕ) → produced piece s b (firstKept s b from flags) (flagCommands s flags) ≡ produced piece s b (skipped s b (droppedAhead flags) from) (flagCommands s flags)
+  unfolding flagCommands produced
   begun-given piece =
       true-or-false (anyKept flags)
       (λ t. rw (begun-kept t))
@@ -54,21 +54,21 @@ module _ (s : List ℕ) (b from : ℕ) (flags : List ℕ) where
 
 -- the tests of the code
 module _ (flag b p : ℕ) where
-  pub wants-dropped : flag ≡ 0 → false ≡ wants flag b p
-  unfolding wants
+  pub wants-dropped : flag ≡ 0 → false ≡ flagStarves flag b p
+  unfolding flagStarves
   wants-dropped e = rw (eq-eqb flag 0 e)
 
-  pub wants-kept : (flag ≡ 0 → ⊥) → leb b p ≡ wants flag b p
-  unfolding wants
+  pub wants-kept : (flag ≡ 0 → ⊥) → leb b p ≡ flagStarves flag b p
+  unfolding flagStarves
   wants-kept h = rw (ne-eqb flag 0 h)
 
 module _ (flag wide : ℕ) where
-  pub counts-dropped : flag ≡ 0 → 0 ≡ counts flag wide
-  unfolding counts
+  pub counts-dropped : flag ≡ 0 → 0 ≡ flagLen flag wide
+  unfolding flagLen
   counts-dropped e = rw (eq-eqb flag 0 e)
 
-  pub counts-kept : (flag ≡ 0 → ⊥) → wide ≡ counts flag wide
-  unfolding counts
+  pub counts-kept : (flag ≡ 0 → ⊥) → wide ≡ flagLen flag wide
+  unfolding flagLen
   counts-kept h = rw (ne-eqb flag 0 h)
 
 -- the characters from q on beside the flags from i on, and a position of the range
@@ -87,7 +87,7 @@ pub none-beside : {s : List ℕ} {b from : ℕ} {flags table : List ℕ} → Fla
 none-beside {s} r =
     record {
       begins = boundary-zero s (r .tabled .standing .formed);
-      left = omega (arith, codes-letters s, r .counted);
+      left = omega (arith, codes-chars s, r .counted);
       standing = r .tabled .standing;
     }
 
@@ -146,7 +146,7 @@ module _ {s : List ℕ} {b : ℕ} {flags : List ℕ} {q p i : ℕ} (k : Beside s
         moved-replacing s b p (replacing (droppedAhead (drop (i + 1) flags)) (codeAt s q)) refl
         ∙ skipped-suc s b (droppedAhead (drop (i + 1) flags)) p
 
-  pub code-wide : sizeOf (codeAt s q) ≡ announced (getD s q 0)
+  pub code-wide : lenUtf8 (codeAt s q) ≡ announced (getD s q 0)
   code-wide = code-size s q formed (k .begins) inside
 
 pub rest-none : (s flags : List ℕ) (q : ℕ) {i : ℕ} → length flags ≤ i → restAt s flags q i ≡ []
@@ -155,11 +155,11 @@ rest-none s flags q past = rw (drop-of-length-le flags past) (no-flags (codesOf 
 -- the flags before i have gone by
 pub record Filtering (s : List ℕ) (b from : ℕ) (flags : List ℕ) (q p written i : ℕ) : Type 0 where
   pub beside : Beside s b flags q p i
-  pub passed : Passed s b (begun s b from flags) (kept s flags) (restAt s flags q i) (ahead s b flags p i written)
+  pub passed : Passed s b (firstKept s b from flags) (flagCommands s flags) (restAt s flags q i) (ahead s b flags p i written)
   pub small : written ≤ q
 
 pub none-filtered : {s : List ℕ} {b from : ℕ} {flags table : List ℕ} → FlagsReady s b from flags table → Filtering s b from flags 0 from 0 0
-unfolding kept
+unfolding flagCommands
 none-filtered {s} {b} {from} {flags} r =
     record {
       beside = none-beside r;
@@ -172,41 +172,41 @@ none-filtered {s} {b} {from} {flags} r =
     }
 
 module _ {s : List ℕ} {b from : ℕ} {flags : List ℕ} {q p written i : ℕ} (f : Filtering s b from flags q p written i) where
-  module _ (h : i < length flags) {w : ℕ} (len : CharLen s q w) {t : Bool} (is : t ≡ wants (getD flags i 0) b p) where
+  module _ (h : i < length flags) {w : ℕ} (len : CharLen s q w) {t : Bool} (is : t ≡ flagStarves (getD flags i 0) b p) where
     k : Beside s b flags q p i
     k = f .beside
 
-    -- a kept one
+    -- a flagCommands one
     module _ (keeps : eqb (getD flags i 0) 0 ≡ false) where
       c : Command
       c = replacing (droppedAhead (drop (i + 1) flags)) (codeAt s q)
 
       test : t ≡ starves b (skipped s b (droppedAhead (drop i flags)) p) c
-      unfolding wants c
+      unfolding flagStarves c
       test = is ∙ rw (keeps, kept-here k h keeps) (sym (starves-replacing b p c refl))
 
-      kept-starves : t ≡ true → Starved ≡ measured s b (begun s b from flags) (kept s flags)
+      kept-starves : t ≡ true → Starved ≡ measured s b (firstKept s b from flags) (flagCommands s flags)
       unfolding c
       kept-starves e = starves-here (f .passed) (kept-rest k h keeps) test e
 
-      kept-passed : {m : ℕ} → t ≡ false → m ≡ skipped s b 1 p → Passed s b (begun s b from flags) (kept s flags) (restAt s flags (q + announced (getD s q 0)) (i + 1)) (ahead s b flags m (i + 1) (written + announced (getD s q 0)))
+      kept-passed : {m : ℕ} → t ≡ false → m ≡ skipped s b 1 p → Passed s b (firstKept s b from flags) (flagCommands s flags) (restAt s flags (q + announced (getD s q 0)) (i + 1)) (ahead s b flags m (i + 1) (written + announced (getD s q 0)))
       unfolding c
       kept-passed {m} e at =
           let g : Progress = ahead s b flags p i written in
           let fed = stepped-fed s b g c test e in
-          let now : record { position = skipped s b (droppedAhead (drop (i + 1) flags)) m; written = written + announced (getD s q 0); starved = false } ≡ stepped s b g c =
+          let now : record { position = skipped s b (droppedAhead (drop (i + 1) flags)) m; written = written + announced (getD s q 0); starved = false } ≡ progressAfter s b g c =
           sym (fed ∙ rw (kept-here k h keeps, kept-moves k h keeps, code-wide k h, at)) in
           one-passed (f .passed) (kept-rest k h keeps) test e now
 
-    pub flag-starves : t ≡ true → Starved ≡ measured s b (begun s b from flags) (kept s flags)
-    unfolding wants
+    pub flag-starves : t ≡ true → Starved ≡ measured s b (firstKept s b from flags) (flagCommands s flags)
+    unfolding flagStarves
     flag-starves e =
         true-or-false (eqb (getD flags i 0) 0)
         (λ drops. clash t e (is ∙ rw drops))
         (λ keeps. kept-starves keeps e)
 
-    pub next-filtered : {m n : ℕ} → t ≡ false → n ≡ counts (getD flags i 0) w → m ≡ skipped s b 1 p → Filtering s b from flags (q + w) m (written + n) (i + 1)
-    unfolding counts
+    pub next-filtered : {m n : ℕ} → t ≡ false → n ≡ flagLen (getD flags i 0) w → m ≡ skipped s b 1 p → Filtering s b from flags (q + w) m (written + n) (i + 1)
+    unfolding flagLen
     next-filtered {m} {n} e count at =
         true-or-false (eqb (getD flags i 0) 0)
         (λ drops.
@@ -225,11 +225,11 @@ module _ {s : List ℕ} {b from : ℕ} {flags : List ℕ} {q p written i : ℕ} 
           small = omega (arith, f .small);
         })
 
-  pub all-filtered : length flags ≤ i → Size written ≡ measured s b (begun s b from flags) (kept s flags)
+  pub all-filtered : length flags ≤ i → Size written ≡ measured s b (firstKept s b from flags) (flagCommands s flags)
   all-filtered done = all-passed (f .passed) (rest-none s flags q done)
 
-pub counts-most : (flag wide : ℕ) {n : ℕ} → n ≡ counts flag wide → n ≤ wide
-unfolding counts
+pub counts-most : (flag wide : ℕ) {n : ℕ} → n ≡ flagLen flag wide → n ≤ wide
+unfolding flagLen
 counts-most flag wide is =
     true-or-false (eqb flag 0)
     (λ t. let z : cond (eqb flag 0) 0 wide ≡ 0 = rw t in omega (arith, is, z))

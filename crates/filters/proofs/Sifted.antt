@@ -12,16 +12,16 @@ use Rattle.buffers.proofs.Cases.{le-or-lt, true-or-false}
 use Rattle.utf8.specs.Formed.{announced, wellFormed, boundary}
 use Rattle.utf8.specs.Scalar.{bytesOf}
 use Rattle.utf8.proofs.Boundaries.{char-at, boundary-zero}
-use Rattle.script.specs.Scripts.{sizeOf}
+use Rattle.utf8.specs.Scalar.{lenUtf8}
 use Rattle.code_point_blocks.specs.Codes.{textOf}
-use Rattle.letter_columns.specs.Spreading.{ofLetters, spread}
-use Rattle.letter_columns.proofs.Letters.{letter-at}
+use Rattle.map_columns.specs.Spreading.{ofChars, spread}
+use Rattle.map_columns.proofs.Chars.{of-chars-at}
 use Rattle.edits.specs.Characters.{codeAt, codesOf}
 use Rattle.edits.specs.Plain.{sifted}
 use Rattle.edits.proofs.Characters.{code-bytes, codes-none, codes-cons}
-use Rattle.edits.proofs.Sifted.{code-size, codes-letters}
-use Rattle.kept_letters.specs.Chosen.{chosen, FlagEach}
-use Rattle.kept_letters.proofs.Chosen.{chosen-end, char-chosen}
+use Rattle.edits.proofs.Sifted.{code-size, codes-chars}
+use Rattle.filter_blocks.specs.Chosen.{chosen, FlagEach}
+use Rattle.filter_blocks.proofs.Chosen.{chosen-end, char-chosen}
 use Rattle.filters.specs.Flags.{OneValue}
 
 -- one flag, of a text and of a column
@@ -29,7 +29,7 @@ text-cons : (k c : ℕ) (ks cs : List ℕ) → textOf (sifted (k ∷ ks) (c ∷ 
 unfolding textOf sifted
 text-cons k c ks cs = true-or-false (eqb k 0) (λ t. rw t) (λ f. rw f)
 
-spread-cons : (k c x : ℕ) (ks cs xs : List ℕ) → spread (sifted (k ∷ ks) (c ∷ cs)) (sifted (k ∷ ks) (x ∷ xs)) ≡ cond (eqb k 0) [] (replicate (sizeOf c) x) ++ spread (sifted ks cs) (sifted ks xs)
+spread-cons : (k c x : ℕ) (ks cs xs : List ℕ) → spread (sifted (k ∷ ks) (c ∷ cs)) (sifted (k ∷ ks) (x ∷ xs)) ≡ cond (eqb k 0) [] (replicate (lenUtf8 c) x) ++ spread (sifted ks cs) (sifted ks xs)
 unfolding spread sifted
 spread-cons k c x ks cs xs = true-or-false (eqb k 0) (λ t. rw t) (λ f. rw f)
 
@@ -56,11 +56,11 @@ codes-left s q i formed here h left =
     omega (arith, less)
 
 module _ {s flags : List ℕ} (f : FlagEach s flags) (xs : List ℕ) (same : length xs ≡ length s) (one : OneValue s xs) where
-  both-from : (fuel q i : ℕ) → boundary s q ≡ true → length (codesOf (drop q s)) + i ≡ length flags → length flags ≤ i + fuel → (textOf (sifted (drop i flags) (codesOf (drop q s))) ≡ chosen flags i (drop q s) (drop q s)) × (spread (sifted (drop i flags) (codesOf (drop q s))) (sifted (drop i flags) (ofLetters (drop q s) (drop q xs))) ≡ chosen flags i (drop q s) (drop q xs))
+  both-from : (fuel q i : ℕ) → boundary s q ≡ true → length (codesOf (drop q s)) + i ≡ length flags → length flags ≤ i + fuel → (textOf (sifted (drop i flags) (codesOf (drop q s))) ≡ chosen flags i (drop q s) (drop q s)) × (spread (sifted (drop i flags) (codesOf (drop q s))) (sifted (drop i flags) (ofChars (drop q s) (drop q xs))) ≡ chosen flags i (drop q s) (drop q xs))
   both-from zero q i here left far =
       let done : length flags ≤ i = omega arith in
       let past : length s ≤ q = le-or-lt (length s) q (λ p. p) (λ less. absurd (omega (arith, codes-left s q i (f .formed) here less left))) in
-      rw (drop-of-length-le flags done, chosen-end flags i s s q past, chosen-end flags i s xs q past) (text-none (codesOf (drop q s)), spread-none (codesOf (drop q s)) (sifted [] (ofLetters (drop q s) (drop q xs))))
+      rw (drop-of-length-le flags done, chosen-end flags i s s q past, chosen-end flags i s xs q past) (text-none (codesOf (drop q s)), spread-none (codesOf (drop q s)) (sifted [] (ofChars (drop q s) (drop q xs))))
   both-from (suc fuel) q i here left far =
       le-or-lt (length flags) i
       (λ done. both-from fuel q i here left (omega arith))
@@ -68,10 +68,10 @@ module _ {s flags : List ℕ} (f : FlagEach s flags) (xs : List ℕ) (same : len
       let h : q < length s = char-left s q i left more in
       let w : ℕ = announced (getD s q 0) in
       let rest = both-from fuel (q + w) (i + 1) (char-at s q (f .formed) here h .ends) (codes-left s q i (f .formed) here h left) (omega arith) in
-      rw (flag-cons flags i more, codes-cons s q (f .formed) here h, letter-at s xs same q (f .formed) here h) (
+      rw (flag-cons flags i more, codes-cons s q (f .formed) here h, of-chars-at s xs same q (f .formed) here h) (
         text-cons (getD flags i 0) (codeAt s q) (drop (i + 1) flags) (codesOf (drop (q + w) s)) ∙ rw (code-bytes s q (f .formed) here h, rest .0) (sym (char-chosen s s flags refl q i (f .formed) here h)),
-        spread-cons (getD flags i 0) (codeAt s q) (getD xs q 0) (drop (i + 1) flags) (codesOf (drop (q + w) s)) (ofLetters (drop (q + w) s) (drop (q + w) xs)) ∙ rw (code-size s q (f .formed) here h, one q here h, rest .1) (sym (char-chosen s xs flags same q i (f .formed) here h)),
+        spread-cons (getD flags i 0) (codeAt s q) (getD xs q 0) (drop (i + 1) flags) (codesOf (drop (q + w) s)) (ofChars (drop (q + w) s) (drop (q + w) xs)) ∙ rw (code-size s q (f .formed) here h, one q here h, rest .1) (sym (char-chosen s xs flags same q i (f .formed) here h)),
       ))
 
-  pub both-chosen : (textOf (sifted flags (codesOf s)) ≡ chosen flags 0 s s) × (spread (sifted flags (codesOf s)) (sifted flags (ofLetters s xs)) ≡ chosen flags 0 s xs)
-  both-chosen = both-from (length flags) 0 0 (boundary-zero s (f .formed)) (omega (arith, codes-letters s, f .counted)) (omega arith)
+  pub both-chosen : (textOf (sifted flags (codesOf s)) ≡ chosen flags 0 s s) × (spread (sifted flags (codesOf s)) (sifted flags (ofChars s xs)) ≡ chosen flags 0 s xs)
+  both-chosen = both-from (length flags) 0 0 (boundary-zero s (f .formed)) (omega (arith, codes-chars s, f .counted)) (omega arith)

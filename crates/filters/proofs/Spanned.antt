@@ -10,8 +10,8 @@ use lib.ListN.{length, drop, drop-of-length-le}
 use borrow.Author.Tests.{eqb-true, leb-true}
 use Rattle.buffers.specs.Splice.{part, splice, overlay}
 use Rattle.buffers.proofs.Splice.{part-end, splice-overlay}
-use Rattle.utf8.specs.Letters.{letters, leads}
-use Rattle.utf8.proofs.Letters.{letters-leads}
+use Rattle.utf8.specs.Chars.{chars, leads}
+use Rattle.utf8.proofs.Chars.{chars-leads}
 use Rattle.utf8.proofs.Boundaries.{boundary-zero, boundary-length}
 use Rattle.note.specs.declared.Verdict.{Verdict}
 use Rattle.note.specs.declared.Verdict.the-variants.{Accepted}
@@ -19,29 +19,30 @@ use Rattle.note.specs.Refusals.{least, verdict}
 use Rattle.note.specs.Notes.{Note, lent, Sound}
 use Rattle.note.specs.Faults.{noteFaults}
 use Rattle.note.proofs.Faults.{accepted-sound}
-use Rattle.edit_steps.specs.Edits.{skipped, characters, carried, starved, Edit, placed, begins, relaid, edited, transformed}
-use Rattle.edit_steps.specs.Laying.{KeepRoom, Kept}
+use Rattle.utf8.specs.Formed.{charRange}
+use Rattle.edit_steps.specs.Edits.{skipped, characters, carriedValues, starved, Edit, firstPosition, relaid, edited, transformed}
+use Rattle.buffers.specs.Keeping.{KeepRoom, PartKept}
 use Rattle.edit_steps.specs.Walking.{Standing}
 use Rattle.transform.specs.declared.Editing.the-variants.{Edited}
 use Rattle.transform.specs.Transforming.{editFaults, Rewritten}
 use Rattle.transform.proofs.Verdicts.{small-enough, accepted-rewritten, note-editable}
 use Rattle.code_point_blocks.specs.Codes.{textOf}
-use Rattle.letter_columns.specs.Spreading.{ofLetters, spread}
+use Rattle.map_columns.specs.Spreading.{ofChars, spread}
 use Rattle.edits.specs.Characters.{codesOf}
 use Rattle.edits.specs.Whole.{droppedAhead, anyKept}
 use Rattle.edits.specs.Plain.{sifted}
 use Rattle.edits.proofs.Head.{is-placed}
 use Rattle.edits.proofs.Shares.{starts-part, ends-part}
-use Rattle.edits.proofs.Sifted.{given-sifted, starved-sifted, column-sifted, codes-letters}
-use Rattle.filters.specs.Flags.{skips, begun, kept, flagEdit, FlagsRewritten, OneValue, RangeReady}
-use Rattle.kept_letters.specs.Chosen.{chosen, EachKept, FlagEach, KeptEnd, KeptRoom, KeptLaid, spans}
+use Rattle.edits.proofs.Sifted.{given-sifted, starved-sifted, column-sifted, codes-chars}
+use Rattle.filters.specs.Flags.{skips, firstKept, flagCommands, flagEdit, FlagsRewritten, OneValue, RangeReady}
+use Rattle.filter_blocks.specs.Chosen.{chosen, EachKept, FlagEach, KeptEnd, KeptRoom, KeptLaid, isWhole}
 use Rattle.filters.proofs.Kept.{begun-starved, begun-given}
-use Rattle.kept_letters.proofs.Chosen.{chosen-most}
-use Rattle.kept_letters.proofs.Whole.{all-chosen}
+use Rattle.filter_blocks.proofs.Chosen.{chosen-most}
+use Rattle.filter_blocks.proofs.Whole.{all-chosen}
 use Rattle.filters.proofs.Sifted.{both-chosen}
 
 -- what an accepted note gives
-pub range-ready : (most : ℕ) (n : Note) (flags : List ℕ) {v : Verdict} → v ≡ verdict (noteFaults most n) → v ≡ Accepted → length flags ≡ letters (n .normalized) → RangeReady (n .normalized) (n .starts) (n .ends) flags
+pub range-ready : (most : ℕ) (n : Note) (flags : List ℕ) {v : Verdict} → v ≡ verdict (noteFaults most n) → v ≡ Accepted → length flags ≡ chars (n .normalized) → RangeReady (n .normalized) (n .starts) (n .ends) flags
 range-ready most n flags noted ok counted =
     let sound : Sound n = accepted-sound most n (sym noted ∙ ok) .0 in
     record {
@@ -62,38 +63,38 @@ module _ {s starts ends flags : List ℕ} (r : RangeReady s starts ends flags) w
   standing = record { formed = r .editable .formed; ends = boundary-length s; stands = boundary-zero s (r .editable .formed); most = omega arith }
 
   coded : length (codesOf s) ≡ length flags
-  coded = codes-letters s ∙ sym (r .counted)
+  coded = codes-chars s ∙ sym (r .counted)
 
   unkept : anyKept (drop (leads (drop 0 s)) flags) ≡ false
   unfolding anyKept
   unkept =
-      let past : length flags ≤ leads (drop 0 s) = omega (arith, r .counted, letters-leads s (r .editable .formed)) in
+      let past : length flags ≤ leads (drop 0 s) = omega (arith, r .counted, chars-leads s (r .editable .formed)) in
       rw (drop-of-length-le flags past)
 
-  is-fed : starved s (length s) (begins s e) (kept s flags) ≡ false
-  unfolding e begins begun kept
+  is-fed : starved s (length s) (firstPosition s e) (flagCommands s flags) ≡ false
+  unfolding e firstPosition firstKept flagCommands
   is-fed = begun-starved s (length s) 0 flags ∙ starved-sifted s (codesOf s) flags 0 standing coded ∙ unkept
 
-  lies : placed s 0 (length s) ≡ true
+  lies : charRange s 0 (length s) ≡ true
   lies = is-placed s 0 (length s) (omega arith) (boundary-zero s (r .editable .formed)) (boundary-length s)
 
   text-made : edited characters s e s ≡ chosen flags 0 s s
-  unfolding e edited relaid begins begun kept
+  unfolding e edited relaid firstPosition firstKept flagCommands
   text-made =
       let past : length s ≤ length s = omega arith in
       rw (begun-given s (length s) 0 flags characters, given-sifted s (length s) (skipped s (length s) (droppedAhead flags) 0) (codesOf s) flags, drop-of-length-le s past, append-nil (textOf (sifted flags (codesOf s))))
       (both-chosen flag-each starts (r .editable .one-start) (r .one-start) .0)
 
-  column-made : (xs : List ℕ) → length xs ≡ length s → OneValue s xs → edited (carried xs) s e xs ≡ chosen flags 0 s xs
-  unfolding e edited relaid begins begun kept
+  column-made : (xs : List ℕ) → length xs ≡ length s → OneValue s xs → edited (carriedValues xs) s e xs ≡ chosen flags 0 s xs
+  unfolding e edited relaid firstPosition firstKept flagCommands
   column-made xs same one =
       let past : length xs ≤ length s = omega arith in
-      rw (begun-given s (length s) 0 flags (carried xs), column-sifted s xs same (codesOf s) flags 0 standing coded unkept, drop-of-length-le xs past, append-nil (spread (sifted flags (codesOf s)) (sifted flags (ofLetters s xs))))
+      rw (begun-given s (length s) 0 flags (carriedValues xs), column-sifted s xs same (codesOf s) flags 0 standing coded unkept, drop-of-length-le xs past, append-nil (spread (sifted flags (codesOf s)) (sifted flags (ofChars s xs))))
       (both-chosen flag-each xs same one .1)
 
-  module _ (most : ℕ) (from to : ℕ) (out₀ starts₀ ends₀ : List ℕ) {low : ℕ} (lowest : low ≡ least (length out₀) (length starts₀) (length ends₀)) {t : Bool} (is : t ≡ spans most from to (length s) low) (yes : t ≡ true) where
+  module _ (most : ℕ) (from to : ℕ) (out₀ starts₀ ends₀ : List ℕ) {low : ℕ} (lowest : low ≡ least (length out₀) (length starts₀) (length ends₀)) {t : Bool} (is : t ≡ isWhole most from to (length s) low) (yes : t ≡ true) where
     all : (eqb from 0 && eqb to (length s) && leb (length s) most && leb (length s) low) ≡ true
-    unfolding spans
+    unfolding isWhole
     all = sym is ∙ yes
 
     three : (eqb from 0 && eqb to (length s) && leb (length s) most) ≡ true
@@ -151,7 +152,7 @@ module _ {s starts ends flags : List ℕ} (r : RangeReady s starts ends flags) w
 
 -- a filter that keeps all copies all
 module _ {s flags : List ℕ} (f : FlagEach s flags) (each : EachKept flags) where
-  module _ {starts ends out₀ starts₀ ends₀ out starts₁ ends₁ : List ℕ} (one-start : length starts ≡ length s) (one-end : length ends ≡ length s) (k : Kept s starts ends 0 (length s) out₀ starts₀ ends₀ 0 out starts₁ ends₁) where
+  module _ {starts ends out₀ starts₀ ends₀ out starts₁ ends₁ : List ℕ} (one-start : length starts ≡ length s) (one-end : length ends ≡ length s) (k : PartKept s starts ends 0 (length s) out₀ starts₀ ends₀ 0 out starts₁ ends₁) where
     column-copied : (xs d₀ d : List ℕ) → length xs ≡ length s → d ≡ splice d₀ 0 (part xs 0 (length s)) → d ≡ overlay (chosen flags 0 s xs) d₀
     column-copied xs d₀ d same is = is ∙ rw (← same, part-end xs 0) (splice-overlay d₀ xs) ∙ ap (λ (x : List ℕ). overlay x d₀) (sym (all-chosen f each xs same))
 

@@ -7,7 +7,7 @@ use lib.Dec.{leb, eqb}
 use lib.ListN.{length, getD, replicate}
 use Rattle.buffers.specs.Splice.{part, splice}
 use Rattle.utf8.specs.Formed.{announced, boundary}
-use Rattle.utf8.specs.Letters.{letters}
+use Rattle.utf8.specs.Chars.{chars}
 use Rattle.note.specs.Notes.{lent}
 use Rattle.note.specs.Refusals.{least, verdict}
 use Rattle.script.specs.declared.Command.{Command}
@@ -23,16 +23,16 @@ use Rattle.edits.specs.Whole.{droppedAhead, anyKept, keptCommands}
 unfoldable pub skips : List ℕ → ℕ
 skips flags = cond (anyKept flags) (droppedAhead flags) 0
 
-unfoldable pub begun : List ℕ → ℕ → ℕ → List ℕ → ℕ
-begun s b from flags = skipped s b (skips flags) from
+unfoldable pub firstKept : List ℕ → ℕ → ℕ → List ℕ → ℕ
+firstKept s b from flags = skipped s b (skips flags) from
 
 -- the commands of the flags beside a text
-unfoldable pub kept : List ℕ → List ℕ → List Command
-kept s flags = keptCommands (codesOf s) flags
+unfoldable pub flagCommands : List ℕ → List ℕ → List Command
+flagCommands s flags = keptCommands (codesOf s) flags
 
 -- the edit of a range by flags, and what is left in the lent buffers of a note whose range is so edited
 abbrev pub flagEdit : List ℕ → ℕ → ℕ → List ℕ → Edit
-flagEdit s from to flags = record { from = from; to = to; skip = skips flags; commands = kept s flags }
+flagEdit s from to flags = record { from = from; to = to; skip = skips flags; commands = flagCommands s flags }
 
 abbrev pub FlagsRewritten : ℕ → List ℕ → List ℕ → List ℕ → Edit → List ℕ → List ℕ → List ℕ → Editing
     → List ℕ → List ℕ → List ℕ → Type 0
@@ -41,17 +41,17 @@ FlagsRewritten most s starts ends e out₀ starts₀ ends₀ =
     (transformed (lent [] s starts ends 0) e) out₀ starts₀ ends₀
 
 -- a flag that keeps its character finds no character left at the position
-unfoldable pub wants : ℕ → ℕ → ℕ → Bool
-wants flag b p = not (eqb flag 0) && leb b p
+unfoldable pub flagStarves : ℕ → ℕ → ℕ → Bool
+flagStarves flag b p = not (eqb flag 0) && leb b p
 
 -- how many bytes a flag keeps of so many
-unfoldable pub counts : ℕ → ℕ → ℕ
-counts flag wide = cond (eqb flag 0) 0 wide
+unfoldable pub flagLen : ℕ → ℕ → ℕ
+flagLen flag wide = cond (eqb flag 0) 0 wide
 
 -- a flag for each character of a text, and the range's first position
 pub record FlagsReady (s : List ℕ) (b from : ℕ) (flags table : List ℕ) : Type 0 where
   pub tabled : Tabled s b from table
-  pub counted : length flags ≡ letters s
+  pub counted : length flags ≡ chars s
 
 -- a character's bytes from q on, a position whose alignment they take, and room for them
 pub record FlagRoom (flag : ℕ) (s starts ends : List ℕ) (q wide p : ℕ) (out starts₀ ends₀ : List ℕ) (at : ℕ)
@@ -59,26 +59,26 @@ pub record FlagRoom (flag : ℕ) (s starts ends : List ℕ) (q wide p : ℕ) (ou
   pub inside : q + wide ≤ length s
   pub start-found : eqb flag 0 ≡ false → p < length starts
   pub end-found : eqb flag 0 ≡ false → p < length ends
-  pub text-room : at + counts flag wide ≤ length out
-  pub starts-room : at + counts flag wide ≤ length starts₀
-  pub ends-room : at + counts flag wide ≤ length ends₀
+  pub text-room : at + flagLen flag wide ≤ length out
+  pub starts-room : at + flagLen flag wide ≤ length starts₀
+  pub ends-room : at + flagLen flag wide ≤ length ends₀
 
 pub record FlagLaid (flag : ℕ) (s starts ends : List ℕ) (q wide p : ℕ) (out₀ starts₀ ends₀ : List ℕ) (at r : ℕ)
     (out starts₁ ends₁ : List ℕ) : Type 0 where
-  pub reached : r ≡ at + counts flag wide
+  pub reached : r ≡ at + flagLen flag wide
   pub text-is : out ≡ splice out₀ at (cond (eqb flag 0) [] (part s q (q + wide)))
   pub starts-are : starts₁ ≡ splice starts₀ at (cond (eqb flag 0) [] (replicate wide (getD starts p 0)))
   pub ends-are : ends₁ ≡ splice ends₀ at (cond (eqb flag 0) [] (replicate wide (getD ends p 0)))
 
--- flags none of which wants a character that is not left, and room for what they keep
+-- flags none of which flagStarves a character that is not left, and room for what they keep
 pub record FlagsRoom (s starts ends : List ℕ) (b from : ℕ) (flags table out starts₀ ends₀ : List ℕ) (at : ℕ)
     : Type 0 where
   pub ready : FlagsReady s b from flags table
-  pub rooms : CommandsRoom s starts ends b (begun s b from flags) (kept s flags) table out starts₀ ends₀ at
+  pub rooms : CommandsRoom s starts ends b (firstKept s b from flags) (flagCommands s flags) table out starts₀ ends₀ at
 
 pub record FilterRoom (s starts ends : List ℕ) (a b : ℕ) (flags table out starts₀ ends₀ : List ℕ) : Type 0 where
   pub ready : FlagsReady s b a flags table
-  pub rooms : EditRoom s starts ends a b (begun s b a flags) (kept s flags) table out starts₀ ends₀
+  pub rooms : EditRoom s starts ends a b (firstKept s b a flags) (flagCommands s flags) table out starts₀ ends₀
 
 -- the bytes of each character carry one value of a column
 abbrev pub OneValue : List ℕ → List ℕ → Type 0
@@ -88,6 +88,6 @@ OneValue s xs =
 
 pub record RangeReady (s starts ends flags : List ℕ) : Type 0 where
   pub editable : Editable s starts ends
-  pub counted : length flags ≡ letters s
+  pub counted : length flags ≡ chars s
   pub one-start : OneValue s starts
   pub one-end : OneValue s ends

@@ -9,27 +9,27 @@ use convert::Converted;
 use convert::Range;
 use convert::end_of;
 use convert::start_of;
-use edit_steps::laying::keep;
+use buffers::parts::keep;
 use edit_steps::walking::Extent;
 use edit_steps::walking::skip;
-use get_range::as_normalized;
-use kept_letters::all_kept;
-use kept_letters::kept_end;
-use kept_letters::lay_chosen;
-use kept_letters::spans;
+use convert::as_normalized;
+use filter_blocks::all_kept;
+use filter_blocks::kept_end;
+use filter_blocks::lay_kept;
+use filter_blocks::is_whole;
 use note::LIMIT;
 use note::OriginalByte;
 use note::Refusal;
 use note::Verdict;
 use transform::Editing;
 use transform::edit;
-use transform::placed;
+use utf8::is_char_range;
 use utf8::count::count_leads;
 use utf8::lead::char_len;
 use utf8::lead::lengths;
 ghost use mathlib.Core.Path.{_≡_};
 ghost use lib.ListN.{length};
-ghost use Rattle.utf8.specs.Letters.{letters};
+ghost use Rattle.utf8.specs.Chars.{chars};
 ghost use Rattle.note.specs.Notes.{lent, limit};
 ghost use Rattle.note.specs.Refusals.{least, verdict};
 ghost use Rattle.edit_steps.specs.Edits.{transformed};
@@ -37,12 +37,12 @@ ghost use Rattle.edit_steps.specs.Laying.{CommandsLaid, Editable, EditLaid};
 ghost use Rattle.transform.specs.Transforming.{Rewritten};
 ghost use Rattle.edit_steps.specs.Walking.{measured};
 ghost use Rattle.edits.specs.Whole.{filterEdit, filterFaults};
-ghost use Rattle.filters.specs.Flags.{begun, counts, FilterRoom, flagEdit, FlagLaid, FlagRoom, FlagsReady};
-ghost use Rattle.filters.specs.Flags.{FlagsRewritten, FlagsRoom, kept, RangeReady, wants};
+ghost use Rattle.filters.specs.Flags.{firstKept, flagLen, FilterRoom, flagEdit, FlagLaid, FlagRoom, FlagsReady};
+ghost use Rattle.filters.specs.Flags.{FlagsRewritten, FlagsRoom, flagCommands, RangeReady, flagStarves};
 
 // Whether a flag keeps its character though none is left at the position.
-fn wants(flag: u8, to: usize, position: usize) -> bool
-    ensures { λ r. ⌜ r ≡ wants flag to position ⌝ }
+fn flag_starves(flag: u8, to: usize, position: usize) -> bool
+    ensures { λ r. ⌜ r ≡ flagStarves flag to position ⌝ }
 {
     if flag == 0 {
         return false;
@@ -51,8 +51,8 @@ fn wants(flag: u8, to: usize, position: usize) -> bool
 }
 
 // How many bytes a flag keeps of so many.
-fn counts(flag: u8, wide: usize) -> usize
-    ensures { λ r. ⌜ r ≡ counts flag wide ⌝ }
+fn flag_len(flag: u8, wide: usize) -> usize
+    ensures { λ r. ⌜ r ≡ flagLen flag wide ⌝ }
 {
     if flag == 0 {
         return 0;
@@ -63,8 +63,8 @@ fn counts(flag: u8, wide: usize) -> usize
 // The text's characters and the range's go by together, one for each flag.
 fn measure_flags(text: &[u8], to: usize, from: usize, flags: &[u8], table: &[u8; 256]) -> Extent
     requires { ⌜ FlagsReady (now text) to from (now flags) (now table) ⌝ }
-    ensures { λ r. ⌜ r ≡ measured (now (text .entry)) to (begun (now (text .entry)) to from (now (flags .entry)))
-        (kept (now (text .entry)) (now (flags .entry))) ⌝ }
+    ensures { λ r. ⌜ r ≡ measured (now (text .entry)) to (firstKept (now (text .entry)) to from (now (flags .entry)))
+        (flagCommands (now (text .entry)) (now (flags .entry))) ⌝ }
 {
     let mut q = 0;
     let mut p = from;
@@ -72,10 +72,10 @@ fn measure_flags(text: &[u8], to: usize, from: usize, flags: &[u8], table: &[u8;
     let mut i = 0;
     while i < flags.len() {
         let wide = char_len(text, q, table);
-        if wants(flags[i], to, p) {
+        if flag_starves(flags[i], to, p) {
             return Extent::Starved;
         }
-        written += counts(flags[i], wide);
+        written += flag_len(flags[i], wide);
         p = skip(text, to, 1, p, table);
         q += wide;
         i += 1;
@@ -130,7 +130,7 @@ fn lay_flags(
     requires { ⌜ FlagsRoom (now text) (now starts) (now ends) to from (now flags) (now table)
         (now out) (now «out_starts») (now «out_ends») at ⌝ }
     ensures { λ r. ⌜ CommandsLaid (now (text .entry)) (now (starts .entry)) (now (ends .entry)) to
-        (begun (now (text .entry)) to from (now (flags .entry))) (kept (now (text .entry)) (now (flags .entry)))
+        (firstKept (now (text .entry)) to from (now (flags .entry))) (flagCommands (now (text .entry)) (now (flags .entry)))
         (now (out .entry)) (now («out_starts» .entry)) (now («out_ends» .entry)) at
         r (now (out .exit)) (now («out_starts» .exit)) (now («out_ends» .exit)) ⌝ }
 {
@@ -176,7 +176,7 @@ fn lay_filtered(
     requires { ⌜ FilterRoom (now text) (now starts) (now ends) from to (now flags) (now table)
         (now out) (now «out_starts») (now «out_ends») ⌝ }
     ensures { λ r. ⌜ EditLaid (now (text .entry)) (now (starts .entry)) (now (ends .entry)) from to
-        (begun (now (text .entry)) to from (now (flags .entry))) (kept (now (text .entry)) (now (flags .entry)))
+        (firstKept (now (text .entry)) to from (now (flags .entry))) (flagCommands (now (text .entry)) (now (flags .entry)))
         (now (out .entry)) (now («out_starts» .entry)) (now («out_ends» .entry))
         r (now (out .exit)) (now («out_starts» .exit)) (now («out_ends» .exit)) ⌝ }
 {
@@ -221,13 +221,13 @@ fn edit_flags(
     out_starts: &mut [Offset],
     out_ends: &mut [Offset],
 ) -> Editing
-    requires { ⌜ (Editable (now text) (now starts) (now ends)) × (length (now flags) ≡ letters (now text)) ⌝ }
+    requires { ⌜ (Editable (now text) (now starts) (now ends)) × (length (now flags) ≡ chars (now text)) ⌝ }
     ensures { λ r. ⌜ FlagsRewritten limit (now (text .entry)) (now (starts .entry)) (now (ends .entry))
         (flagEdit (now (text .entry)) from to (now (flags .entry)))
         (now (out .entry)) (now («out_starts» .entry)) (now («out_ends» .entry))
         r (now (out .exit)) (now («out_starts» .exit)) (now («out_ends» .exit)) ⌝ }
 {
-    if !placed(text, from, to) {
+    if !is_char_range(text, from, to) {
         return Editing::Refused(Refusal::NotBoundary);
     }
     let table = lengths();
@@ -281,7 +281,7 @@ fn filter_range(
         r (now (out .exit)) (now («out_starts» .exit)) (now («out_ends» .exit)) ⌝ }
 {
     let room = least_room(out.len(), out_starts.len(), out_ends.len());
-    if spans(from, to, text.len(), room) {
+    if is_whole(from, to, text.len(), room) {
         if all_kept(flags) {
             keep(
                 text,
@@ -297,7 +297,7 @@ fn filter_range(
             return Editing::Edited(text.len());
         }
         let end = kept_end(text, flags);
-        return Editing::Edited(lay_chosen(
+        return Editing::Edited(lay_kept(
             text,
             starts,
             ends,

@@ -11,13 +11,14 @@ use Rattle.buffers.specs.Splice.{overlay, Laid}
 use Rattle.buffers.proofs.Cases.{le-or-lt}
 use Rattle.buffers.proofs.Splice.{Laying, splice-nil, splice-overlay, none-laid, piece-laid, laying-size, all-laid}
 use Rattle.note.specs.declared.Refusal.{Refusal}
-use Rattle.note.specs.declared.Refusal.the-variants.{NoRoom}
+use Rattle.note.specs.declared.Refusal.the-variants.{NoRoom, IllFormed}
 use Rattle.note.specs.declared.Verdict.{Verdict}
 use Rattle.note.specs.declared.Verdict.the-variants.{Accepted, Refused as Rejected}
 use Rattle.note.specs.Refusals.{also, verdict, after}
 use Rattle.note.specs.Notes.{limit}
 use Rattle.note.specs.Faults.{textFaults, stringFaults, roomFaults}
-use Rattle.note.proofs.Verdicts.{refused-then, accepted-then}
+use Rattle.note.specs.Rank.{upTo}
+use Rattle.note.proofs.FirstMet.{refused-then, accepted-then}
 use Rattle.note.proofs.Faults.{no-room, enough-room}
 use Rattle.pattern.specs.declared.Place.{Place}
 use Rattle.pattern.specs.Encoding.{placeBytes, encodedPlaces, roomFor}
@@ -163,11 +164,11 @@ module _ (most : ℕ) (text literal o : List ℕ) where
 
   module _ {v : Verdict} (e : v ≡ verdict (also (textFaults most text) (stringFaults literal))) where
     pub input-refused : {k : Refusal} → v ≡ Rejected k → Finding most text literal o (Refused k) o
-    input-refused is = finding (refused-then 3 (also (textFaults most text) (stringFaults literal)) (roomFaults (length (foundBytes text literal)) (length o)) refl refl e is)
+    input-refused is = finding (refused-then (upTo IllFormed) (also (textFaults most text) (stringFaults literal)) (roomFaults (length (foundBytes text literal)) (length o)) refl refl e is)
 
     module _ (is : v ≡ Accepted) {fits : Bool} (room : fits ≡ leb (length (foundBytes text literal)) (length o)) where
       then-room : {w : Verdict} → w ≡ verdict (roomFaults (length (foundBytes text literal)) (length o)) → w ≡ verdict (findFaults most text literal (length o))
-      then-room w = accepted-then 3 (also (textFaults most text) (stringFaults literal)) (roomFaults (length (foundBytes text literal)) (length o)) refl refl e is w
+      then-room w = accepted-then (upTo IllFormed) (also (textFaults most text) (stringFaults literal)) (roomFaults (length (foundBytes text literal)) (length o)) refl refl e is w
 
       pub room-refused : not fits ≡ true → Finding most text literal o (Refused NoRoom) o
       room-refused short = finding (then-room (no-room (leb-false (length (foundBytes text literal)) (length o) (sym room ∙ not-true fits short))))

@@ -8,7 +8,7 @@ use checks::check_text;
 use note::NormalizedByte;
 use note::Refusal;
 use note::Verdict;
-use note::answers::earlier;
+use note::verdicts::earlier;
 use pattern::Place;
 use pattern::writing::room_for;
 use pattern::writing::write_place;

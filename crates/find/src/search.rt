@@ -3,9 +3,11 @@
 // passed until there is one; fewer than 64 are tried one by one. The worst case is the text's length times the
 // literal's, where they nearly match everywhere: a literal a..aba..a in a text a..a.
 use buffers::equality::same_bytes;
+use buffers::lanes::max_u8;
+use buffers::lanes::select_or_zero_u8;
 ghost use mathlib.Core.Path.{_≡_};
-ghost use mathlib.Core.Bool.{cond, not};
-ghost use Prim.Native.Nat.{_+_, _≤_, _<_, max};
+ghost use mathlib.Core.Bool.{not};
+ghost use Prim.Native.Nat.{_+_, _≤_, _<_};
 ghost use lib.ListN.{length};
 ghost use Rattle.find.specs.Matching.{occursAt, firstFrom};
 ghost use Rattle.find.specs.Searching.{Absent, Candidate, apartBelow, firstMatch};
@@ -21,27 +23,9 @@ pub fn occurs_at(text: &[u8], literal: &[u8], p: usize) -> bool
     same_bytes(&text[p..p + literal.len()], literal)
 }
 
-fn when(hit: bool, v: u8) -> u8
-    ensures { λ r. ⌜ r ≡ cond hit v 0 ⌝ }
-{
-    if hit {
-        return v;
-    }
-    0
-}
-
-fn max(a: u8, b: u8) -> u8
-    ensures { λ r. ⌜ r ≡ max a b ⌝ }
-{
-    if a < b {
-        return b;
-    }
-    a
-}
-
 // The first of 64 indices at which `first` stands in `a` and `last` in `b`, or 64.
 // No branch inside, so that the loop is vectorised; it is told by how many indices are left, since none is then 0.
-pub fn candidate(a: &[u8], b: &[u8], first: u8, last: u8) -> usize
+pub fn first_candidate(a: &[u8], b: &[u8], first: u8, last: u8) -> usize
     requires { ⌜ (64 ≤ length (now a)) × (64 ≤ length (now b)) ⌝ }
     ensures { λ r. ⌜ Candidate (now (a .entry)) (now (b .entry)) first last 64 r ⌝ }
 {
@@ -49,14 +33,14 @@ pub fn candidate(a: &[u8], b: &[u8], first: u8, last: u8) -> usize
     let mut j: u8 = 0;
     while j < 64 {
         let k = j as usize;
-        left = max(left, when((a[k] == first) & (b[k] == last), 64 - j));
+        left = max_u8(left, select_or_zero_u8((a[k] == first) & (b[k] == last), 64 - j));
         j += 1;
     }
     64 - left as usize
 }
 
 // Whether `first` stands in `a` and `last` in `b` at one of 64 indices: less work than to name the first.
-fn beside(a: &[u8], b: &[u8], first: u8, last: u8) -> bool
+fn has_candidate(a: &[u8], b: &[u8], first: u8, last: u8) -> bool
     requires { ⌜ (64 ≤ length (now a)) × (64 ≤ length (now b)) ⌝ }
     ensures { λ r. ⌜ r ≡ not (apartBelow (now (a .entry)) (now (b .entry)) first last 64) ⌝ }
 {
@@ -71,7 +55,7 @@ fn beside(a: &[u8], b: &[u8], first: u8, last: u8) -> bool
 
 // The first of the blocks of 64 positions, from `from` on, that the literal's first and last byte do not shut out; or
 // where fewer than 64 are left.
-fn pass_blocks(text: &[u8], literal: &[u8], from: usize) -> usize
+fn skip_blocks(text: &[u8], literal: &[u8], from: usize) -> usize
     requires { ⌜ (0 < length (now literal)) × (from ≤ length (now text)) ⌝ }
     ensures { λ r. ⌜ Absent (now (text .entry)) (now (literal .entry)) from r ⌝ }
 {
@@ -81,7 +65,7 @@ fn pass_blocks(text: &[u8], literal: &[u8], from: usize) -> usize
     let mut i = from;
     while width + 64 <= text.len() - i {
         let j = i + width;
-        if beside(&text[i..i + 64], &text[j..j + 64], first, last) {
+        if has_candidate(&text[i..i + 64], &text[j..j + 64], first, last) {
             return i;
         }
         i += 64;
@@ -101,11 +85,11 @@ fn next_candidate(text: &[u8], literal: &[u8], from: usize) -> usize
     let mut i = from;
     while width + 64 <= text.len() - i {
         let j = i + width;
-        let k = candidate(&text[i..i + 64], &text[j..j + 64], first, last);
+        let k = first_candidate(&text[i..i + 64], &text[j..j + 64], first, last);
         if k < 64 {
             return i + k;
         }
-        i = pass_blocks(text, literal, i + 64);
+        i = skip_blocks(text, literal, i + 64);
     }
     i
 }

@@ -9,8 +9,9 @@ use Rattle.buffers.specs.Splice.{overlay}
 use Rattle.buffers.specs.Columns.{Filled}
 use Rattle.buffers.proofs.Columns.{none-filled, filled-up, filled-down, filled-as, filled-after, filled-before, all-filled}
 use Rattle.utf8.specs.Formed.{wellFormed, continues}
-use Rattle.note.specs.Starting.{charStart, charEnd, starting}
-use Rattle.note.proofs.Starting.{Ranged, ranged, charStart-continues, charEnd-continues, charEnd-begins}
+use Rattle.utf8.specs.CharRanges.{charStart, charEnd}
+use Rattle.utf8.proofs.CharRanges.{Ranged, ranged, start-carried, end-begun, end-carried}
+use Rattle.note.specs.Starting.{starting}
 
 -- the starts of the first i bytes stand in d, and `start` is the last of them
 pub record StartsTo (s d₀ d : List ℕ) (start i : ℕ) : Type 0 where
@@ -21,10 +22,6 @@ pub record StartsTo (s d₀ d : List ℕ) (start i : ℕ) : Type 0 where
 pub no-starts : (s d : List ℕ) → StartsTo s d d 0 0
 unfolding charStart
 no-starts s d = record { filled = none-filled (charStart s) d 0; carried = refl; most = omega arith }
-
-pub start-carried : (s : List ℕ) (i : ℕ) → continues (getD s i 0) ≡ true → charStart s i ≡ charStart s (i - 1)
-start-carried s zero e = refl
-start-carried s (suc i) e = let back : suc i - 1 ≡ i = omega arith in rw back (charStart-continues s i e)
 
 pub one-start : {s d₀ d : List ℕ} {start i x : ℕ} → StartsTo s d₀ d start i → i < length s → length s ≤ length d₀ → x ≡ charStart s i → StartsTo s d₀ (set d i x) x (i + 1)
 one-start {s} {d₀} {d} {i = i} {x = x} w more room is =
@@ -48,48 +45,6 @@ no-ends s d p =
       carried = λ some. let r : Ranged s (length s - 1) = ranged s (length s - 1) p (omega arith) in omega arith;
       most = omega arith;
     }
-
--- one byte's range, walked to: its character begins where that of the byte at k does, or ends where the one before k does
-pub record StartBack (s : List ℕ) (i k : ℕ) : Type 0 where
-  pub here : charStart s i ≡ charStart s k
-  pub most : k ≤ i
-
-pub start-step : {s : List ℕ} {i k : ℕ} → StartBack s i k → continues (getD s k 0) ≡ true → StartBack s i (k - 1)
-start-step {s} {i} {k} w e = record { here = w .here ∙ start-carried s k e; most = omega (arith, w .most) }
-
-pub start-first : {s : List ℕ} {i k : ℕ} → StartBack s i k → k ≤ 0 → 0 ≡ charStart s i
-unfolding charStart
-start-first {k = k} w h = let none : k ≡ 0 = omega arith in sym (w .here ∙ rw none)
-
-pub record EndAhead (s : List ℕ) (i k : ℕ) : Type 0 where
-  pub here : charEnd s i ≡ charEnd s (k - 1)
-  pub past : i < k
-  pub most : k ≤ length s
-
-pub end-none : (s : List ℕ) (i : ℕ) → i < length s → EndAhead s i (i + 1)
-end-none s i h = let back : i + 1 - 1 ≡ i = omega arith in record { here = rw back; past = omega arith; most = omega arith }
-
-pub end-last : {s : List ℕ} {i k : ℕ} → wellFormed s ≡ true → EndAhead s i k → length s ≤ k → k ≡ charEnd s i
-end-last {s} {i} {k} p w h = let r : Ranged s (k - 1) = ranged s (k - 1) p (omega (arith, w .past, w .most)) in omega (arith, w .here, w .past, w .most, r .past, r .most)
-
--- the end before a byte that begins a character, and before one that does not
-end-begun : (s : List ℕ) (i : ℕ) → wellFormed s ≡ true → i < length s → continues (getD s i 0) ≡ false → 0 < i → i ≡ charEnd s (i - 1)
-end-begun s zero p h new some = absurd (omega arith)
-end-begun s (suc i) p h new some =
-    let back : suc i - 1 ≡ i = omega arith in
-    rw back (sym (charEnd-begins s i (ranged s i p (omega arith)) new))
-
-end-carried : (s : List ℕ) (i : ℕ) → continues (getD s i 0) ≡ true → 0 < i → charEnd s i ≡ charEnd s (i - 1)
-end-carried s zero more some = absurd (omega arith)
-end-carried s (suc i) more some = let back : suc i - 1 ≡ i = omega arith in rw back (charEnd-continues s i more)
-
-pub end-step : {s : List ℕ} {i k : ℕ} → EndAhead s i k → k < length s → continues (getD s k 0) ≡ true → EndAhead s i (k + 1)
-end-step {s} {i} {k} w h e =
-    let back : k + 1 - 1 ≡ k = omega arith in
-    record { here = rw back (w .here ∙ sym (end-carried s k e (omega (arith, w .past)))); past = omega (arith, w .past); most = omega arith }
-
-pub end-found : {s : List ℕ} {i k : ℕ} → wellFormed s ≡ true → EndAhead s i k → k < length s → continues (getD s k 0) ≡ false → k ≡ charEnd s i
-end-found {s} {i} {k} p w h e = end-begun s k p h e (omega (arith, w .past)) ∙ sym (w .here)
 
 -- a byte's end is written, and the end before it becomes x
 module _ {s d₀ d : List ℕ} {end i : ℕ} (w : EndsFrom s d₀ d end i) (some : 0 < i) (room : length s ≤ length d₀) where

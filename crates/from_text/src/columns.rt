@@ -13,36 +13,8 @@ ghost use Rattle.buffers.specs.Columns.{Filled};
 ghost use Rattle.buffers.specs.Splice.{overlay};
 ghost use Rattle.utf8.specs.Formed.{wellFormed};
 ghost use Rattle.note.specs.Notes.{limit};
-ghost use Rattle.note.specs.Starting.{charStart, charEnd, starting};
-
-// Where the character of the byte at `i` begins, and where it ends.
-pub fn char_start(text: &[u8], i: usize) -> usize
-    requires { ⌜ i < length (now text) ⌝ }
-    ensures { λ r. ⌜ r ≡ charStart (now (text .entry)) i ⌝ }
-{
-    let mut k = i;
-    while 0 < k {
-        if !continues(text[k]) {
-            return k;
-        }
-        k -= 1;
-    }
-    0
-}
-
-pub fn char_end(text: &[u8], i: usize) -> usize
-    requires { ⌜ (wellFormed (now text) ≡ true) × (i < length (now text)) ⌝ }
-    ensures { λ r. ⌜ r ≡ charEnd (now (text .entry)) i ⌝ }
-{
-    let mut k = i + 1;
-    while k < text.len() {
-        if !continues(text[k]) {
-            return k;
-        }
-        k += 1;
-    }
-    k
-}
+ghost use Rattle.utf8.specs.CharRanges.{charStart, charEnd};
+ghost use Rattle.note.specs.Starting.{starting};
 
 // The starts of the bytes before `to`, carried forwards: a byte that continues a character begins where the one before
 // it does.

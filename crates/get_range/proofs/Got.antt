@@ -1,4 +1,4 @@
--- Laws of `readable`, `got`, `getRange` and `getRangeOriginal`, case by case as the code comes to them.
+-- Laws of `charRange`, `got`, `getRange` and `getRangeOriginal`, case by case as the code comes to them.
 use Prim.Native.Nat.{ℕ, _≤_, _<_}
 use mathlib.Core.Path.{_≡_, _∙_, ap, refl}
 use mathlib.Core.Bool.{Bool, true, false, _&&_}
@@ -24,23 +24,12 @@ use Rattle.convert.specs.declared.Converted.{Converted}
 use Rattle.convert.specs.declared.Converted.the-variants.{Found, Refused}
 use Rattle.convert.specs.Converting.{startOf, endOf, converted}
 use Rattle.convert.proofs.Answered.{MissingOnly, found-or-missing, converted-missing, answered-refused, answered-accepted}
-use Rattle.get_range.specs.Reading.{readable, got, asNormalized, asOriginal, getRange, getRangeOriginal}
-
-pub readable-reversed : (s : List ℕ) (a e : ℕ) → e < a → false ≡ readable s a e
-unfolding readable
-readable-reversed s a e h = rw (lt-leb a e h)
-
-pub readable-both : (s : List ℕ) (a e : ℕ) {x y : Bool} → a ≤ e → x ≡ boundary s a → y ≡ boundary s e → (x && y) ≡ readable s a e
-unfolding readable
-readable-both s a e h p q = rw (p, q, le-leb a e h)
-
-pub readable-inside : (s : List ℕ) (a e : ℕ) → readable s a e ≡ true → (a ≤ e) × (e ≤ length s)
-unfolding readable
-readable-inside s a e r =
-    (leb-true a e (and-elim-left _ (boundary s a && boundary s e) r), boundary-most s e (and-elim-right (boundary s a) _ (and-elim-right (leb a e) _ r)))
+use Rattle.convert.specs.Converting.{asNormalized, asOriginal}
+use Rattle.utf8.specs.Formed.{charRange}
+use Rattle.get_range.specs.Reading.{got, getRange, getRangeOriginal}
 
 module _ (s : List ℕ) {answer : Converted} where
-  module _ {range : Range} {a e : ℕ} {t : Bool} (is : answer ≡ Found range) (p : a ≡ startOf range) (q : e ≡ endOf range) (r : t ≡ readable s a e) where
+  module _ {range : Range} {a e : ℕ} {t : Bool} (is : answer ≡ Found range) (p : a ≡ startOf range) (q : e ≡ endOf range) (r : t ≡ charRange s a e) where
     pub got-found : t ≡ true → Found range ≡ got s answer
     unfolding got
     got-found y = rw (is, ← p, ← q, ← r, y)
@@ -53,28 +42,10 @@ module _ (s : List ℕ) {answer : Converted} where
   unfolding got
   got-refused is = rw is
 
--- a range in the text that is read
-module _ (starts ends : List ℕ) {range : Range} where
-  pub asNormalized-other : {a b : OriginalByte} {r : Converted} → range ≡ Original a b → r ≡ converted starts ends range → r ≡ asNormalized starts ends range
-  unfolding asNormalized
-  asNormalized-other is e = rw is at e ∙ rw is refl
-
-  pub asNormalized-own : {a b : NormalizedByte} → range ≡ Normalized a b → Found range ≡ asNormalized starts ends range
-  unfolding asNormalized
-  asNormalized-own is = rw is
-
-  pub asOriginal-other : {a b : NormalizedByte} {r : Converted} → range ≡ Normalized a b → r ≡ converted starts ends range → r ≡ asOriginal starts ends range
-  unfolding asOriginal
-  asOriginal-other is e = rw is at e ∙ rw is refl
-
-  pub asOriginal-own : {a b : OriginalByte} → range ≡ Original a b → Found range ≡ asOriginal starts ends range
-  unfolding asOriginal
-  asOriginal-own is = rw is
-
 -- no refusal but `Missing`
 got-missing : (s : List ℕ) (answer : Converted) → MissingOnly answer → MissingOnly (got s answer)
 unfolding got
-got-missing s (Found range) only = found-or-missing (readable s (startOf range) (endOf range)) range
+got-missing s (Found range) only = found-or-missing (charRange s (startOf range) (endOf range)) range
 got-missing s (Refused k) only = only
 
 pub asNormalized-missing : (starts ends : List ℕ) (range : Range) → MissingOnly (asNormalized starts ends range)

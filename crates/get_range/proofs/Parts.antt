@@ -6,19 +6,21 @@ use mathlib.Core.List.{List, []}
 use lib.ListN.{length, take, drop}
 use borrow.Author.Tests.{not-false}
 use Rattle.note.specs.declared.Refusal.{Refusal}
-use Rattle.note.specs.declared.Refusal.the-variants.{Missing}
+use Rattle.note.specs.declared.Refusal.the-variants.{Missing, IllFormed}
 use Rattle.note.specs.declared.Verdict.{Verdict}
 use Rattle.note.specs.declared.Verdict.the-variants.{Accepted, Refused}
 use Rattle.note.specs.Refusals.{also, verdict}
 use Rattle.note.specs.Rank.{earlier}
 use Rattle.note.specs.Faults.{textFaults}
-use Rattle.note.proofs.Verdicts.{accepted-meets, refused-then, accepted-then, earlier-of}
+use Rattle.note.specs.Rank.{upTo}
+use Rattle.note.proofs.FirstMet.{accepted-meets, refused-then, accepted-then, earlier-of}
 use Rattle.convert.specs.declared.Range.{Range}
 use Rattle.convert.specs.Converting.{startOf, endOf}
-use Rattle.get_range.specs.Reading.{readable, textOf, readFaults, partFaults, partOf}
-use Rattle.get_range.proofs.Got.{readable-inside}
+use Rattle.utf8.specs.Formed.{charRange}
+use Rattle.get_range.specs.Reading.{namedText, readFaults, partFaults, partOf}
+use Rattle.utf8.proofs.Boundaries.{char-range-inside}
 
-read-verdict : (s : List ℕ) (a e : ℕ) → cond (not (readable s a e)) (Refused Missing) Accepted ≡ verdict (readFaults s a e)
+read-verdict : (s : List ℕ) (a e : ℕ) → cond (not (charRange s a e)) (Refused Missing) Accepted ≡ verdict (readFaults s a e)
 unfolding verdict
 read-verdict s a e = refl
 
@@ -27,17 +29,17 @@ module _ (most : ℕ) (o n : List ℕ) (range : Range) where
   texts = also (textFaults most o) (textFaults most n)
 
   abbrev reads : Refusal → Bool
-  reads = readFaults (textOf o n range) (startOf range) (endOf range)
+  reads = readFaults (namedText o n range) (startOf range) (endOf range)
 
   module _ {v w u : Verdict} (p : v ≡ verdict (textFaults most o)) (q : w ≡ verdict (textFaults most n)) (both : u ≡ earlier v w) where
     pub part-refused : {k : Refusal} → u ≡ Refused k → Refused k ≡ verdict (partFaults most o n range)
     unfolding partFaults
-    part-refused is = refused-then 3 texts reads refl refl (earlier-of (textFaults most o) (textFaults most n) p q both) is
+    part-refused is = refused-then (upTo IllFormed) texts reads refl refl (earlier-of (textFaults most o) (textFaults most n) p q both) is
 
-    pub part-judged : {s : List ℕ} {a e : ℕ} {t : Bool} {r : Verdict} → u ≡ Accepted → s ≡ textOf o n range → a ≡ startOf range → e ≡ endOf range → t ≡ readable s a e → r ≡ cond (not t) (Refused Missing) Accepted → r ≡ verdict (partFaults most o n range)
+    pub part-judged : {s : List ℕ} {a e : ℕ} {t : Bool} {r : Verdict} → u ≡ Accepted → s ≡ namedText o n range → a ≡ startOf range → e ≡ endOf range → t ≡ charRange s a e → r ≡ cond (not t) (Refused Missing) Accepted → r ≡ verdict (partFaults most o n range)
     unfolding partFaults
     part-judged {s} {a} {e} ok at-s at-a at-e is last =
-        accepted-then 3 texts reads refl refl (earlier-of (textFaults most o) (textFaults most n) p q both) ok
+        accepted-then (upTo IllFormed) texts reads refl refl (earlier-of (textFaults most o) (textFaults most n) p q both) ok
         (last ∙ rw (is, ← at-s, ← at-a, ← at-e) (read-verdict s a e))
 
   module _ {v : Verdict} (so : v ≡ verdict (partFaults most o n range)) where
@@ -45,7 +47,7 @@ module _ (most : ℕ) (o n : List ℕ) (range : Range) where
     unfolding partOf
     partOf-refused is = rw (← so, is)
 
-    module _ {s : List ℕ} {a e : ℕ} (ok : v ≡ Accepted) (p : s ≡ textOf o n range) (q : a ≡ startOf range) (r : e ≡ endOf range) where
+    module _ {s : List ℕ} {a e : ℕ} (ok : v ≡ Accepted) (p : s ≡ namedText o n range) (q : a ≡ startOf range) (r : e ≡ endOf range) where
       pub partOf-accepted : take (e - a) (drop a s) ≡ partOf most o n range
       unfolding partOf
       partOf-accepted = rw (← so, ok, p, q, r)
@@ -54,4 +56,4 @@ module _ (most : ℕ) (o n : List ℕ) (range : Range) where
       unfolding partFaults
       accepted-inside =
           rw (p, q, r)
-          (readable-inside _ _ _ (not-false (readable (textOf o n range) (startOf range) (endOf range)) (accepted-meets (partFaults most o n range) (sym so ∙ ok) Missing)))
+          (char-range-inside _ _ _ (not-false (charRange (namedText o n range) (startOf range) (endOf range)) (accepted-meets (partFaults most o n range) (sym so ∙ ok) Missing)))

@@ -4,7 +4,7 @@ use mathlib.Core.Bool.{Bool, cond, _&&_, not}
 use mathlib.Core.List.{List, []}
 use lib.Dec.{leb}
 use Rattle.buffers.specs.Splice.{part}
-use Rattle.utf8.specs.Formed.{boundary}
+use Rattle.utf8.specs.Formed.{boundary, charRange}
 use Rattle.note.specs.declared.Refusal.{Refusal}
 use Rattle.note.specs.declared.Refusal.the-variants.{Missing}
 use Rattle.note.specs.declared.Verdict.{Verdict}
@@ -16,25 +16,12 @@ use Rattle.convert.specs.declared.Range.{Range}
 use Rattle.convert.specs.declared.Range.the-variants.{Original, Normalized}
 use Rattle.convert.specs.declared.Converted.{Converted}
 use Rattle.convert.specs.declared.Converted.the-variants.{Found, Refused}
-use Rattle.convert.specs.Converting.{startOf, endOf, converted, answered}
+use Rattle.convert.specs.Converting.{startOf, endOf, converted, answered, asNormalized, asOriginal}
 
--- RULES 5.1: Rust's `str::get` has a part at a..e
-unfoldable pub readable : List ℕ → ℕ → ℕ → Bool
-readable s a e = leb a e && (boundary s a && boundary s e)
-
--- what `str::get` makes of a range that may have been missed already
+-- RULES 5.1: what `str::get` makes of a range that may have been missed already
 unfoldable pub got : List ℕ → Converted → Converted
-got s (Found range) = cond (readable s (startOf range) (endOf range)) (Found range) (Refused Missing)
+got s (Found range) = cond (charRange s (startOf range) (endOf range)) (Found range) (Refused Missing)
 got s (Refused k) = Refused k
-
--- a range in the text that is read: converted where it is of the other
-unfoldable pub asNormalized : List ℕ → List ℕ → Range → Converted
-asNormalized starts ends (Original a b) = converted starts ends (Original a b)
-asNormalized starts ends (Normalized a b) = Found (Normalized a b)
-
-unfoldable pub asOriginal : List ℕ → List ℕ → Range → Converted
-asOriginal starts ends (Original a b) = Found (Original a b)
-asOriginal starts ends (Normalized a b) = converted starts ends (Normalized a b)
 
 -- RULES 5.2, 5.3: the two calls
 unfoldable pub getRange : ℕ → Note → Range → Converted
@@ -44,17 +31,17 @@ unfoldable pub getRangeOriginal : ℕ → Note → Range → Converted
 getRangeOriginal most n range = answered most n (got (n .original) (asOriginal (n .starts) (n .ends) range))
 
 -- RULES 5.6, of the added reader: both texts are judged, then the range in the one that it names
-abbrev pub textOf : List ℕ → List ℕ → Range → List ℕ
-textOf original normalized (Original a b) = original
-textOf original normalized (Normalized a b) = normalized
+abbrev pub namedText : List ℕ → List ℕ → Range → List ℕ
+namedText original normalized (Original a b) = original
+namedText original normalized (Normalized a b) = normalized
 
 abbrev pub readFaults : List ℕ → ℕ → ℕ → Refusal → Bool
-readFaults s a e = meets Missing (not (readable s a e)) none
+readFaults s a e = meets Missing (not (charRange s a e)) none
 
 unfoldable pub partFaults : ℕ → List ℕ → List ℕ → Range → Refusal → Bool
 partFaults most original normalized range =
     also (also (textFaults most original) (textFaults most normalized))
-    (readFaults (textOf original normalized range) (startOf range) (endOf range))
+    (readFaults (namedText original normalized range) (startOf range) (endOf range))
 
 -- RULES 5.5: the part itself; nothing of that text where the reader is refused
 abbrev pub partUnlessRefused : Verdict → List ℕ → List ℕ
@@ -64,4 +51,4 @@ partUnlessRefused (Rejected k) s = []
 unfoldable pub partOf : ℕ → List ℕ → List ℕ → Range → List ℕ
 partOf most original normalized range =
     partUnlessRefused (verdict (partFaults most original normalized range))
-    (part (textOf original normalized range) (startOf range) (endOf range))
+    (part (namedText original normalized range) (startOf range) (endOf range))

@@ -4,52 +4,20 @@ use checks::check_note;
 use checks::check_text;
 use convert::Converted;
 use convert::Range;
-use convert::convert_checked;
+use convert::as_normalized;
+use convert::as_original;
 use convert::end_of;
 use convert::start_of;
 use note::Refusal;
 use note::Verdict;
-use note::answers::earlier;
-use note::answers::refused_if;
-use utf8::is_char_boundary;
+use note::verdicts::earlier;
+use note::verdicts::refused_if;
+use utf8::is_char_range;
 ghost use mathlib.Core.Path.{_≡_};
 ghost use Rattle.note.specs.Notes.{lent, limit};
 ghost use Rattle.note.specs.Refusals.{verdict};
-ghost use Rattle.convert.specs.Blocks.{Columns};
-ghost use Rattle.get_range.specs.Reading.{asNormalized, asOriginal, getRange, getRangeOriginal, got};
-ghost use Rattle.get_range.specs.Reading.{partFaults, partOf, readable, textOf};
-
-// Whether Rust's `str::get` has a part at start..end.
-pub fn readable(s: &[u8], start: u32, end: u32) -> bool
-    ensures { λ r. ⌜ r ≡ readable (now (s .entry)) start end ⌝ }
-{
-    if end < start {
-        return false;
-    }
-    is_char_boundary(s, start as usize) & is_char_boundary(s, end as usize)
-}
-
-// A range in the cleaned text, and one in the transcript: converted where it is of the other. Inner functions: they ask
-// for the columns that a check leaves.
-pub fn as_normalized(starts: &[Offset], ends: &[Offset], range: Range) -> Converted
-    requires { ⌜ Columns limit (now starts) (now ends) ⌝ }
-    ensures { λ r. ⌜ r ≡ asNormalized (now (starts .entry)) (now (ends .entry)) range ⌝ }
-{
-    match range {
-        Range::Original(_, _) => convert_checked(starts, ends, range),
-        Range::Normalized(_, _) => Converted::Found(range),
-    }
-}
-
-pub fn as_original(starts: &[Offset], ends: &[Offset], range: Range) -> Converted
-    requires { ⌜ Columns limit (now starts) (now ends) ⌝ }
-    ensures { λ r. ⌜ r ≡ asOriginal (now (starts .entry)) (now (ends .entry)) range ⌝ }
-{
-    match range {
-        Range::Original(_, _) => Converted::Found(range),
-        Range::Normalized(_, _) => convert_checked(starts, ends, range),
-    }
-}
+ghost use Rattle.get_range.specs.Reading.{getRange, getRangeOriginal, got};
+ghost use Rattle.get_range.specs.Reading.{partFaults, partOf, namedText};
 
 // What `str::get` makes of a converted range.
 fn get(s: &[u8], answer: Converted) -> Converted
@@ -57,7 +25,7 @@ fn get(s: &[u8], answer: Converted) -> Converted
 {
     match answer {
         Converted::Found(range) => {
-            if readable(s, start_of(range), end_of(range)) {
+            if is_char_range(s, start_of(range) as usize, end_of(range) as usize) {
                 Converted::Found(range)
             } else {
                 Converted::Refused(Refusal::Missing)
@@ -107,7 +75,7 @@ pub fn get_range_original(
 
 // The text that a range names, of the two that are lent.
 fn text_of<'a>(original: &'a [u8], normalized: &'a [u8], range: Range) -> &'a [u8]
-    ensures { λ r. ⌜ now r ≡ textOf (now (original .entry)) (now (normalized .entry)) range ⌝ }
+    ensures { λ r. ⌜ now r ≡ namedText (now (original .entry)) (now (normalized .entry)) range ⌝ }
 {
     match range {
         Range::Original(_, _) => original,
@@ -124,7 +92,7 @@ pub fn part_verdict<'a>(original: &'a [u8], normalized: &'a [u8], range: Range) 
     }
     let text = text_of(original, normalized, range);
     refused_if(
-        !readable(text, start_of(range), end_of(range)),
+        !is_char_range(text, start_of(range) as usize, end_of(range) as usize),
         Refusal::Missing,
     )
 }

@@ -12,7 +12,7 @@ use Rattle.note.specs.declared.Verdict.the-variants.{Accepted, Refused}
 use Rattle.note.specs.Refusals.{verdict}
 use Rattle.note.specs.Notes.{fits, paired, textsFormed, aligned}
 use Rattle.note.specs.Faults.{noteFaults, textFaults, stringFaults, roomFaults, AcceptedSound}
-use Rattle.note.proofs.Verdicts.{accepted-meets}
+use Rattle.note.proofs.FirstMet.{accepted-meets}
 
 pub accepted-sound : AcceptedSound
 accepted-sound most n e =

@@ -1,5 +1,5 @@
 -- Laws of the note's definitions.
-pub mod Verdicts
+pub mod FirstMet
 pub mod Sound
 pub mod BeforeEnd
 pub mod Faults

@@ -15,79 +15,9 @@ use Rattle.utf8.specs.Formed.{wellFormed, continues, announced, boundary}
 use Rattle.utf8.proofs.Boundaries.{CharAt, char-at, boundary-zero, boundary-at, boundary-begins}
 use Rattle.note.specs.Refusals.{verdict}
 use Rattle.note.specs.Notes.{fits, paired, textsFormed, startAt, endAt, inside, onBoundaries, shared, forward, aligned}
-use Rattle.note.specs.Starting.{charStart, charEnd, starting, StartingSound, StartingAccepted}
-
--- the next byte's range: the same where the byte continues the character
-pub charStart-continues : (s : List ℕ) (i : ℕ) → continues (getD s (suc i) 0) ≡ true → charStart s (suc i) ≡ charStart s i
-unfolding charStart
-charStart-continues s i e = rw e
-
-pub charStart-begins : (s : List ℕ) (i : ℕ) → continues (getD s i 0) ≡ false → charStart s i ≡ i
-unfolding charStart
-charStart-begins s zero e = refl
-charStart-begins s (suc i) e = rw e
-
-pub charEnd-continues : (s : List ℕ) (i : ℕ) → continues (getD s (suc i) 0) ≡ true → charEnd s (suc i) ≡ charEnd s i
-unfolding charEnd
-charEnd-continues s i e = rw (charStart-continues s i e)
-
--- the range of the byte at i
-pub record Ranged (s : List ℕ) (i : ℕ) : Type 0 where
-  pub from : charStart s i ≤ i
-  pub begins : boundary s (charStart s i) ≡ true
-  pub past : i < charEnd s i
-  pub most : charEnd s i ≤ length s
-  pub ends : boundary s (charEnd s i) ≡ true
-  pub rest : (k : ℕ) → charStart s i < k → k < charEnd s i → continues (getD s k 0) ≡ true
-
--- where the byte at i begins a character
-ranged-begins : (s : List ℕ) (i : ℕ) → wellFormed s ≡ true → boundary s i ≡ true → i < length s → Ranged s i
-unfolding charEnd
-ranged-begins s i p e h =
-    let at : CharAt s i (announced (getD s i 0)) = char-at s i p e h in
-    let here : charStart s i ≡ i = charStart-begins s i (boundary-begins s i e) in
-    record {
-      from = omega arith;
-      begins = rw here e;
-      past = rw here (omega arith);
-      most = rw here (at .inside);
-      ends = rw here (at .ends);
-      rest = rw here (at .rest);
-    }
-
--- where the byte after it continues its character
-ranged-continues : (s : List ℕ) (i : ℕ) → Ranged s i → continues (getD s (suc i) 0) ≡ true → Ranged s (suc i)
-ranged-continues s i r more =
-    let start : charStart s (suc i) ≡ charStart s i = charStart-continues s i more in
-    let end : charEnd s (suc i) ≡ charEnd s i = charEnd-continues s i more in
-    let on : suc i < charEnd s i =
-    le-or-lt (charEnd s i) (suc i)
-    (λ last.
-    let at : charEnd s i ≡ suc i = omega arith in
-    clash (continues (getD s (suc i) 0)) more (rw at at (boundary-begins s (charEnd s i) (r .ends))))
-    (λ below. below) in
-    record {
-      from = omega arith;
-      begins = rw start (r .begins);
-      past = omega arith;
-      most = omega arith;
-      ends = rw end (r .ends);
-      rest = rw (start, end) (r .rest);
-    }
-
-pub ranged : (s : List ℕ) (i : ℕ) → wellFormed s ≡ true → i < length s → Ranged s i
-ranged s zero p h = ranged-begins s 0 p (boundary-zero s p) h
-ranged s (suc i) p h =
-    true-or-false (continues (getD s (suc i) 0))
-    (λ more. ranged-continues s i (ranged s i p (omega arith)) more)
-    (λ new. ranged-begins s (suc i) p (boundary-at s (suc i) (omega arith) new) h)
-
--- the next byte's range begins where this one's ends, unless it continues the character
-pub charEnd-begins : (s : List ℕ) (i : ℕ) → Ranged s i → continues (getD s (suc i) 0) ≡ false → charEnd s i ≡ suc i
-charEnd-begins s i r new =
-    le-or-lt (charEnd s i) (suc i)
-    (λ last. omega arith)
-    (λ below. clash (continues (getD s (suc i) 0)) (r .rest (suc i) (omega arith) below) new)
+use Rattle.utf8.specs.CharRanges.{charStart, charEnd}
+use Rattle.utf8.proofs.CharRanges.{charStart-begins, charStart-continues, charEnd-continues, Ranged, ranged, charEnd-begins}
+use Rattle.note.specs.Starting.{starting, StartingSound, StartingAccepted}
 
 -- the two columns, number by number
 pub starting-start : (s : List ℕ) (i : ℕ) → i < length s → startAt (starting s) i ≡ charStart s i

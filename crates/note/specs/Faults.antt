@@ -30,8 +30,8 @@ abbrev pub stringFaults : List ℕ → Refusal → Bool
 stringFaults s = meets IllFormed (not (wellFormed s)) none
 
 -- a list of ranges or pairs, which comes in two columns: not as many ends as starts
-abbrev pub unevenFaults : List ℕ → List ℕ → Refusal → Bool
-unevenFaults starts ends = meets LengthMismatch (not (eqb (length starts) (length ends))) none
+abbrev pub lengthFaults : List ℕ → List ℕ → Refusal → Bool
+lengthFaults starts ends = meets LengthMismatch (not (eqb (length starts) (length ends))) none
 
 -- a result of so many elements beside the room that is lent for it
 abbrev pub roomFaults : ℕ → ℕ → Refusal → Bool

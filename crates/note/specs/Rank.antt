@@ -16,6 +16,10 @@ rankIn (j ∷ js) k = cond (eqb (numberOf k) (numberOf j)) 0 (suc (rankIn js k))
 abbrev pub rank : Refusal → ℕ
 rank k = rankIn order k
 
+-- how many refusals are judged up to this one, itself included: where the order is cut after it
+abbrev pub upTo : Refusal → ℕ
+upTo k = suc (rank k)
+
 -- the one condition that a verdict tells of
 abbrev pub says : Verdict → Refusal → Bool
 says Accepted k = false

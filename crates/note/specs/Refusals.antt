@@ -68,6 +68,11 @@ meets k met others j = cond (eqb (numberOf k) (numberOf j)) (others j || met) (o
 abbrev pub also : (Refusal → Bool) → (Refusal → Bool) → Refusal → Bool
 also f g k = f k || g k
 
+-- a call's answer: what it has, or how it tells a refusal
+abbrev pub unlessRefused : {A : Type 0} → (Refusal → A) → Verdict → A → A
+unlessRefused refused Accepted answer = answer
+unlessRefused refused (Refused k) answer = refused k
+
 -- the room that three lent buffers have for one size
 abbrev pub least : ℕ → ℕ → ℕ → ℕ
 least a b c = min a (min b c)

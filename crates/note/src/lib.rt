@@ -1,5 +1,5 @@
 // The note's numbers, and the refusals of every call on it (RULES 1 and 2).
-pub mod answers;
+pub mod verdicts;
 pub mod rewrap;
 
 use buffers::Offset;

@@ -20,7 +20,7 @@ use Rattle.pattern.specs.declared.Entry.{Entry}
 use Rattle.pattern.specs.declared.Entry.the-variants.{At}
 use Rattle.pattern.specs.Entries.{positionAt, placeAt, entryAt}
 use Rattle.pattern.specs.Places.{fitsAt, coversFrom, covers}
-use Rattle.pattern.specs.Placed.{placedAt, placed, endStands, Covering}
+use Rattle.pattern.specs.Placed.{placedAt, placedByte, endStands, Covering}
 use Rattle.pattern.proofs.Entries.{told, entry-known}
 use Rattle.pattern.proofs.Places.{fits-on, none-covered, next-covered}
 
@@ -78,15 +78,15 @@ placed-by j before a b c d small little = rw (by-bytes a b c d small little)
 pub record Fits (text l : List ℕ) (i : ℕ) : Type 0 where
   pub behind : 5 ≤ i
   pub inside : i + 80 ≤ length l
-  pub placed-all : everyBelow 80 (placed l i) ≡ true
+  pub placed-all : everyBelow 80 (placedByte l i) ≡ true
   pub stand-all : everyBelow 16 (endStands text l i) ≡ true
 
 module _ {text l : List ℕ} {i : ℕ} (f : Fits text l i) where
   -- its place k
   module _ (k : ℕ) (h : k < 16) where
     at-byte : (j q : ℕ) → j < 80 → i - 3 + j ≡ q → placedAt j (getD l q 0) (getD l (q + 3) 0) (getD l (q + 4) 0) (getD l (q + 5) 0) (getD l (q + 6) 0) ≡ true
-    unfolding placed
-    at-byte j q low is = rw is at (every-at 80 (placed l i) (f .placed-all) j low)
+    unfolding placedByte
+    at-byte j q low is = rw is at (every-at 80 (placedByte l i) (f .placed-all) j low)
 
     place-known : (eqb (getD l (i + 5 * k) 0) 11 || eqb (getD l (i + 5 * k) 0) 12) ≡ true
     place-known =
@@ -158,7 +158,7 @@ first-judged {text} {l} {p = p} {next = next} is there fit e =
     let far : next - 2 ≡ 3 = omega (arith, known .1 .1) in
     (omega (arith, known .1 .1), rw (far, ← end) (next-covered (none-covered text l) is there fit e))
 
-pub block-judged : {text l : List ℕ} {i : ℕ} {r t : Bool} → (5 ≤ i) × Covering text l (positionAt l (i - 2) .0) i → i + 83 ≤ length l → r ≡ everyBelow 80 (placed l i) → not r ≡ false → t ≡ everyBelow 16 (endStands text l i) → not t ≡ false → (5 ≤ i + 80) × Covering text l (positionAt l (i + 80 - 2) .0) (i + 80)
+pub block-judged : {text l : List ℕ} {i : ℕ} {r t : Bool} → (5 ≤ i) × Covering text l (positionAt l (i - 2) .0) i → i + 83 ≤ length l → r ≡ everyBelow 80 (placedByte l i) → not r ≡ false → t ≡ everyBelow 16 (endStands text l i) → not t ≡ false → (5 ≤ i + 80) × Covering text l (positionAt l (i + 80 - 2) .0) (i + 80)
 block-judged {r = r} {t = t} inv long is e stand g = (
   omega (arith, inv .0),
   block-covered (record { behind = inv .0; inside = omega arith; placed-all = sym is ∙ not-false r e; stand-all = sym stand ∙ not-false t g }) (inv .1),

@@ -18,8 +18,8 @@ placedAt j before a b c d =
     && (not (eqb (j % 5) 1) || leb (a + b * 256) (c + d * 256))
 
 -- the byte j of the block that begins at i
-unfoldable pub placed : List ℕ → ℕ → ℕ → Bool
-placed l i j =
+unfoldable pub placedByte : List ℕ → ℕ → ℕ → Bool
+placedByte l i j =
     placedAt j (getD l (i - 3 + j) 0) (getD l (i - 3 + j + 3) 0) (getD l (i - 3 + j + 4) 0)
     (getD l (i - 3 + j + 5) 0) (getD l (i - 3 + j + 6) 0)
 

@@ -9,7 +9,7 @@ ghost use mathlib.Core.Bool.{true, _&&_};
 ghost use Prim.Native.Nat.{_+_, _≤_};
 ghost use lib.ListN.{length};
 ghost use Rattle.buffers.specs.Every.{everyBelow};
-ghost use Rattle.pattern.specs.Placed.{Covering, endStands, placed, placedAt};
+ghost use Rattle.pattern.specs.Placed.{Covering, endStands, placedByte, placedAt};
 
 // Where the judged places of a list end, in the text and in the list.
 pub struct Judged {
@@ -31,7 +31,7 @@ fn placed_at(j: usize, before: u8, a: u8, b: u8, c: u8, d: u8) -> bool
 // Whether this holds of each byte of the block that begins at `i`.
 fn all_placed(list: &[u8], i: usize) -> bool
     requires { ⌜ (3 ≤ i) × (i + 83 ≤ length (now list)) ⌝ }
-    ensures { λ r. ⌜ r ≡ everyBelow 80 (placed (now (list .entry)) i) ⌝ }
+    ensures { λ r. ⌜ r ≡ everyBelow 80 (placedByte (now (list .entry)) i) ⌝ }
 {
     let before = i - 3;
     let mut ok = true;

@@ -29,7 +29,7 @@ pub enum Entry {
 }
 
 // The most bytes that a place has in a list.
-pub const MOST: usize = 5;
+pub const MAX_PLACE_LEN: usize = 5;
 
 // The position whose two bytes stand at `i`.
 fn position_at(list: &[u8], i: usize) -> NormalizedByte

@@ -1,5 +1,5 @@
 // A place written into a list, and the room that places need. Inner functions: positions and room were judged before.
-use crate::MOST;
+use crate::MAX_PLACE_LEN;
 use crate::Place;
 use numbers::little_endian::put_u16_le;
 ghost use mathlib.Core.Path.{_≡_};
@@ -15,7 +15,7 @@ pub fn room_for(places: usize) -> usize
     requires { ⌜ places ≤ limit + limit + 1 ⌝ }
     ensures { λ r. ⌜ r ≡ roomFor places ⌝ }
 {
-    places * MOST
+    places * MAX_PLACE_LEN
 }
 
 // The place in the list from byte `i` on; where the next one begins.

@@ -1,4 +1,4 @@
--- Laws of `printed`: what is printed of an input, told from what is kept of it.
+-- Laws of `printed`: what is printed of an input, told from what is headSize of it.
 use Prim.Native.Nat.{ℕ, _+_, _≤_, _<_}
 use mathlib.Core.Path.{_≡_, _∙_, ap, refl, sym}
 use mathlib.Core.Bool.{true, false, cond, not, _||_, or-true}
@@ -21,8 +21,8 @@ use Rattle.behaviors.specs.declared.SplitDelimiterBehavior.the-variants.{Remove
 use Rattle.piece_lines.specs.declared.input.Seen.{Seen}
 use Rattle.piece_lines.specs.declared.input.Seen.the-variants.{Literal, Whole}
 use Rattle.piece_lines.specs.Input.{literalOf, behaviorLine, noteOf, shaped, longest, linesVerdict}
-use Rattle.piece_lines.specs.Printing.{behaviorOf, most, refusedWord, refusal, said, told, printed}
-use Rattle.piece_lines.specs.Scanning.{counted, scanned, kept, Kept}
+use Rattle.piece_lines.specs.Printing.{behaviorOfDigit, most, refusedWord, refusal, said, told, printed}
+use Rattle.piece_lines.specs.Scanning.{counted, scanned, headSize, HeadKept}
 use Rattle.piece_lines.proofs.Scanning.{isWhole, whole-seen, shape-seen}
 use Rattle.piece_lines.proofs.Placed.{head-long, literal-there, note-there}
 
@@ -31,24 +31,24 @@ pub laid-as : {p q d₀ d : List ℕ} {r : ℕ} → p ≡ q → Laid q d₀ 0 r 
 laid-as e l = rw e l
 
 -- the digits
-pub chosen-first : {d : ℕ} → d ≡ 0x31 → Removed ≡ behaviorOf d
-unfolding behaviorOf
+pub chosen-first : {d : ℕ} → d ≡ 0x31 → Removed ≡ behaviorOfDigit d
+unfolding behaviorOfDigit
 chosen-first e = rw e
 
-pub chosen-second : {d : ℕ} → d ≡ 0x32 → Isolated ≡ behaviorOf d
-unfolding behaviorOf
+pub chosen-second : {d : ℕ} → d ≡ 0x32 → Isolated ≡ behaviorOfDigit d
+unfolding behaviorOfDigit
 chosen-second e = rw e
 
-pub chosen-third : {d : ℕ} → d ≡ 0x33 → MergedWithPrevious ≡ behaviorOf d
-unfolding behaviorOf
+pub chosen-third : {d : ℕ} → d ≡ 0x33 → MergedWithPrevious ≡ behaviorOfDigit d
+unfolding behaviorOfDigit
 chosen-third e = rw e
 
-pub chosen-fourth : {d : ℕ} → d ≡ 0x34 → MergedWithNext ≡ behaviorOf d
-unfolding behaviorOf
+pub chosen-fourth : {d : ℕ} → d ≡ 0x34 → MergedWithNext ≡ behaviorOfDigit d
+unfolding behaviorOfDigit
 chosen-fourth e = rw e
 
-pub chosen-last : {d : ℕ} → (d ≡ 0x31 → ⊥) → (d ≡ 0x32 → ⊥) → (d ≡ 0x33 → ⊥) → (d ≡ 0x34 → ⊥) → Contiguous ≡ behaviorOf d
-unfolding behaviorOf
+pub chosen-last : {d : ℕ} → (d ≡ 0x31 → ⊥) → (d ≡ 0x32 → ⊥) → (d ≡ 0x33 → ⊥) → (d ≡ 0x34 → ⊥) → Contiguous ≡ behaviorOfDigit d
+unfolding behaviorOfDigit
 chosen-last {d} a b c e = rw (ne-eqb d 0x31 a, ne-eqb d 0x32 b, ne-eqb d 0x33 c, ne-eqb d 0x34 e)
 
 -- a refusal's line
@@ -64,7 +64,7 @@ pub refusal-laid : (k : Refusal) {n r : ℕ} {d₀ d : List ℕ} → n ≡ numbe
 unfolding refusal
 refusal-laid k e l = rw e at l
 
-module _ {input head : List ℕ} {seen : Seen} (k : Kept input head seen) where
+module _ {input head : List ℕ} {seen : Seen} (k : HeadKept input head seen) where
   pub shapeless-printed : isWhole seen ≡ false → printed input ≡ refusal BadScript
   unfolding printed
   shapeless-printed f = rw (shape-seen input (k .seen-is) ∙ f)
@@ -73,7 +73,7 @@ module _ {input head : List ℕ} {seen : Seen} (k : Kept input head seen) where
     is-shaped : shaped input ≡ true
     is-shaped = shape-seen input (k .seen-is) ∙ ap isWhole is
 
-    shaped-printed : printed input ≡ told (literalOf input) (behaviorOf (getD (behaviorLine input) 0 0)) (noteOf input)
+    shaped-printed : printed input ≡ told (literalOf input) (behaviorOfDigit (getD (behaviorLine input) 0 0)) (noteOf input)
     unfolding printed
     shaped-printed = rw is-shaped
 
@@ -119,17 +119,17 @@ module _ {input head : List ℕ} {seen : Seen} (k : Kept input head seen) where
       pub lines-short : (length (take n head) ≤ longest) × (length (part head (n + 3) (n + 3 + m)) ≤ longest)
       lines-short = (omega (arith, literal-sized), simp length-take (omega arith))
 
-      pub cut-printed : {b : SplitDelimiterBehavior} → b ≡ behaviorOf d → printed input ≡ told (take n head) b (part head (n + 3) (n + 3 + m))
+      pub cut-printed : {b : SplitDelimiterBehavior} → b ≡ behaviorOfDigit d → printed input ≡ told (take n head) b (part head (n + 3) (n + 3 + m))
       cut-printed e =
           let first : take n head ≡ literalOf input = ap (λ (i : ℕ). take i head) (sym literal-length) ∙ literal-there k is-shaped few less in
           let third : part head (n + 3) (n + 3 + m) ≡ noteOf input = note-there k is-shaped few less {from = n + 3} {to = n + 3 + m} (omega (arith, literal-length)) (omega (arith, note-length)) in
           rw (first, third, e, digit-seen) shaped-printed
 
--- an input that is kept, whole or up to its first bytes
-pub kept-whole : (input : List ℕ) {seen : Seen} → length input ≤ kept → seen ≡ scanned (Literal 0) input → Kept input input seen
-kept-whole input short is = record { head-is = sym (take-all kept input short); seen-is = is }
+-- an input that is headSize, whole or up to its first bytes
+pub kept-whole : (input : List ℕ) {seen : Seen} → length input ≤ headSize → seen ≡ scanned (Literal 0) input → HeadKept input input seen
+kept-whole input short is = record { head-is = sym (take-all headSize input short); seen-is = is }
 
-pub kept-front : (input : List ℕ) {seen : Seen} → seen ≡ scanned (Literal 0) input → Kept input (take kept input) seen
+pub kept-front : (input : List ℕ) {seen : Seen} → seen ≡ scanned (Literal 0) input → HeadKept input (take headSize input) seen
 kept-front input is = record { head-is = refl; seen-is = is }
 
 -- what is printed lies within the buffer

@@ -25,10 +25,10 @@ use Rattle.pattern.proofs.Places.{covers-places, covers-whole}
 use Rattle.behaviors.specs.declared.SplitDelimiterBehavior.{SplitDelimiterBehavior}
 use Rattle.behaviors.specs.declared.EmptyPieces.the-variants.{Kept}
 use Rattle.behaviors.specs.Joining.{startsOf, endsOf}
-use Rattle.behaviors.specs.Runs.{bytesOf, listPieces}
+use Rattle.behaviors.specs.Runs.{totalLength, listPieces}
 use Rattle.spans.specs.Packing.{SpansLaid, SpansRoom}
 use Rattle.piece_lines.specs.Input.{longest}
-use Rattle.piece_lines.specs.Spans.{line, spanLines, piecesWord, spansText, Spans, Cuttable}
+use Rattle.piece_lines.specs.Spans.{line, spanLines, piecesWord, spansText, LineSpans, Cuttable}
 use Rattle.piece_lines.specs.Printing.{most, piecesText}
 use Rattle.piece_lines.proofs.Fitting.{Lies, AllLie, pieces-lie, pieces-few, spans-lie}
 use Rattle.piece_lines.proofs.Fresh.{pieces-text}
@@ -40,21 +40,21 @@ line-bounded text a e on low =
     let own : length (part text a e) ≤ e - a = simp length-take (omega arith) in
     omega (arith, length-line a e (part text a e), field-bounded-5 a 0x20 (omega arith), field-bounded-5 e 0x20 (omega arith))
 
-lines-bounded : (text : List ℕ) → length text ≤ longest → (ps : List Place) → AllLie text ps → length (spanLines text (startsOf ps) (endsOf ps)) ≤ 13 * length ps + bytesOf ps
-unfolding spanLines bytesOf
+lines-bounded : (text : List ℕ) → length text ≤ longest → (ps : List Place) → AllLie text ps → length (spanLines text (startsOf ps) (endsOf ps)) ≤ 13 * length ps + totalLength ps
+unfolding spanLines totalLength
 lines-bounded text brief [] l = omega arith
 lines-bounded text brief (p ∷ ps) l =
     let first = line (p .start .0) (p .end .0) (part text (p .start .0) (p .end .0)) in
     omega (arith, length-append first (spanLines text (startsOf ps) (endsOf ps)), line-bounded text (p .start .0) (p .end .0) (l .0 .onward) (omega (arith, boundary-most text (p .end .0) (l .0 .to))), lines-bounded text brief ps (l .1))
 
-pub text-bounded : (text : List ℕ) → length text ≤ longest → (ps : List Place) → AllLie text ps → bytesOf ps ≤ length text → length ps ≤ 2 * longest + 1 → length (spansText text (startsOf ps) (endsOf ps)) ≤ most
+pub text-bounded : (text : List ℕ) → length text ≤ longest → (ps : List Place) → AllLie text ps → totalLength ps ≤ length text → length ps ≤ 2 * longest + 1 → length (spansText text (startsOf ps) (endsOf ps)) ≤ most
 unfolding spansText
 text-bounded text brief ps l own few =
     let count = field (length (startsOf ps)) 0x0A in
     omega (arith, length-append (piecesWord ++ count) (spanLines text (startsOf ps) (endsOf ps)), length-append piecesWord count, field-bounded-5 (length (startsOf ps)) 0x0A (omega (arith, length-map ps (λ p. p .start .0))), lines-bounded text brief ps l)
 
 module _ {list text : List ℕ} (c : Cuttable list text) (behavior : SplitDelimiterBehavior) where
-  lie : AllLie text (listPieces behavior Kept list) × (bytesOf (listPieces behavior Kept list) ≤ length text)
+  lie : AllLie text (listPieces behavior Kept list) × (totalLength (listPieces behavior Kept list) ≤ length text)
   lie = pieces-lie text behavior Kept (placesOf list) (boundary-zero text (c .formed)) (covers-places text list (c .covered))
 
   few : length (listPieces behavior Kept list) ≤ 2 * longest + 1
@@ -91,7 +91,7 @@ module _ {list text : List ℕ} (c : Cuttable list text) (behavior : SplitDelimi
     ends-front : take r ends ≡ endsOf (listPieces behavior Kept list)
     ends-front = rw (← ends-count, l .ends-are) (take-overlay (endsOf (listPieces behavior Kept list)) ends₀)
 
-    pub pieces-spanned : Spans text (take r starts) (take r ends)
+    pub pieces-spanned : LineSpans text (take r starts) (take r ends)
     pieces-spanned = rw (starts-front, ends-front) (spans-lie text (listPieces behavior Kept list) (lie .0))
 
     pub pieces-room : {room : ℕ} → most ≤ room → length (spansText text (take r starts) (take r ends)) ≤ room

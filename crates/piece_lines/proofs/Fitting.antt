@@ -18,9 +18,9 @@ use Rattle.behaviors.specs.declared.SplitDelimiterBehavior.{SplitDelimiterBehav
 use Rattle.behaviors.specs.declared.EmptyPieces.{EmptyPieces}
 use Rattle.behaviors.specs.Splits.{isPiece, remaining, splits, pieces}
 use Rattle.behaviors.specs.Joining.{startsOf, endsOf}
-use Rattle.behaviors.specs.Runs.{onward, over, given, runsFrom, bytesOf}
+use Rattle.behaviors.specs.Runs.{extendedRun, over, pieceIf, runsFrom, totalLength}
 use Rattle.behaviors.proofs.Gathered.{splits-cover, runs-pieces, pieces-none}
-use Rattle.piece_lines.specs.Spans.{Spans}
+use Rattle.piece_lines.specs.Spans.{LineSpans}
 
 -- a place of a text, from boundary to boundary
 pub record Lies (text : List ℕ) (p : Place) : Type 0 where
@@ -54,8 +54,8 @@ covers-nil : (text : List ℕ) (at : ℕ) → coversFrom text at [] ≡ true →
 unfolding coversFrom
 covers-nil text at e = eqb-true at (length text) e
 
-pub remaining-lie : (text : List ℕ) (at : ℕ) (empty : EmptyPieces) (ps : List Place) → boundary text at ≡ true → coversFrom text at ps ≡ true → AllLie text (remaining empty ps) × (at + bytesOf (remaining empty ps) ≤ length text)
-unfolding remaining bytesOf
+pub remaining-lie : (text : List ℕ) (at : ℕ) (empty : EmptyPieces) (ps : List Place) → boundary text at ≡ true → coversFrom text at ps ≡ true → AllLie text (remaining empty ps) × (at + totalLength (remaining empty ps) ≤ length text)
+unfolding remaining totalLength
 remaining-lie text at empty [] h e = (tt, omega (arith, covers-nil text at e))
 remaining-lie text at empty (p ∷ ps) h e =
     let parts = covers-cons text at p ps e in
@@ -67,15 +67,15 @@ remaining-lie text at empty (p ∷ ps) h e =
 
 -- all pieces
 module _ (text : List ℕ) (behavior : SplitDelimiterBehavior) (empty : EmptyPieces) (ps : List Place) (h : boundary text 0 ≡ true) (e : coversFrom text 0 ps ≡ true) where
-  pub pieces-lie : AllLie text (pieces behavior empty ps) × (bytesOf (pieces behavior empty ps) ≤ length text)
+  pub pieces-lie : AllLie text (pieces behavior empty ps) × (totalLength (pieces behavior empty ps) ≤ length text)
   unfolding pieces
   pieces-lie =
       let both = remaining-lie text 0 empty (splits behavior ps) h (splits-cover text 0 behavior ps e) in
       (both .0, omega (arith, both .1))
 
 -- how many there are
-given-few : (met : Bool) (run : Place) → length (given met run) ≤ 1
-unfolding given
+given-few : (met : Bool) (run : Place) → length (pieceIf met run) ≤ 1
+unfolding pieceIf
 given-few true run = omega arith
 given-few false run = omega arith
 
@@ -83,8 +83,8 @@ runs-few : (behavior : SplitDelimiterBehavior) (empty : EmptyPieces) (run : Plac
 unfolding runsFrom
 runs-few behavior empty run [] = given-few _ run
 runs-few behavior empty run (p ∷ ps) =
-    let next = onward behavior run p in
-    let first = given (over behavior empty run p) run in
+    let next = extendedRun behavior run p in
+    let first = pieceIf (over behavior empty run p) run in
     omega (arith, length-append first (runsFrom behavior empty next ps), given-few (over behavior empty run p) run, runs-few behavior empty next ps)
 
 pub pieces-few : (behavior : SplitDelimiterBehavior) (empty : EmptyPieces) (ps : List Place) → length (pieces behavior empty ps) ≤ length ps
@@ -102,6 +102,6 @@ inside text [] l i h = absurd (omega arith)
 inside text (p ∷ ps) l zero h = boundary-most text (p .end .0) (l .0 .to)
 inside text (p ∷ ps) l (suc i) h = inside text ps (l .1) i (omega arith)
 
-pub spans-lie : (text : List ℕ) (ps : List Place) → AllLie text ps → Spans text (startsOf ps) (endsOf ps)
+pub spans-lie : (text : List ℕ) (ps : List Place) → AllLie text ps → LineSpans text (startsOf ps) (endsOf ps)
 spans-lie text ps l =
     record { alike = length-map ps _ ∙ sym (length-map ps _); ordered = ordered text ps l; inside = inside text ps l }

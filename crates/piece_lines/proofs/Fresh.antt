@@ -15,9 +15,9 @@ use Rattle.convert.specs.declared.Converted.the-variants.{Found}
 use Rattle.convert.specs.Converting.{inOriginal, inNormalized, converted, convertOffsets}
 use Rattle.convert.proofs.Answered.{answered-accepted, converted-missing}
 use Rattle.convert.proofs.Itself.{converted-itself}
-use Rattle.get_range.specs.Reading.{asOriginal, asNormalized}
+use Rattle.convert.specs.Converting.{asOriginal, asNormalized}
 use Rattle.slice.specs.Slicing.{sliceOf, sliced, sliceNote}
-use Rattle.slice.specs.Bytes.{cleanedSlice}
+use Rattle.slice.specs.Bytes.{normalizedSlice}
 use Rattle.pattern.specs.declared.Place.{Place}
 use Rattle.behaviors.specs.Joining.{startsOf, endsOf}
 use Rattle.piece_lines.specs.Spans.{line, spanLines, piecesWord, spansText}
@@ -35,7 +35,7 @@ module _ (s : List ℕ) (p : wellFormed s ≡ true) (short : length s ≤ limit)
   part-long : length (part s a b) ≡ b - a
   part-long = simp (length-take, length-drop) (omega (arith, boundary-most s b at-b))
 
-  pub piece-line : pieceLine (cleanedSlice (starting s) a b) ≡ line a b (part s a b)
+  pub piece-line : pieceLine (normalizedSlice (starting s) a b) ≡ line a b (part s a b)
   unfolding pieceLine sliceNote sliced sliceOf asNormalized starting
   piece-line =
       let shift : 0 + a ≡ a = omega arith in

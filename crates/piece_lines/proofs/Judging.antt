@@ -20,7 +20,7 @@ use Rattle.note.specs.Refusals.{verdict}
 use Rattle.note.specs.Faults.{textFaults}
 use Rattle.note.specs.Starting.{starting}
 use Rattle.note.proofs.Faults.{text-short, text-formed}
-use Rattle.note.proofs.Verdicts.{accepted-first, accepted-second}
+use Rattle.note.proofs.FirstMet.{accepted-first, accepted-second}
 use Rattle.pattern.specs.Entries.{placesOf}
 use Rattle.pattern.specs.Encoding.{roomFor}
 use Rattle.pattern.proofs.Encoding.{room-enough}

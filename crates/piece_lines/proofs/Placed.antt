@@ -1,4 +1,4 @@
--- Laws of `shaped`: where the lines of an input stand in what is kept of it.
+-- Laws of `shaped`: where the lines of an input stand in what is headSize of it.
 use Prim.Native.Nat.{ℕ, suc, _+_, _-_, _≤_, _<_}
 use mathlib.Core.Path.{_≡_, _∙_, ap, refl, sym}
 use mathlib.Core.Bool.{true, _&&_}
@@ -11,8 +11,8 @@ use lib.Seq.{take-all, take-at, drop-at}
 use Rattle.buffers.specs.Splice.{part}
 use borrow.Author.Tests.{eqb-true}
 use Rattle.piece_lines.specs.declared.input.Seen.{Seen}
-use Rattle.piece_lines.specs.Input.{runs, joined, lineAt, literalOf, noteOf, behaviorLine, choice, shaped, longest}
-use Rattle.piece_lines.specs.Scanning.{kept, Kept}
+use Rattle.piece_lines.specs.Input.{runs, joinedLines, lineAt, literalOf, noteOf, behaviorLine, choice, shaped, longest}
+use Rattle.piece_lines.specs.Scanning.{headSize, HeadKept}
 use Rattle.piece_lines.proofs.Runs.{runs-joined}
 
 -- the runs of three lines
@@ -43,8 +43,8 @@ shaped-three input t =
     let both = and-elim-left (count && end) one front in
     three (runs input) (eqb-true _ 4 (and-elim-left count end both)) (eqb-true _ 0 (and-elim-right count end both)) (eqb-true _ 1 (and-elim-right (count && end) one front))
 
-joined-three : (a : List ℕ) (x : ℕ) (c : List ℕ) → a ++ (0x0A ∷ x ∷ 0x0A ∷ []) ++ c ++ (0x0A ∷ []) ≡ joined (a ∷ (x ∷ []) ∷ c ∷ [] ∷ [])
-unfolding joined
+joined-three : (a : List ℕ) (x : ℕ) (c : List ℕ) → a ++ (0x0A ∷ x ∷ 0x0A ∷ []) ++ c ++ (0x0A ∷ []) ≡ joinedLines (a ∷ (x ∷ []) ∷ c ∷ [] ∷ [])
+unfolding joinedLines
 joined-three a x c =
     append-assoc (a ++ (0x0A ∷ x ∷ 0x0A ∷ [])) c (0x0A ∷ []) ∙ append-assoc a (0x0A ∷ x ∷ 0x0A ∷ []) (c ++ (0x0A ∷ []))
 
@@ -56,7 +56,7 @@ input-is : (input : List ℕ) → shaped input ≡ true → front input ++ noteO
 unfolding lineAt
 input-is input t =
     let r = shaped-three input t in
-    rw (r .is) (joined-three (r .literal) (r .digit) (r .note) ∙ sym (ap joined (r .is)) ∙ runs-joined input)
+    rw (r .is) (joined-three (r .literal) (r .digit) (r .note) ∙ sym (ap joinedLines (r .is)) ∙ runs-joined input)
 
 length-front : (input : List ℕ) → length (front input) ≡ length (literalOf input) + 3
 length-front input = length-append (literalOf input) _
@@ -69,8 +69,8 @@ third-part a c e {from = from} {to = to} is f g =
     let size : to - from ≡ length c = omega arith in
     rw (← is, size, append-assoc a c e, drop-at a (c ++ e) from (sym f)) (take-at c e (length c) refl)
 
--- three lines that are not too long are kept whole
-module _ {input head : List ℕ} {seen : Seen} (k : Kept input head seen) (t : shaped input ≡ true) (short : length (literalOf input) ≤ longest) (brief : length (noteOf input) ≤ longest) where
+-- three lines that are not too long are headSize whole
+module _ {input head : List ℕ} {seen : Seen} (k : HeadKept input head seen) (t : shaped input ≡ true) (short : length (literalOf input) ≤ longest) (brief : length (noteOf input) ≤ longest) where
   all : front input ++ noteOf input ++ (0x0A ∷ []) ≡ input
   all = input-is input t
 
@@ -80,7 +80,7 @@ module _ {input head : List ℕ} {seen : Seen} (k : Kept input head seen) (t : s
       ∙ omega (arith, length-append (front input ++ noteOf input) (0x0A ∷ []), length-append (front input) (noteOf input), length-front input)
 
   head-whole : head ≡ input
-  head-whole = k .head-is ∙ take-all kept input (omega (arith, long))
+  head-whole = k .head-is ∙ take-all headSize input (omega (arith, long))
 
   pub head-long : length head ≡ length (literalOf input) + 3 + length (noteOf input) + 1
   head-long = ap length head-whole ∙ long

@@ -1,4 +1,4 @@
--- Laws of `runs` and `joined`: the first run apart, one byte more, and the runs joined again.
+-- Laws of `runs` and `joinedLines`: the first run apart, one byte more, and the runs joinedLines again.
 use Prim.Native.Nat.{ℕ}
 use mathlib.Core.Path.{_≡_, _∙_, ap, refl, sym}
 use mathlib.Core.Bool.{true, false, cond}
@@ -6,7 +6,7 @@ use mathlib.Core.List.{List, [], _∷_, _++_}
 use lib.Dec.{eqb}
 use borrow.Author.Tests.{eqb-true}
 use Rattle.buffers.proofs.Cases.{true-or-false}
-use Rattle.piece_lines.specs.Input.{inFront, runs, joined, RunsJoined}
+use Rattle.piece_lines.specs.Input.{inFront, runs, joinedLines, RunsJoined}
 
 -- there is a first run
 pub record First (ls : List (List ℕ)) : Type 0 where
@@ -35,22 +35,22 @@ pub runs-more : (b : ℕ) (bs : List ℕ) → eqb b 0x0A ≡ false → runs (b �
 unfolding runs
 runs-more b bs f = rw f
 
-joined-end : (ls : List (List ℕ)) → First ls → joined ([] ∷ ls) ≡ 0x0A ∷ joined ls
-unfolding joined
+joined-end : (ls : List (List ℕ)) → First ls → joinedLines ([] ∷ ls) ≡ 0x0A ∷ joinedLines ls
+unfolding joinedLines
 joined-end ls r = rw (r .is)
 
-joined-more : (b : ℕ) (ls : List (List ℕ)) → First ls → joined (inFront b ls) ≡ b ∷ joined ls
-unfolding joined
+joined-more : (b : ℕ) (ls : List (List ℕ)) → First ls → joinedLines (inFront b ls) ≡ b ∷ joinedLines ls
+unfolding joinedLines
 joined-more b ls r = rw (r .is) (others b (r .first) (r .others))
   where
-    others : (b : ℕ) (l : List ℕ) (ls : List (List ℕ)) → joined ((b ∷ l) ∷ ls) ≡ b ∷ joined (l ∷ ls)
+    others : (b : ℕ) (l : List ℕ) (ls : List (List ℕ)) → joinedLines ((b ∷ l) ∷ ls) ≡ b ∷ joinedLines (l ∷ ls)
     others b l [] = refl
     others b l (m ∷ ls) = refl
 
 pub runs-joined : RunsJoined
-unfolding runs joined
+unfolding runs joinedLines
 runs-joined [] = refl
 runs-joined (b ∷ bs) =
     true-or-false (eqb b 0x0A)
-    (λ t. ap joined (runs-end b bs t) ∙ joined-end (runs bs) (first-run bs) ∙ rw (runs-joined bs, eqb-true b 0x0A t))
-    (λ f. ap joined (runs-more b bs f) ∙ joined-more b (runs bs) (first-run bs) ∙ rw (runs-joined bs))
+    (λ t. ap joinedLines (runs-end b bs t) ∙ joined-end (runs bs) (first-run bs) ∙ rw (runs-joined bs, eqb-true b 0x0A t))
+    (λ f. ap joinedLines (runs-more b bs f) ∙ joined-more b (runs bs) (first-run bs) ∙ rw (runs-joined bs))

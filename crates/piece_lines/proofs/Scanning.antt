@@ -1,4 +1,4 @@
--- Laws of `stepped` and `scanned`: bytes that come in chunks, and what the scan of a whole input says of its runs.
+-- Laws of `seenAfter` and `scanned`: bytes that come in chunks, and what the scan of a whole input says of its runs.
 use Prim.Native.Nat.{ℕ, suc, _+_, _≤_, _<_, min}
 use mathlib.Core.Path.{_≡_, _∙_, ap, refl, sym}
 use mathlib.Core.Bool.{Bool, true, false, cond, _&&_, and-false}
@@ -14,58 +14,58 @@ use Rattle.buffers.proofs.Cases.{true-or-false}
 use Rattle.piece_lines.specs.declared.input.Seen.{Seen}
 use Rattle.piece_lines.specs.declared.input.Seen.the-variants.{Literal, Behavior, Chosen, Note, Whole, Shapeless}
 use Rattle.piece_lines.specs.Input.{runs, lineAt, literalOf, behaviorLine, noteOf, choice, shaped}
-use Rattle.piece_lines.specs.Scanning.{counted, stepped, scanned, ScannedOn}
+use Rattle.piece_lines.specs.Scanning.{counted, seenAfter, scanned, ScannedOn}
 use Rattle.piece_lines.proofs.Runs.{First, first-run, runs-end, runs-more}
 
 pub scanned-on : ScannedOn
 unfolding scanned
 scanned-on s [] b = refl
-scanned-on s (x ∷ a) b = scanned-on (stepped s x) a b
+scanned-on s (x ∷ a) b = scanned-on (seenAfter s x) a b
 
 -- one more byte, by cases of the code
 module _ {s : Seen} {n b : ℕ} where
-  pub literal-ends : s ≡ Literal n → b ≡ 0x0A → Behavior n ≡ stepped s b
-  unfolding stepped
+  pub literal-ends : s ≡ Literal n → b ≡ 0x0A → Behavior n ≡ seenAfter s b
+  unfolding seenAfter
   literal-ends is e = rw (is, e)
 
-  pub literal-grows : {k : ℕ} → s ≡ Literal n → (b ≡ 0x0A → ⊥) → k ≡ counted (n + 1) → Literal k ≡ stepped s b
-  unfolding stepped
+  pub literal-grows : {k : ℕ} → s ≡ Literal n → (b ≡ 0x0A → ⊥) → k ≡ counted (n + 1) → Literal k ≡ seenAfter s b
+  unfolding seenAfter
   literal-grows is e more = rw (is, ne-eqb b 0x0A e, more)
 
-  pub behavior-low : s ≡ Behavior n → b < 0x31 → Shapeless ≡ stepped s b
-  unfolding stepped
+  pub behavior-low : s ≡ Behavior n → b < 0x31 → Shapeless ≡ seenAfter s b
+  unfolding seenAfter
   behavior-low is h = rw (is, lt-leb 0x31 b h)
 
-  pub behavior-high : s ≡ Behavior n → 0x35 < b → Shapeless ≡ stepped s b
-  unfolding stepped
+  pub behavior-high : s ≡ Behavior n → 0x35 < b → Shapeless ≡ seenAfter s b
+  unfolding seenAfter
   behavior-high is h = rw (is, lt-leb b 0x35 h, and-false (leb 0x31 b))
 
-  pub behavior-chosen : s ≡ Behavior n → 0x31 ≤ b → b ≤ 0x35 → Chosen n b ≡ stepped s b
-  unfolding stepped
+  pub behavior-chosen : s ≡ Behavior n → 0x31 ≤ b → b ≤ 0x35 → Chosen n b ≡ seenAfter s b
+  unfolding seenAfter
   behavior-chosen is low high = rw (is, le-leb 0x31 b low, le-leb b 0x35 high)
 
-  pub chosen-ends : {d : ℕ} → s ≡ Chosen n d → b ≡ 0x0A → Note n d 0 ≡ stepped s b
-  unfolding stepped
+  pub chosen-ends : {d : ℕ} → s ≡ Chosen n d → b ≡ 0x0A → Note n d 0 ≡ seenAfter s b
+  unfolding seenAfter
   chosen-ends is e = rw (is, e)
 
-  pub chosen-longer : {d : ℕ} → s ≡ Chosen n d → (b ≡ 0x0A → ⊥) → Shapeless ≡ stepped s b
-  unfolding stepped
+  pub chosen-longer : {d : ℕ} → s ≡ Chosen n d → (b ≡ 0x0A → ⊥) → Shapeless ≡ seenAfter s b
+  unfolding seenAfter
   chosen-longer is e = rw (is, ne-eqb b 0x0A e)
 
-  pub note-ends : {d m : ℕ} → s ≡ Note n d m → b ≡ 0x0A → Whole n d m ≡ stepped s b
-  unfolding stepped
+  pub note-ends : {d m : ℕ} → s ≡ Note n d m → b ≡ 0x0A → Whole n d m ≡ seenAfter s b
+  unfolding seenAfter
   note-ends is e = rw (is, e)
 
-  pub note-grows : {d m k : ℕ} → s ≡ Note n d m → (b ≡ 0x0A → ⊥) → k ≡ counted (m + 1) → Note n d k ≡ stepped s b
-  unfolding stepped
+  pub note-grows : {d m k : ℕ} → s ≡ Note n d m → (b ≡ 0x0A → ⊥) → k ≡ counted (m + 1) → Note n d k ≡ seenAfter s b
+  unfolding seenAfter
   note-grows is e more = rw (is, ne-eqb b 0x0A e, more)
 
-pub whole-longer : {s : Seen} {n d m : ℕ} (b : ℕ) → s ≡ Whole n d m → Shapeless ≡ stepped s b
-unfolding stepped
+pub whole-longer : {s : Seen} {n d m : ℕ} (b : ℕ) → s ≡ Whole n d m → Shapeless ≡ seenAfter s b
+unfolding seenAfter
 whole-longer b is = rw is
 
-pub shapeless-longer : {s : Seen} (b : ℕ) → s ≡ Shapeless → Shapeless ≡ stepped s b
-unfolding stepped
+pub shapeless-longer : {s : Seen} (b : ℕ) → s ≡ Shapeless → Shapeless ≡ seenAfter s b
+unfolding seenAfter
 shapeless-longer b is = rw is
 
 -- the bytes of a slice, from the first: none yet, one more, all
@@ -77,7 +77,7 @@ pub none-scanned : {s : Seen} {bytes : List ℕ} → Scanning s bytes s 0
 none-scanned = record { inside = omega arith; rest = refl }
 
 module _ {s₀ s : Seen} {bytes : List ℕ} {i : ℕ} (w : Scanning s₀ bytes s i) where
-  pub one-scanned : {s₁ : Seen} → i < length bytes → s₁ ≡ stepped s (getD bytes i 0) → Scanning s₀ bytes s₁ (i + 1)
+  pub one-scanned : {s₁ : Seen} → i < length bytes → s₁ ≡ seenAfter s (getD bytes i 0) → Scanning s₀ bytes s₁ (i + 1)
   unfolding scanned
   one-scanned h is =
       record { inside = omega arith; rest = rw (is, add-one i) (rw (drop-cons bytes i 0 h) at (w .rest)) }
@@ -116,12 +116,12 @@ literalThen m (l ∷ []) = Literal (counted (m + length l))
 literalThen m (l ∷ k ∷ ls) = behaviorThen (counted (m + length l)) (k ∷ ls)
 
 scanned-shapeless : (s : List ℕ) → scanned Shapeless s ≡ Shapeless
-unfolding scanned stepped
+unfolding scanned seenAfter
 scanned-shapeless [] = refl
 scanned-shapeless (b ∷ bs) = scanned-shapeless bs
 
 whole-runs : (n d m : ℕ) (s : List ℕ) → scanned (Whole n d m) s ≡ wholeThen (Whole n d m) (runs s)
-unfolding scanned stepped runs wholeThen
+unfolding scanned seenAfter runs wholeThen
 whole-runs n d m [] = refl
 whole-runs n d m (b ∷ bs) =
     let r = first-run bs in
@@ -139,7 +139,7 @@ note-one n d m b l [] = let far : m + 1 + length l ≡ m + suc (length l) = omeg
 note-one n d m b l (k ∷ ls) = let far : m + 1 + length l ≡ m + suc (length l) = omega arith in rw far
 
 note-runs : (n d m : ℕ) (s : List ℕ) → scanned (Note n d (counted m)) s ≡ noteThen n d m (runs s)
-unfolding scanned stepped runs noteThen
+unfolding scanned seenAfter runs noteThen
 note-runs n d m [] = rw (add-zero m)
 note-runs n d m (b ∷ bs) =
     let r = first-run bs in
@@ -148,7 +148,7 @@ note-runs n d m (b ∷ bs) =
     (λ f. rw (f, counted-more m, note-runs n d (m + 1) bs, r .is) (note-one n d m b (r .first) (r .others)))
 
 chosen-runs : (n d : ℕ) (s : List ℕ) → scanned (Chosen n d) s ≡ chosenThen n d (runs s)
-unfolding scanned stepped runs chosenThen
+unfolding scanned seenAfter runs chosenThen
 chosen-runs n d [] = refl
 chosen-runs n d (b ∷ bs) =
     let r = first-run bs in
@@ -157,7 +157,7 @@ chosen-runs n d (b ∷ bs) =
     (λ f. rw (f, r .is) (scanned-shapeless bs))
 
 behavior-runs : (n : ℕ) (s : List ℕ) → scanned (Behavior n) s ≡ behaviorThen n (runs s)
-unfolding scanned stepped runs behaviorThen
+unfolding scanned seenAfter runs behaviorThen
 behavior-runs n [] = refl
 behavior-runs n (b ∷ bs) =
     let r = first-run bs in
@@ -173,7 +173,7 @@ literal-one m b l [] = let far : m + 1 + length l ≡ m + suc (length l) = omega
 literal-one m b l (k ∷ ls) = let far : m + 1 + length l ≡ m + suc (length l) = omega arith in rw far
 
 literal-runs : (m : ℕ) (s : List ℕ) → scanned (Literal (counted m)) s ≡ literalThen m (runs s)
-unfolding scanned stepped runs literalThen
+unfolding scanned seenAfter runs literalThen
 literal-runs m [] = rw (add-zero m)
 literal-runs m (b ∷ bs) =
     let r = first-run bs in

@@ -20,14 +20,14 @@ runs [] = [] ∷ []
 runs (b ∷ bs) = cond (eqb b 0x0A) ([] ∷ runs bs) (inFront b (runs bs))
 
 -- runs with an LF between each two
-unfoldable pub joined : List (List ℕ) → List ℕ
-joined [] = []
-joined (l ∷ []) = l
-joined (l ∷ m ∷ ls) = l ++ (0x0A ∷ joined (m ∷ ls))
+unfoldable pub joinedLines : List (List ℕ) → List ℕ
+joinedLines [] = []
+joinedLines (l ∷ []) = l
+joinedLines (l ∷ m ∷ ls) = l ++ (0x0A ∷ joinedLines (m ∷ ls))
 
 -- CLAIM: the runs are the input, cut at its LFs.
 abbrev pub RunsJoined : Type 0
-RunsJoined = (input : List ℕ) → joined (runs input) ≡ input
+RunsJoined = (input : List ℕ) → joinedLines (runs input) ≡ input
 
 -- the three lines
 unfoldable pub lineAt : ℕ → List ℕ → List ℕ

@@ -13,7 +13,7 @@ use Rattle.note.specs.declared.Verdict.the-variants.{Accepted, Refused}
 use Rattle.note.specs.Refusals.{numberOf}
 use Rattle.note.specs.Notes.{Note}
 use Rattle.note.specs.Starting.{starting}
-use Rattle.slice.specs.Bytes.{cleanedSlice}
+use Rattle.slice.specs.Bytes.{normalizedSlice}
 use Rattle.pattern.specs.declared.Place.{Place}
 use Rattle.find.specs.Matching.{foundPlaces}
 use Rattle.behaviors.specs.declared.SplitDelimiterBehavior.{SplitDelimiterBehavior}
@@ -30,8 +30,8 @@ use Rattle.piece_lines.specs.Input.{literalOf, behaviorLine, noteOf, sha
 use Rattle.piece_lines.specs.Spans.{line, piecesWord}
 
 -- the behaviour that a digit chooses
-unfoldable pub behaviorOf : ℕ → SplitDelimiterBehavior
-behaviorOf b =
+unfoldable pub behaviorOfDigit : ℕ → SplitDelimiterBehavior
+behaviorOfDigit b =
     cond (eqb b 0x31) Removed (cond (eqb b 0x32) Isolated
     (cond (eqb b 0x33) MergedWithPrevious (cond (eqb b 0x34) MergedWithNext Contiguous)))
 
@@ -51,7 +51,7 @@ pieceLine piece =
 -- the lines of the pieces that places cut out of a note
 unfoldable pub pieceLines : Note → List Place → List ℕ
 pieceLines n [] = []
-pieceLines n (p ∷ ps) = pieceLine (cleanedSlice n (p .start .0) (p .end .0)) ++ pieceLines n ps
+pieceLines n (p ∷ ps) = pieceLine (normalizedSlice n (p .start .0) (p .end .0)) ++ pieceLines n ps
 
 -- `pieces `, their number, and their lines
 unfoldable pub piecesText : Note → List Place → List ℕ
@@ -70,7 +70,7 @@ told literal behavior note =
 -- WHAT IS PRINTED of an input
 unfoldable pub printed : List ℕ → List ℕ
 printed input =
-    cond (shaped input) (told (literalOf input) (behaviorOf (getD (behaviorLine input) 0 0)) (noteOf input))
+    cond (shaped input) (told (literalOf input) (behaviorOfDigit (getD (behaviorLine input) 0 0)) (noteOf input))
     (refusal BadScript)
 
 -- bytes that are enough for what is printed of any input: the line in front, 13 for each piece besides its own bytes,

@@ -30,7 +30,7 @@ unfoldable pub spansText : List ℕ → List ℕ → List ℕ → List ℕ
 spansText text starts ends = piecesWord ++ field (length starts) 0x0A ++ spanLines text starts ends
 
 -- spans of a text
-pub record Spans (text starts ends : List ℕ) : Type 0 where
+pub record LineSpans (text starts ends : List ℕ) : Type 0 where
   pub alike : length starts ≡ length ends
   pub ordered : (i : ℕ) → i < length starts → getD starts i 0 ≤ getD ends i 0
   pub inside : (i : ℕ) → i < length starts → getD ends i 0 ≤ length text

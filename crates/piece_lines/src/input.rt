@@ -1,7 +1,7 @@
 // The input as it is read, byte by byte (RULES 14.4): what is kept of it, however long it is.
 ghost use mathlib.Core.Path.{_≡_};
 ghost use Prim.Native.Nat.{_+_};
-ghost use Rattle.piece_lines.specs.Scanning.{counted, scanned, stepped};
+ghost use Rattle.piece_lines.specs.Scanning.{counted, scanned, seenAfter};
 
 // The most bytes of the literal and of the note.
 pub const LONGEST: usize = 8192;
@@ -28,7 +28,7 @@ fn one_more(n: usize) -> usize
 
 // One more byte.
 fn step(seen: Seen, byte: u8) -> Seen
-    ensures { λ r. ⌜ r ≡ stepped seen byte ⌝ }
+    ensures { λ r. ⌜ r ≡ seenAfter seen byte ⌝ }
 {
     match seen {
         Seen::Literal(n) => {

@@ -14,8 +14,8 @@ use input::scan;
 use lines::write_headline;
 use lines::write_lines;
 use note::Refusal;
-use note::answers::number;
-use pattern::MOST;
+use note::verdicts::number;
+use pattern::MAX_PLACE_LEN;
 use spans::write_spans;
 ghost use mathlib.Core.Path.{_≡_};
 ghost use Prim.Native.Nat.{_+_, _*_, _≤_};
@@ -26,9 +26,9 @@ ghost use Rattle.pattern.specs.Encoding.{roomFor};
 ghost use Rattle.behaviors.specs.declared.EmptyPieces.the-variants.{Kept};
 ghost use Rattle.behaviors.specs.Runs.{listPieces};
 ghost use Rattle.piece_lines.specs.Input.{longest};
-ghost use Rattle.piece_lines.specs.Printing.{behaviorOf, most, piecesText, printed, refusal, told};
-ghost use Rattle.piece_lines.specs.Scanning.{Answered, Keeps};
-ghost use Rattle.piece_lines.specs.Spans.{Cuttable, spansText, Spans};
+ghost use Rattle.piece_lines.specs.Printing.{behaviorOfDigit, most, piecesText, printed, refusal, told};
+ghost use Rattle.piece_lines.specs.Scanning.{HeadPrinted, Keeps};
+ghost use Rattle.piece_lines.specs.Spans.{Cuttable, spansText, LineSpans};
 
 // The most bytes that an input has whose lines are not too long.
 pub const KEPT: usize = 2 * LONGEST + 4;
@@ -47,10 +47,10 @@ pub fn out_buffer() -> [u8; PRINTED]
 }
 
 // Zeros for the places of a note.
-fn list_buffer() -> [u8; MOST * SPANS]
+fn list_buffer() -> [u8; MAX_PLACE_LEN * SPANS]
     ensures { λ r. ⌜ roomFor (2 * longest + 1) ≡ length r ⌝ }
 {
-    [0; MOST * SPANS]
+    [0; MAX_PLACE_LEN * SPANS]
 }
 
 // Zeros for one end of each piece.
@@ -69,7 +69,7 @@ fn span_buffer() -> [u32; SPANS]
 
 // The behaviour that a digit chooses.
 fn behavior_of(digit: u8) -> SplitDelimiterBehavior
-    ensures { λ r. ⌜ r ≡ behaviorOf digit ⌝ }
+    ensures { λ r. ⌜ r ≡ behaviorOfDigit digit ⌝ }
 {
     match digit {
         b'1' => SplitDelimiterBehavior::Removed,
@@ -90,7 +90,7 @@ fn write_refusal(k: Refusal, out: &mut [u8]) -> usize
 
 // What is printed of pieces.
 fn write_pieces(text: &[u8], starts: &[Offset], ends: &[Offset], out: &mut [u8]) -> usize
-    requires { ⌜ Spans (now text) (now starts) (now ends)
+    requires { ⌜ LineSpans (now text) (now starts) (now ends)
         × (length (spansText (now text) (now starts) (now ends)) ≤ length (now out)) ⌝ }
     ensures { λ r. ⌜ Laid (spansText (now (text .entry)) (now (starts .entry)) (now (ends .entry)))
         (now (out .entry)) 0 r (now (out .exit)) ⌝ }
@@ -135,7 +135,7 @@ fn cut(literal: &[u8], behavior: SplitDelimiterBehavior, text: &[u8], out: &mut 
 // What is printed of the input of which this is kept.
 pub fn answer(head: &[u8], seen: Seen, out: &mut [u8]) -> usize
     requires { ⌜ Keeps (now head) seen × (most ≤ length (now out)) ⌝ }
-    ensures { λ r. ⌜ Answered (now (head .entry)) seen (now (out .entry)) r (now (out .exit)) ⌝ }
+    ensures { λ r. ⌜ HeadPrinted (now (head .entry)) seen (now (out .entry)) r (now (out .exit)) ⌝ }
 {
     let Seen::Whole(literal, digit, text) = seen else {
         return write_refusal(Refusal::BadScript, out);

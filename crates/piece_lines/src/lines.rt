@@ -9,7 +9,7 @@ ghost use Prim.Native.Nat.{_+_, _≤_};
 ghost use lib.ListN.{length};
 ghost use Rattle.buffers.specs.Splice.{part, Laid};
 ghost use Rattle.numbers.specs.Decimal.{field};
-ghost use Rattle.piece_lines.specs.Spans.{line, spanLines, Spans};
+ghost use Rattle.piece_lines.specs.Spans.{line, spanLines, LineSpans};
 
 // A word and a number, in front of `out`. Here and below: where the line ends.
 pub fn write_headline(word: &[u8], number: usize, out: &mut [u8]) -> usize
@@ -41,7 +41,7 @@ pub fn write_lines(
     out: &mut [u8],
     at: usize,
 ) -> usize
-    requires { ⌜ Spans (now text) (now starts) (now ends)
+    requires { ⌜ LineSpans (now text) (now starts) (now ends)
         × (at + length (spanLines (now text) (now starts) (now ends)) ≤ length (now out)) ⌝ }
     ensures { λ r. ⌜ Laid (spanLines (now (text .entry)) (now (starts .entry)) (now (ends .entry)))
         (now (out .entry)) at r (now (out .exit)) ⌝ }

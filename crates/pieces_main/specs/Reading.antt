@@ -11,7 +11,7 @@ pub record Behind (before after : Seen) : Type 0 where
   pub bytes : List ℕ
   pub is : after ≡ scanned before bytes
 
-abbrev pub Onward : Seen → Reading → Type 0
-Onward before (More after) = Behind before after
-Onward before (Ended after) = Behind before after
-Onward before Unread = Unit {0}
+abbrev pub ReadOn : Seen → Reading → Type 0
+ReadOn before (More after) = Behind before after
+ReadOn before (Ended after) = Behind before after
+ReadOn before Unread = Unit {0}

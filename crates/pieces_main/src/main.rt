@@ -10,8 +10,8 @@ use standard_input::Input;
 use standard_input::fill;
 ghost use mathlib.Core.Path.{_≡_};
 ghost use lib.ListN.{length};
-ghost use Rattle.piece_lines.specs.Scanning.{kept, Keeps};
-ghost use Rattle.pieces_main.specs.Reading.{Onward};
+ghost use Rattle.piece_lines.specs.Scanning.{headSize, Keeps};
+ghost use Rattle.pieces_main.specs.Reading.{ReadOn};
 
 // How far the input was read: more may follow, or it has ended, or it cannot be read.
 enum Reading {
@@ -25,14 +25,14 @@ const CHUNKS: u64 = 18446744073709551615;
 
 // Zeros for what is kept of the input.
 fn head_buffer() -> [u8; KEPT]
-    ensures { λ r. ⌜ kept ≡ length r ⌝ }
+    ensures { λ r. ⌜ headSize ≡ length r ⌝ }
 {
     [0; KEPT]
 }
 
 // One chunk more.
 fn read_on(seen: Seen) -> Reading
-    ensures { λ r. ⌜ Onward seen r ⌝ }
+    ensures { λ r. ⌜ ReadOn seen r ⌝ }
 {
     let mut chunk = io::large_buffer();
     match fill(&mut chunk) {
@@ -49,7 +49,7 @@ fn read_on(seen: Seen) -> Reading
 
 // All chunks.
 fn read_to_end(seen: Seen) -> Reading
-    ensures { λ r. ⌜ Onward seen r ⌝ }
+    ensures { λ r. ⌜ ReadOn seen r ⌝ }
 {
     let mut so_far = seen;
     let mut left = CHUNKS;

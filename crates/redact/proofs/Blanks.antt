@@ -18,20 +18,20 @@ use Rattle.find.specs.Matching.{FirstMatch, matchesFrom, foundPlaces}
 use Rattle.find.proofs.MatchesFrom.{Searched, first-there, match-inside, searched-more}
 use Rattle.find.proofs.FoundPlaces.{found-whole, searched-first, found-from}
 use Rattle.replace.specs.Replacing.{piece, laid, carried}
-use Rattle.replace.specs.Sizes.{sizes}
+use Rattle.replace.specs.Sizes.{placesSize}
 use Rattle.replace.proofs.Columns.{content-padded, content-alone}
-use Rattle.redact_blocks.specs.Blanks.{rest, Blankable, Bounded, AllLaid}
+use Rattle.redact_blocks.specs.Blanks.{resultFrom, Blankable, Bounded, AllBlanked}
 use Rattle.redact_blocks.proofs.Keeping.{starts-long, ends-long}
 use Rattle.redact.specs.Blanks.{Margin, Fitting, WholeRoom, WholeLaid, FoundLaid}
 use Rattle.redact.proofs.BlankedSize.{sizes-more, sizes-end, sizes-unmatched}
 
 -- what is left of the result, by what is left of the text
 share-bound : (g m wide r t n : ℕ) → g ≤ wide → g ≤ m → g * n ≤ m * t → g * (m + (r + n)) ≤ m * (wide + (r + t))
-share-bound g m wide r t n h k rest =
-    omega (arith, mul-add g m (r + n), mul-add g r n, mul-add m wide (r + t), mul-add m r t, mul-comm g m, mul-comm g r, mul-comm m r, mul-le-mul-left m h, mul-le-mul-left r k, rest)
+share-bound g m wide r t n h k resultFrom =
+    omega (arith, mul-add g m (r + n), mul-add g r n, mul-add m wide (r + t), mul-add m r t, mul-comm g m, mul-comm g r, mul-comm m r, mul-le-mul-left m h, mul-le-mul-left r k, resultFrom)
 
 module _ (text literal : List ℕ) (wide : ℕ) where
-  sizes-share : (n i p : ℕ) → length text - i < n → Searched text literal i p → min wide (length literal) * (length text - i) ≤ length literal * sizes wide (matchesFrom text literal i)
+  sizes-share : (n i p : ℕ) → length text - i < n → Searched text literal i p → min wide (length literal) * (length text - i) ≤ length literal * placesSize wide (matchesFrom text literal i)
   sizes-share zero i p few s = absurd (omega arith)
   sizes-share (suc n) i p few s =
       let f : FirstMatch text literal i p = first-there s in
@@ -45,17 +45,17 @@ module _ (text literal : List ℕ) (wide : ℕ) where
       (λ more.
       let inside = match-inside s more in
       let left : length text - i ≡ length literal + ((p - i) + (length text - (p + length literal))) = omega (arith, f .from) in
-      let size : sizes wide (matchesFrom text literal i) ≡ wide + ((p - i) + sizes wide (matchesFrom text literal (p + length literal))) = omega (arith, sizes-more wide s more) in
+      let size : placesSize wide (matchesFrom text literal i) ≡ wide + ((p - i) + placesSize wide (matchesFrom text literal (p + length literal))) = omega (arith, sizes-more wide s more) in
       rw (left, size)
       (share-bound g (length literal) wide (p - i) _ _ (omega arith) (omega arith)
       (sizes-share n (p + length literal) _ (omega (arith, s .some, f .from)) (searched-more s more refl))))
 
   -- where the margin is left, a block is within the result
-  block-left : {margin i : ℕ} → Margin (length text) (length literal) wide margin → 0 < length literal → i ≤ length text → margin ≤ length text - i → 80 ≤ sizes wide (matchesFrom text literal i)
+  block-left : {margin i : ℕ} → Margin (length text) (length literal) wide margin → 0 < length literal → i ≤ length text → margin ≤ length text - i → 80 ≤ placesSize wide (matchesFrom text literal i)
   block-left {i = i} w some inside room =
       let enough = w .enough (length text - i) room (omega arith) in
       let long = sizes-share (suc (length text)) i _ (omega arith) (record { some = some; most = inside; next = refl }) in
-      let more : 80 < sizes wide (matchesFrom text literal i) = lt-of-mul-lt-mul-left (length literal) (omega (arith, enough, long, mul-comm 80 (length literal))) in
+      let more : 80 < placesSize wide (matchesFrom text literal i) = lt-of-mul-lt-mul-left (length literal) (omega (arith, enough, long, mul-comm 80 (length literal))) in
       omega arith
 
 -- the margin that is reckoned
@@ -73,8 +73,8 @@ margin-share size literal wide {share} is some =
 
 -- the literal stands nowhere: the starting note as it is
 module _ {text literal content : List ℕ} {first : ℕ} {out starts ends : List ℕ} (f : Fitting text literal content first out starts ends) (none : first ≡ length text) where
-  found-one : sizes (length content) (foundPlaces text literal) ≡ length text
-  found-one = ap (sizes (length content)) (found-whole text literal (sym (f .first-is) ∙ none)) ∙ sizes-unmatched (length content) 0 (length text) ∙ omega arith
+  found-one : placesSize (length content) (foundPlaces text literal) ≡ length text
+  found-one = ap (placesSize (length content)) (found-whole text literal (sym (f .first-is) ∙ none)) ∙ sizes-unmatched (length content) 0 (length text) ∙ omega arith
 
   pub whole-room : WholeRoom text out starts ends
   whole-room =
@@ -109,8 +109,8 @@ module _ {text literal content : List ℕ} {first : ℕ} {out starts ends : List
   from-start : Searched text literal 0 first
   from-start = searched-first text literal (f .first-is) met
 
-  found-sizes : sizes (length content) (foundPlaces text literal) ≡ 0 + sizes (length content) (matchesFrom text literal 0)
-  found-sizes = ap (sizes (length content)) (found-from text literal (f .first-is) met) ∙ omega arith
+  found-sizes : placesSize (length content) (foundPlaces text literal) ≡ 0 + placesSize (length content) (matchesFrom text literal 0)
+  found-sizes = ap (placesSize (length content)) (found-from text literal (f .first-is) met) ∙ omega arith
 
   pub blankable : Blankable text literal content 0 0 out starts ends
   blankable =
@@ -129,13 +129,13 @@ module _ {text literal content : List ℕ} {first : ℕ} {out starts ends : List
   pub literal-short : length literal ≤ limit
   literal-short = omega (arith, first-there from-start .most, match-inside from-start (le-or-lt (length text) first (λ h. absurd (met (omega (arith, first-there from-start .most)))) (λ h. h)), f .short)
 
-  module _ {most : ℕ} {share margin until : ℕ} (known : largest text ≤ most) (w : Margin (length text) (length literal) (length content) share) (wide : (length literal + 80 ≤ margin) × (share ≤ 1024 → share ≤ margin)) (below : 1024 < share → until ≤ sizes (length content) (foundPlaces text literal)) where
-    bounded : (filler : List ℕ) → part filler 0 (length content) ≡ content → length content ≤ length filler → Bounded text most literal content filler 0 0 margin until
-    bounded filler front long =
+  module _ {most : ℕ} {share margin until : ℕ} (known : largest text ≤ most) (w : Margin (length text) (length literal) (length content) share) (wide : (length literal + 80 ≤ margin) × (share ≤ 1024 → share ≤ margin)) (below : 1024 < share → until ≤ placesSize (length content) (foundPlaces text literal)) where
+    bounded : (padded : List ℕ) → part padded 0 (length content) ≡ content → length content ≤ length padded → Bounded text most literal content padded 0 0 margin until
+    bounded padded front long =
         record {
           most-is = known;
-          filler-is = front;
-          filler-long = long;
+          padded-is = front;
+          padded-long = long;
           window = wide .0;
           enough = λ j b inside left fits is. le-or-lt share 1024
               (λ soon. let h = wide .1 soon in omega (arith, block-left text literal (length content) w (from-start .some) inside (omega arith)))
@@ -148,8 +148,8 @@ module _ {text literal content : List ℕ} {first : ℕ} {out starts ends : List
     pub bounded-padded : (zeros : List ℕ) {padded : List ℕ} → length content ≤ length zeros → padded ≡ splice zeros 0 content → Bounded text most literal content padded 0 0 margin until
     bounded-padded zeros {padded} room is = bounded padded (content-padded content zeros is) (omega (arith, ap length is ∙ length-splice zeros 0 content (omega arith)))
 
-  pub all-found : {r : ℕ} {out₁ starts₁ ends₁ : List ℕ} → AllLaid text literal content out starts ends r out₁ starts₁ ends₁ → FoundLaid text literal content out starts ends r out₁ starts₁ ends₁
-  unfolding rest
+  pub all-found : {r : ℕ} {out₁ starts₁ ends₁ : List ℕ} → AllBlanked text literal content out starts ends r out₁ starts₁ ends₁ → FoundLaid text literal content out starts ends r out₁ starts₁ ends₁
+  unfolding resultFrom
   all-found l =
       let is = found-from text literal (f .first-is) met in
       record {

@@ -9,7 +9,7 @@ use lib.ListN.{length}
 use borrow.Author.Tests.{not-true, not-false}
 use Rattle.utf8.specs.Formed.{wellFormed}
 use Rattle.note.specs.declared.Refusal.{Refusal}
-use Rattle.note.specs.declared.Refusal.the-variants.{NoRoom}
+use Rattle.note.specs.declared.Refusal.the-variants.{NoRoom, IllFormed}
 use Rattle.note.specs.declared.Verdict.{Verdict}
 use Rattle.note.specs.declared.Verdict.the-variants.{Accepted, Refused as Rejected}
 use Rattle.note.specs.Refusals.{none, meets, also, least, verdict, after}
@@ -17,7 +17,8 @@ use Rattle.note.specs.Rank.{earlier}
 use Rattle.note.specs.Notes.{limit}
 use Rattle.note.specs.Faults.{noteFaults, textFaults, stringFaults, roomFaults}
 use Rattle.note.specs.Starting.{starting}
-use Rattle.note.proofs.Verdicts.{earlier-of, refused-then, accepted-then, accepted-first, accepted-second, both-accepted}
+use Rattle.note.specs.Rank.{upTo}
+use Rattle.note.proofs.FirstMet.{earlier-of, refused-then, accepted-then, accepted-first, accepted-second, both-accepted}
 use Rattle.note.proofs.Faults.{text-short, text-formed, string-formed, room-enough}
 use Rattle.note.proofs.Starting.{starting-accepted}
 use Rattle.pattern.specs.Entries.{placesOf}
@@ -29,7 +30,7 @@ use Rattle.find.specs.Searching.{firstMatch}
 use Rattle.find.proofs.FoundPlaces.{found-read, found-covers}
 use Rattle.replace.specs.declared.Publication.the-variants.{Published, Refused}
 use Rattle.replace.specs.Replacing.{laid, replaced, replaceFaults, publication}
-use Rattle.replace.specs.Sizes.{sizes}
+use Rattle.replace.specs.Sizes.{placesSize}
 use Rattle.replace.proofs.Sizes.{length-laid}
 use Rattle.redact.specs.Redacting.{blanked, inputFaults, redactFaults, Redacted}
 use Rattle.redact.specs.Publishing.{PublishedCall}
@@ -37,11 +38,11 @@ use Rattle.redact.specs.Blanks.{Fitting, FoundLaid}
 
 -- the list that is found covers the text, so that the size of its places is that of the result
 module _ (text literal : List ℕ) (t : wellFormed text ≡ true) (l : wellFormed literal ≡ true) (short : length text ≤ limit) where
-  blanked-length : (content : List ℕ) → length (blanked text literal content .text) ≡ sizes (length content) (foundPlaces text literal)
+  blanked-length : (content : List ℕ) → length (blanked text literal content .text) ≡ placesSize (length content) (foundPlaces text literal)
   unfolding replaced starting
   blanked-length content =
       length-laid text text (λ end. content) (length content) 0 (placesOf (foundBytes text literal)) refl (λ e. refl) (covers-places text (foundBytes text literal) (found-covers text literal t l short))
-      ∙ ap (sizes (length content)) (found-read text literal short)
+      ∙ ap (placesSize (length content)) (found-read text literal short)
 
 -- the inputs
 pub inputs-judged : (most : ℕ) (text literal content : List ℕ) {u v w s r : Verdict} → u ≡ verdict (textFaults most text) → v ≡ verdict (stringFaults literal) → w ≡ verdict (stringFaults content) → s ≡ earlier v w → r ≡ earlier u s → r ≡ verdict (inputFaults most text literal content)
@@ -76,9 +77,9 @@ resultFaults most text literal content room = roomFaults (length (blanked text l
 -- the inputs, then the room
 module _ (text literal content : List ℕ) (room : ℕ) {v : Verdict} (e : v ≡ verdict (inputFaults limit text literal content)) where
   pub inputs-refused : {k : Refusal} → v ≡ Rejected k → Rejected k ≡ verdict (redactFaults limit text literal content room)
-  inputs-refused is = refused-then 3 (inputFaults limit text literal content) (resultFaults limit text literal content room) refl refl e is
+  inputs-refused is = refused-then (upTo IllFormed) (inputFaults limit text literal content) (resultFaults limit text literal content room) refl refl e is
 
-  module _ (is : v ≡ Accepted) {within : ℕ} {t : Bool} (least-is : within ≡ min limit room) (fits : t ≡ leb (sizes (length content) (foundPlaces text literal)) within) where
+  module _ (is : v ≡ Accepted) {within : ℕ} {t : Bool} (least-is : within ≡ min limit room) (fits : t ≡ leb (placesSize (length content) (foundPlaces text literal)) within) where
     room-said : verdict (resultFaults limit text literal content room) ≡ cond t Accepted (Rejected NoRoom)
     room-said =
         let g : Formed text literal content = inputs-formed text literal content (sym e ∙ is) in
@@ -86,7 +87,7 @@ module _ (text literal content : List ℕ) (room : ℕ) {v : Verdict} (e : v ≡
         room-verdict (leb (length (blanked text literal content .text)) (min limit room)) ∙ rw (size, ← least-is, ← fits)
 
     then-room : {w : Verdict} → w ≡ verdict (resultFaults limit text literal content room) → w ≡ verdict (redactFaults limit text literal content room)
-    then-room w = accepted-then 3 (inputFaults limit text literal content) (resultFaults limit text literal content room) refl refl e is w
+    then-room w = accepted-then (upTo IllFormed) (inputFaults limit text literal content) (resultFaults limit text literal content room) refl refl e is w
 
     pub room-refused : not t ≡ true → Rejected NoRoom ≡ verdict (redactFaults limit text literal content room)
     room-refused short = then-room (sym (room-said ∙ rw (not-true t short)))

@@ -11,7 +11,7 @@ use Rattle.note.specs.Starting.{starting}
 use Rattle.find.specs.Matching.{foundPlaces}
 use Rattle.find.specs.Searching.{firstMatch}
 use Rattle.replace.specs.Replacing.{laid, carried}
-use Rattle.replace.specs.Sizes.{sizes}
+use Rattle.replace.specs.Sizes.{placesSize}
 
 -- where so many bytes of a text are left, more than 80 of the result are: each of a match's `literal` bytes gives at
 -- least the smaller of two `literal`th parts, its own or that of a content of `wide` bytes
@@ -24,10 +24,10 @@ pub record Fitting (text literal content : List ℕ) (first : ℕ) (out starts e
   pub literal-formed : wellFormed literal ≡ true
   pub short : length text ≤ limit
   pub first-is : first ≡ firstMatch text literal
-  pub within : sizes (length content) (foundPlaces text literal) ≤ limit
-  pub text-room : sizes (length content) (foundPlaces text literal) ≤ length out
-  pub starts-room : sizes (length content) (foundPlaces text literal) ≤ length starts
-  pub ends-room : sizes (length content) (foundPlaces text literal) ≤ length ends
+  pub within : placesSize (length content) (foundPlaces text literal) ≤ limit
+  pub text-room : placesSize (length content) (foundPlaces text literal) ≤ length out
+  pub starts-room : placesSize (length content) (foundPlaces text literal) ≤ length starts
+  pub ends-room : placesSize (length content) (foundPlaces text literal) ≤ length ends
 
 -- a starting note as it is, and room for it
 pub record WholeRoom (text out starts ends : List ℕ) : Type 0 where

@@ -15,7 +15,7 @@ use from_text::columns::write_starts;
 use note::LIMIT;
 use note::Refusal;
 use note::Verdict;
-use note::answers::earlier;
+use note::verdicts::earlier;
 use redact_blocks::blank;
 use replace::Publication;
 use validity_blocks::extremes::largest;
@@ -27,7 +27,7 @@ ghost use Rattle.note.specs.Notes.{limit};
 ghost use Rattle.note.specs.Refusals.{verdict};
 ghost use Rattle.find.specs.Matching.{foundPlaces};
 ghost use Rattle.find.specs.Searching.{firstMatch};
-ghost use Rattle.replace.specs.Sizes.{sizes};
+ghost use Rattle.replace.specs.Sizes.{placesSize};
 ghost use Rattle.redact.specs.Redacting.{Redacted, inputFaults};
 ghost use Rattle.redact.specs.Blanks.{Fitting, FoundLaid, Margin, WholeLaid, WholeRoom};
 
@@ -56,7 +56,7 @@ fn sum(a: usize, b: usize) -> usize
 // limit where they are more.
 fn blanked_size(text: &[u8], literal: &[u8], first: usize, wide: usize) -> usize
     requires { ⌜ first ≡ firstMatch (now text) (now literal) ⌝ }
-    ensures { λ r. ⌜ r ≡ min (limit + 1) (sizes wide (foundPlaces (now (text .entry)) (now (literal .entry)))) ⌝ }
+    ensures { λ r. ⌜ r ≡ min (limit + 1) (placesSize wide (foundPlaces (now (text .entry)) (now (literal .entry)))) ⌝ }
 {
     let mut total = 0;
     let mut at = 0;
@@ -73,7 +73,7 @@ fn blanked_size(text: &[u8], literal: &[u8], first: usize, wide: usize) -> usize
 // than the text: where the text fits, nothing is measured.
 fn result_fits(text: &[u8], literal: &[u8], first: usize, wide: usize, room: usize) -> bool
     requires { ⌜ (first ≡ firstMatch (now text) (now literal)) × (room ≤ limit) ⌝ }
-    ensures { λ r. ⌜ r ≡ leb (sizes wide (foundPlaces (now (text .entry)) (now (literal .entry)))) room ⌝ }
+    ensures { λ r. ⌜ r ≡ leb (placesSize wide (foundPlaces (now (text .entry)) (now (literal .entry)))) room ⌝ }
 {
     if wide <= literal.len() {
         if text.len() <= room {
@@ -85,7 +85,7 @@ fn result_fits(text: &[u8], literal: &[u8], first: usize, wide: usize, room: usi
 
 // How many bytes have to be left of a text of so many that more than 80 of the result are: a block, and the 16 that a
 // content behind it is laid by.
-fn share_of(size: usize, literal: usize, wide: usize) -> usize
+fn safe_margin(size: usize, literal: usize, wide: usize) -> usize
     requires { ⌜ size ≤ limit ⌝ }
     ensures { λ r. ⌜ Margin size literal wide r ⌝ }
 {
@@ -114,9 +114,9 @@ fn margin_of(share: usize, literal: usize) -> usize
 }
 
 // Up to where blocks may be laid: no bound where the margin is enough, else the result's size.
-fn bound_of(text: &[u8], literal: &[u8], first: usize, wide: usize, share: usize) -> usize
+fn block_limit(text: &[u8], literal: &[u8], first: usize, wide: usize, share: usize) -> usize
     requires { ⌜ first ≡ firstMatch (now text) (now literal) ⌝ }
-    ensures { λ r. ⌜ (1024 < share → r ≤ sizes wide (foundPlaces (now (text .entry)) (now (literal .entry)))) ⌝ }
+    ensures { λ r. ⌜ (1024 < share → r ≤ placesSize wide (foundPlaces (now (text .entry)) (now (literal .entry)))) ⌝ }
 {
     if share <= 1024 {
         return LIMIT + 80;
@@ -138,7 +138,7 @@ fn lay_whole(text: &[u8], out: &mut [u8], out_starts: &mut [Offset], out_ends: &
 
 // What no byte of the text is larger than: its largest byte, or any byte's bound where its first bytes have a character
 // of four bytes already.
-fn most_of(text: &[u8]) -> u8
+fn max_byte(text: &[u8]) -> u8
     ensures { λ r. ⌜ largest (now (text .entry)) ≤ r ⌝ }
 {
     let few = least_of_two(1024, text.len());
@@ -168,10 +168,10 @@ fn blank_found(
         lay_whole(text, out, out_starts, out_ends);
         return first;
     }
-    let most = most_of(text);
-    let share = share_of(text.len(), literal.len(), content.len());
+    let most = max_byte(text);
+    let share = safe_margin(text.len(), literal.len(), content.len());
     let margin = margin_of(share, literal.len());
-    let until = bound_of(text, literal, first, content.len(), share);
+    let until = block_limit(text, literal, first, content.len(), share);
     if 16 < content.len() {
         return blank(
             text,

@@ -21,11 +21,12 @@ use Rattle.validity_blocks.proofs.Largest.{largest-at}
 use Rattle.column_blocks.specs.ContinuationRun.{continuationRun}
 use Rattle.column_blocks.proofs.ContinuationRun.{end-ahead}
 use Rattle.note.specs.Notes.{limit}
-use Rattle.note.proofs.Starting.{Ranged, ranged, charStart-begins}
-use Rattle.note.specs.Starting.{charStart, charEnd, starting}
+use Rattle.utf8.proofs.CharRanges.{Ranged, ranged, charStart-begins}
+use Rattle.utf8.specs.CharRanges.{charStart, charEnd}
+use Rattle.note.specs.Starting.{starting}
 use Rattle.note.proofs.BeforeEnd.{before-some}
 use Rattle.replace.proofs.Columns.{content-alone}
-use Rattle.redact_blocks.specs.Keeping.{StretchRoom, Stretch, FillerRoom, FillerLaid}
+use Rattle.redact_blocks.specs.Keeping.{StretchRoom, Stretch, ContentRoom, ContentLaid}
 
 -- less is told with a larger bound
 over-below : {r d₀ d : List ℕ} {at until : ℕ} (more : ℕ) → until ≤ more → Over r d₀ at until d → Over r d₀ at more d
@@ -119,11 +120,11 @@ range-small text i p h short s e = let r : Ranged text i = ranged text i p h in 
 pub byte-small : {text : List ℕ} {i : ℕ} {out starts ends : List ℕ} {at a b : ℕ} → StretchRoom text i (i + 1) out starts ends at → a ≡ charStart text i → b ≡ charEnd text i → (a ≤ limit) × (b ≤ limit)
 byte-small {text} {i} r = range-small text i (r .formed) (omega (arith, r .inside)) (r .short)
 
-pub filler-first : {text : List ℕ} {end : ℕ} {filler : List ℕ} {wide until : ℕ} {out starts ends : List ℕ} {at a : ℕ} → FillerRoom text end filler wide until out starts ends at → a ≡ charStart text (end - 1) → a ≤ limit
-filler-first {text} {end} r is = range-small text (end - 1) (r .formed) (omega (arith, r .some, r .inside)) (r .short) is refl .0
+pub padded-first : {text : List ℕ} {end : ℕ} {padded : List ℕ} {wide until : ℕ} {out starts ends : List ℕ} {at a : ℕ} → ContentRoom text end padded wide until out starts ends at → a ≡ charStart text (end - 1) → a ≤ limit
+padded-first {text} {end} r is = range-small text (end - 1) (r .formed) (omega (arith, r .some, r .inside)) (r .short) is refl .0
 
-pub filler-small : {text : List ℕ} {end : ℕ} {filler : List ℕ} {wide until : ℕ} {out starts ends : List ℕ} {at a b : ℕ} → FillerRoom text end filler wide until out starts ends at → a ≡ charStart text (end - 1) → b ≡ charEnd text (end - 1) → (a ≤ limit) × (b ≤ limit)
-filler-small {text} {end} r = range-small text (end - 1) (r .formed) (omega (arith, r .some, r .inside)) (r .short)
+pub padded-small : {text : List ℕ} {end : ℕ} {padded : List ℕ} {wide until : ℕ} {out starts ends : List ℕ} {at a b : ℕ} → ContentRoom text end padded wide until out starts ends at → a ≡ charStart text (end - 1) → b ≡ charEnd text (end - 1) → (a ≤ limit) × (b ≤ limit)
+padded-small {text} {end} r = range-small text (end - 1) (r .formed) (omega (arith, r .some, r .inside)) (r .short)
 
 -- nothing yet, and the front of a block
 over-none : (xs d : List ℕ) (from at until : ℕ) → Over (part xs from from) d at until d
@@ -167,9 +168,9 @@ stretch-front {text} {i} k few r s =
     }
 
 -- a content, each byte of which carries the range of the byte before the match's end
-pub filler-laid : {text : List ℕ} {end : ℕ} {filler : List ℕ} {wide until : ℕ} {out starts ends : List ℕ} {at : ℕ} → FillerRoom text end filler wide until out starts ends at → {x y : ℕ} {out₁ starts₁ ends₁ : List ℕ} → x ≡ charStart text (end - 1) → y ≡ charEnd text (end - 1) → Over (part filler 0 wide) out at until out₁ → Over (replicate wide x) starts at until starts₁ → Over (replicate wide y) ends at until ends₁ → FillerLaid text end filler wide out starts ends at until out₁ starts₁ ends₁
+pub padded-laid : {text : List ℕ} {end : ℕ} {padded : List ℕ} {wide until : ℕ} {out starts ends : List ℕ} {at : ℕ} → ContentRoom text end padded wide until out starts ends at → {x y : ℕ} {out₁ starts₁ ends₁ : List ℕ} → x ≡ charStart text (end - 1) → y ≡ charEnd text (end - 1) → Over (part padded 0 wide) out at until out₁ → Over (replicate wide x) starts at until starts₁ → Over (replicate wide y) ends at until ends₁ → ContentLaid text end padded wide out starts ends at until out₁ starts₁ ends₁
 unfolding starting
-filler-laid {text} {end} r p q t s e =
+padded-laid {text} {end} r p q t s e =
     let last : end - 1 < length text = omega (arith, r .some, r .inside) in
     record {
       text-over = t;
@@ -177,9 +178,9 @@ filler-laid {text} {end} r p q t s e =
       ends-over = rw (before-some (column (length text) (charEnd text)) end (r .some), getD-column (length text) (charEnd text) (end - 1) last) (rw q at e);
     }
 
-pub filler-exact : {text : List ℕ} {end : ℕ} {content : List ℕ} {out starts ends : List ℕ} {at : ℕ} → FillerRoom text end content (length content) 0 out starts ends at → {x y : ℕ} {out₁ starts₁ ends₁ : List ℕ} → x ≡ charStart text (end - 1) → y ≡ charEnd text (end - 1) → out₁ ≡ splice out at content → starts₁ ≡ splice starts at (replicate (length content) x) → ends₁ ≡ splice ends at (replicate (length content) y) → FillerLaid text end content (length content) out starts ends at 0 out₁ starts₁ ends₁
-filler-exact {content = content} {out} {starts} {ends} {at} r {x} {y} p q t s e =
-    filler-laid r p q
+pub padded-exact : {text : List ℕ} {end : ℕ} {content : List ℕ} {out starts ends : List ℕ} {at : ℕ} → ContentRoom text end content (length content) 0 out starts ends at → {x y : ℕ} {out₁ starts₁ ends₁ : List ℕ} → x ≡ charStart text (end - 1) → y ≡ charEnd text (end - 1) → out₁ ≡ splice out at content → starts₁ ≡ splice starts at (replicate (length content) x) → ends₁ ≡ splice ends at (replicate (length content) y) → ContentLaid text end content (length content) out starts ends at 0 out₁ starts₁ ends₁
+padded-exact {content = content} {out} {starts} {ends} {at} r {x} {y} p q t s e =
+    padded-laid r p q
     (rw (content-alone content) (over-exact content out at 0 (r .text-room) t))
     (over-exact (replicate (length content) x) starts at 0 (omega (arith, r .starts-room, length-replicate (length content) x)) s)
     (over-exact (replicate (length content) y) ends at 0 (omega (arith, r .ends-room, length-replicate (length content) y)) e)

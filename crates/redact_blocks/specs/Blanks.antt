@@ -12,12 +12,12 @@ use Rattle.note.specs.Starting.{starting}
 use Rattle.find.specs.Matching.{matchesFrom}
 use Rattle.find.specs.Searching.{Absent}
 use Rattle.replace.specs.Replacing.{laid, carried}
-use Rattle.replace.specs.Sizes.{sizes}
+use Rattle.replace.specs.Sizes.{placesSize}
 use Rattle.redact_blocks.specs.Keeping.{StretchRoom, Stretch}
 
 -- what a column gives from byte i of the text on
-unfoldable pub rest : (ℕ → List ℕ) → List ℕ → List ℕ → List ℕ → ℕ → List ℕ
-rest fill text literal xs i = laid fill (matchesFrom text literal i) xs
+unfoldable pub resultFrom : (ℕ → List ℕ) → List ℕ → List ℕ → List ℕ → ℕ → List ℕ
+resultFrom fill text literal xs i = laid fill (matchesFrom text literal i) xs
 
 -- a text and a literal, and room from `at` on for what they give from byte i on
 pub record Blankable (text literal content : List ℕ) (i at : ℕ) (out starts ends : List ℕ) : Type 0 where
@@ -26,19 +26,19 @@ pub record Blankable (text literal content : List ℕ) (i at : ℕ) (out starts 
   pub short : length text ≤ limit
   pub some : 0 < length literal
   pub inside : i ≤ length text
-  pub within : at + sizes (length content) (matchesFrom text literal i) ≤ limit
-  pub text-room : at + sizes (length content) (matchesFrom text literal i) ≤ length out
-  pub starts-room : at + sizes (length content) (matchesFrom text literal i) ≤ length starts
-  pub ends-room : at + sizes (length content) (matchesFrom text literal i) ≤ length ends
+  pub within : at + placesSize (length content) (matchesFrom text literal i) ≤ limit
+  pub text-room : at + placesSize (length content) (matchesFrom text literal i) ≤ length out
+  pub starts-room : at + placesSize (length content) (matchesFrom text literal i) ≤ length starts
+  pub ends-room : at + placesSize (length content) (matchesFrom text literal i) ≤ length ends
 
 -- a column d that is laid before `at`, with the text from i on to come, is laid on to d₁, before at₁ and from i₁ on;
 -- behind all of the result it is as it was
 pub record Onward (fill : ℕ → List ℕ) (text literal xs : List ℕ) (i at : ℕ) (d : List ℕ) (i₁ at₁ : ℕ) (d₁ : List ℕ)
     : Type 0 where
-  pub so-far : take at₁ d₁ ++ rest fill text literal xs i₁ ≡ take at d ++ rest fill text literal xs i
+  pub so-far : take at₁ d₁ ++ resultFrom fill text literal xs i₁ ≡ take at d ++ resultFrom fill text literal xs i
   pub beyond :
-      drop (at + length (rest fill text literal xs i)) d₁ ≡ drop (at + length (rest fill text literal xs i)) d
-  pub reach : at₁ + length (rest fill text literal xs i₁) ≡ at + length (rest fill text literal xs i)
+      drop (at + length (resultFrom fill text literal xs i)) d₁ ≡ drop (at + length (resultFrom fill text literal xs i)) d
+  pub reach : at₁ + length (resultFrom fill text literal xs i₁) ≡ at + length (resultFrom fill text literal xs i)
   pub same : length d₁ ≡ length d
 
 -- the text and both columns of its starting note are
@@ -56,17 +56,17 @@ pub record Blanked (text literal content : List ℕ) (i at : ℕ) (out starts en
 
 -- blocks are laid with a content in front of a filler: where so many bytes of the text are left as `margin`
 -- says, and 80 elements end below `until`, the result has them
-pub record Bounded (text : List ℕ) (most : ℕ) (literal content filler : List ℕ) (i at margin until : ℕ)
+pub record Bounded (text : List ℕ) (most : ℕ) (literal content padded : List ℕ) (i at margin until : ℕ)
     : Type 0 where
   pub most-is : largest text ≤ most
-  pub filler-is : part filler 0 (length content) ≡ content
-  pub filler-long : length content ≤ length filler
+  pub padded-is : part padded 0 (length content) ≡ content
+  pub padded-long : length content ≤ length padded
   pub window : length literal + 80 ≤ margin
   pub enough :
       (j b : ℕ) → j ≤ length text → margin ≤ length text - j → b + 80 ≤ until
-      → b + sizes (length content) (matchesFrom text literal j)
-      ≡ at + sizes (length content) (matchesFrom text literal i)
-      → b + 80 ≤ at + sizes (length content) (matchesFrom text literal i)
+      → b + placesSize (length content) (matchesFrom text literal j)
+      ≡ at + placesSize (length content) (matchesFrom text literal i)
+      → b + 80 ≤ at + placesSize (length content) (matchesFrom text literal i)
 
 -- a literal's first bytes, up to 16, in front of 16 bytes
 pub record FrontOf (literal front : List ℕ) : Type 0 where
@@ -81,7 +81,7 @@ pub record FrontAt (text literal front : List ℕ) (p : ℕ) : Type 0 where
   pub inside : p + length literal ≤ length text
 
 -- a block of 64 from i on, with the bytes that it is searched and counted by
-pub record BlockRoom (text : List ℕ) (most : ℕ) (literal : List ℕ) (first last i : ℕ) (out starts ends : List ℕ)
+pub record SearchBlockRoom (text : List ℕ) (most : ℕ) (literal : List ℕ) (first last i : ℕ) (out starts ends : List ℕ)
     (at : ℕ) : Type 0 where
   pub most-is : largest text ≤ most
   pub some : 0 < length literal
@@ -92,19 +92,19 @@ pub record BlockRoom (text : List ℕ) (most : ℕ) (literal : List ℕ) (first 
   pub high : i + length literal + 66 ≤ length text
 
 -- the literal does not stand at k positions from i on, and so much is laid; up to 64 elements are written
-pub record Passed (text literal : List ℕ) (i : ℕ) (out₀ starts₀ ends₀ : List ℕ) (at k : ℕ) (out starts ends : List ℕ)
+pub record BlockPassed (text literal : List ℕ) (i : ℕ) (out₀ starts₀ ends₀ : List ℕ) (at k : ℕ) (out starts ends : List ℕ)
     : Type 0 where
   pub most : k ≤ 64
   pub away : Absent text literal i (i + k)
   pub stretch : Stretch text i (i + k) out₀ starts₀ ends₀ at (at + 64) out starts ends
 
 -- what is found gives way in the text and in both columns of its starting note
-pub record AllLaid (text literal content out₀ starts₀ ends₀ : List ℕ) (r : ℕ) (out starts ends : List ℕ)
+pub record AllBlanked (text literal content out₀ starts₀ ends₀ : List ℕ) (r : ℕ) (out starts ends : List ℕ)
     : Type 0 where
-  pub reached : r ≡ length (rest (λ end. content) text literal text 0)
-  pub text-is : out ≡ overlay (rest (λ end. content) text literal text 0) out₀
+  pub reached : r ≡ length (resultFrom (λ end. content) text literal text 0)
+  pub text-is : out ≡ overlay (resultFrom (λ end. content) text literal text 0) out₀
   pub starts-are :
-      starts ≡ overlay (rest (carried (length content) (starting text .starts)) text literal (starting text .starts) 0)
+      starts ≡ overlay (resultFrom (carried (length content) (starting text .starts)) text literal (starting text .starts) 0)
       starts₀
   pub ends-are :
-      ends ≡ overlay (rest (carried (length content) (starting text .ends)) text literal (starting text .ends) 0) ends₀
+      ends ≡ overlay (resultFrom (carried (length content) (starting text .ends)) text literal (starting text .ends) 0) ends₀

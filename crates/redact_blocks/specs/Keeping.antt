@@ -29,13 +29,13 @@ pub record Stretch (text : List ℕ) (from to : ℕ) (out₀ starts₀ ends₀ :
   pub ends-over : Over (part (starting text .ends) from to) ends₀ at until ends
 
 -- a content of `wide` bytes in the place of a match that ends at `end`, and room for it
-pub record FillerRoom (text : List ℕ) (end : ℕ) (filler : List ℕ) (wide until : ℕ) (out starts ends : List ℕ) (at : ℕ)
+pub record ContentRoom (text : List ℕ) (end : ℕ) (padded : List ℕ) (wide until : ℕ) (out starts ends : List ℕ) (at : ℕ)
     : Type 0 where
   pub formed : wellFormed text ≡ true
   pub short : length text ≤ limit
   pub some : 0 < end
   pub inside : end ≤ length text
-  pub long : wide ≤ length filler
+  pub long : wide ≤ length padded
   pub text-room : at + wide ≤ length out
   pub starts-room : at + wide ≤ length starts
   pub ends-room : at + wide ≤ length ends
@@ -43,8 +43,8 @@ pub record FillerRoom (text : List ℕ) (end : ℕ) (filler : List ℕ) (wide un
   pub starts-until : until ≤ length starts
   pub ends-until : until ≤ length ends
 
-pub record FillerLaid (text : List ℕ) (end : ℕ) (filler : List ℕ) (wide : ℕ) (out₀ starts₀ ends₀ : List ℕ)
+pub record ContentLaid (text : List ℕ) (end : ℕ) (padded : List ℕ) (wide : ℕ) (out₀ starts₀ ends₀ : List ℕ)
     (at until : ℕ) (out starts ends : List ℕ) : Type 0 where
-  pub text-over : Over (part filler 0 wide) out₀ at until out
+  pub text-over : Over (part padded 0 wide) out₀ at until out
   pub starts-over : Over (carried wide (starting text .starts) end) starts₀ at until starts
   pub ends-over : Over (carried wide (starting text .ends) end) ends₀ at until ends

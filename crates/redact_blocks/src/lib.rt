@@ -8,7 +8,7 @@ pub mod stretches;
 use buffers::Offset;
 use buffers::copy_bytes;
 use checks::least_of_two;
-use find::search::candidate;
+use find::search::first_candidate;
 use find::search::occurs_at;
 use stretches::fill;
 use stretches::fill_exact;
@@ -19,7 +19,7 @@ ghost use Prim.Native.Nat.{_≤_, _<_};
 ghost use lib.ListN.{length, take};
 ghost use Rattle.buffers.specs.Same.{same};
 ghost use Rattle.find.specs.Matching.{occursAt};
-ghost use Rattle.redact_blocks.specs.Blanks.{AllLaid, Blankable, Blanked, BlockRoom, Bounded, Passed};
+ghost use Rattle.redact_blocks.specs.Blanks.{AllBlanked, Blankable, Blanked, SearchBlockRoom, Bounded, BlockPassed};
 ghost use Rattle.redact_blocks.specs.Blanks.{FrontAt, FrontOf};
 
 // How far a result is laid: the text's bytes before `i` are what it has before `at`.
@@ -118,14 +118,14 @@ fn lay_ahead(
     out_ends: &mut [Offset],
     at: usize,
 ) -> usize
-    requires { ⌜ BlockRoom (now text) most (now literal) first last i
+    requires { ⌜ SearchBlockRoom (now text) most (now literal) first last i
         (now out) (now «out_starts») (now «out_ends») at ⌝ }
-    ensures { λ r. ⌜ Passed (now (text .entry)) (now (literal .entry)) i
+    ensures { λ r. ⌜ BlockPassed (now (text .entry)) (now (literal .entry)) i
         (now (out .entry)) (now («out_starts» .entry)) (now («out_ends» .entry)) at r
         (now (out .exit)) (now («out_starts» .exit)) (now («out_ends» .exit)) ⌝ }
 {
     let j = i + (literal.len() - 1);
-    let k = candidate(&text[i..i + 64], &text[j..j + 64], first, last);
+    let k = first_candidate(&text[i..i + 64], &text[j..j + 64], first, last);
     if k == 0 {
         return 0;
     }
@@ -141,7 +141,7 @@ pub fn blank_blocks(
     literal: &[u8],
     front: &[u8],
     content: &[u8],
-    filler: &[u8],
+    padded: &[u8],
     margin: usize,
     until: usize,
     from: usize,
@@ -152,7 +152,7 @@ pub fn blank_blocks(
 ) -> Reached
     requires { ⌜ Blankable (now text) (now literal) (now content) from base
         (now out) (now «out_starts») (now «out_ends»)
-        × Bounded (now text) most (now literal) (now content) (now filler) from base margin until
+        × Bounded (now text) most (now literal) (now content) (now padded) from base margin until
         × (3 ≤ length (now text) → 3 ≤ from) × FrontOf (now literal) (now front) ⌝ }
     ensures { λ r. ⌜ Blanked (now (text .entry)) (now (literal .entry)) (now (content .entry)) from base
         (now (out .entry)) (now («out_starts» .entry)) (now («out_ends» .entry)) (r .i) (r .at)
@@ -185,7 +185,7 @@ pub fn blank_blocks(
             let here = at + k;
             if begins(text, literal, front, i) {
                 i += literal.len();
-                fill(text, i, filler, wide, out, out_starts, out_ends, here);
+                fill(text, i, padded, wide, out, out_starts, out_ends, here);
                 gap = gap + wide - literal.len();
             } else {
                 lay_byte(text, i, out, out_starts, out_ends, here);
@@ -214,7 +214,7 @@ pub fn blank(
     most: u8,
     literal: &[u8],
     content: &[u8],
-    filler: &[u8],
+    padded: &[u8],
     margin: usize,
     until: usize,
     out: &mut [u8],
@@ -222,8 +222,8 @@ pub fn blank(
     out_ends: &mut [Offset],
 ) -> usize
     requires { ⌜ Blankable (now text) (now literal) (now content) 0 0 (now out) (now «out_starts») (now «out_ends»)
-        × Bounded (now text) most (now literal) (now content) (now filler) 0 0 margin until ⌝ }
-    ensures { λ r. ⌜ AllLaid (now (text .entry)) (now (literal .entry)) (now (content .entry))
+        × Bounded (now text) most (now literal) (now content) (now padded) 0 0 margin until ⌝ }
+    ensures { λ r. ⌜ AllBlanked (now (text .entry)) (now (literal .entry)) (now (content .entry))
         (now (out .entry)) (now («out_starts» .entry)) (now («out_ends» .entry))
         r (now (out .exit)) (now («out_starts» .exit)) (now («out_ends» .exit)) ⌝ }
 {
@@ -246,7 +246,7 @@ pub fn blank(
         literal,
         &front,
         content,
-        filler,
+        padded,
         margin,
         until,
         begun.i,

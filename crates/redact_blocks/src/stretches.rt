@@ -1,6 +1,7 @@
 // The starting note of a text, laid straight from the text: its bytes, and the alignments that it would have, counted
 // from the bytes beside them; and a content in the place of a match.
 // Each function here is an inner one: text and room were judged before.
+use buffers::blocks::copy_front_over;
 use buffers::Offset;
 use buffers::blocks::copy_bytes_block;
 use buffers::blocks::fill_offsets_over;
@@ -9,9 +10,8 @@ use buffers::fill_offsets;
 use column_blocks::pairs;
 use column_blocks::plain::count_up;
 use column_blocks::runs;
-use from_text::columns::char_end;
-use from_text::columns::char_start;
-use replace::laying::lay_content;
+use utf8::ranges::char_end;
+use utf8::ranges::char_start;
 ghost use mathlib.Core.Path.{_≡_};
 ghost use mathlib.Core.Bool.{true};
 ghost use Prim.Native.Nat.{_+_, _-_, _≤_};
@@ -19,7 +19,7 @@ ghost use lib.ListN.{length};
 ghost use Rattle.buffers.specs.Columns.{Filled};
 ghost use Rattle.validity_blocks.specs.Extremes.{largest};
 ghost use Rattle.note.specs.Notes.{limit};
-ghost use Rattle.redact_blocks.specs.Keeping.{FillerLaid, FillerRoom, Stretch, StretchRoom};
+ghost use Rattle.redact_blocks.specs.Keeping.{ContentLaid, ContentRoom, Stretch, StretchRoom};
 
 // The byte at `i` with its alignment.
 pub fn lay_byte(
@@ -80,22 +80,22 @@ pub fn lay_block(
 pub fn fill(
     text: &[u8],
     end: usize,
-    filler: &[u8],
+    padded: &[u8],
     wide: usize,
     out: &mut [u8],
     out_starts: &mut [Offset],
     out_ends: &mut [Offset],
     at: usize,
 )
-    requires { ⌜ FillerRoom (now text) end (now filler) wide (at + 16)
+    requires { ⌜ ContentRoom (now text) end (now padded) wide (at + 16)
         (now out) (now «out_starts») (now «out_ends») at ⌝ }
-    ensures { λ _. ⌜ FillerLaid (now (text .entry)) end (now (filler .entry)) wide
+    ensures { λ _. ⌜ ContentLaid (now (text .entry)) end (now (padded .entry)) wide
         (now (out .entry)) (now («out_starts» .entry)) (now («out_ends» .entry)) at (at + 16)
         (now (out .exit)) (now («out_starts» .exit)) (now («out_ends» .exit)) ⌝ }
 {
     let first = char_start(text, end - 1) as Offset;
     let last = char_end(text, end - 1) as Offset;
-    lay_content(filler, wide, out, at, at + 16);
+    copy_front_over(padded, wide, out, at, at + 16);
     fill_offsets_over(first, wide, out_starts, at, at + 16);
     fill_offsets_over(last, wide, out_ends, at, at + 16);
 }
@@ -110,9 +110,9 @@ pub fn fill_exact(
     out_ends: &mut [Offset],
     at: usize,
 )
-    requires { ⌜ FillerRoom (now text) end (now content) (length (now content)) 0
+    requires { ⌜ ContentRoom (now text) end (now content) (length (now content)) 0
         (now out) (now «out_starts») (now «out_ends») at ⌝ }
-    ensures { λ _. ⌜ FillerLaid (now (text .entry)) end (now (content .entry)) (length (now (content .entry)))
+    ensures { λ _. ⌜ ContentLaid (now (text .entry)) end (now (content .entry)) (length (now (content .entry)))
         (now (out .entry)) (now («out_starts» .entry)) (now («out_ends» .entry)) at 0
         (now (out .exit)) (now («out_starts» .exit)) (now («out_ends» .exit)) ⌝ }
 {

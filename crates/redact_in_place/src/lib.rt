@@ -3,7 +3,7 @@ use buffers::Offset;
 use buffers::copy_bytes;
 use buffers::copy_offsets;
 use note::LIMIT;
-use pattern::MOST;
+use pattern::MAX_PLACE_LEN;
 use redact_note::Redaction;
 use redact_note::redact_note;
 ghost use mathlib.Core.Path.{_≡_};
@@ -12,7 +12,7 @@ ghost use Rattle.note.specs.Notes.{limit};
 ghost use Rattle.redact_in_place.specs.InPlace.{Held, InPlace};
 
 // Room for the list of any literal's matches: one place for each, one before each, and one behind the last (RULES 9.6).
-const LIST: usize = MOST * (2 * LIMIT + 1);
+const LIST: usize = MAX_PLACE_LEN * (2 * LIMIT + 1);
 
 // Zeros for the longest text, and for one of its columns.
 pub fn text_buffer() -> [u8; LIMIT]

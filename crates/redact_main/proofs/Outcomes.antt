@@ -12,7 +12,7 @@ use Rattle.note.specs.Refusals.{after}
 use Rattle.note.specs.Notes.{limit}
 use Rattle.note.specs.Faults.{textFaults, roomFaults}
 use Rattle.note.specs.Starting.{starting}
-use Rattle.note.proofs.Verdicts.{accepted-first}
+use Rattle.note.proofs.FirstMet.{accepted-first}
 use Rattle.note.proofs.Faults.{text-short}
 use Rattle.note.proofs.Starting.{length-starting-starts, length-starting-ends}
 use Rattle.from_text.specs.FromText.{Started}

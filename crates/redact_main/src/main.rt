@@ -11,7 +11,7 @@ use buffers::equality::same_bytes;
 use from_text::from_text;
 use lines::write_alignments;
 use messages::refuse_literal;
-use messages::refuse_long_filler;
+use messages::refuse_long_content;
 use messages::refuse_long_literal;
 use messages::refuse_note;
 use messages::tell;
@@ -37,25 +37,25 @@ enum Outcome {
 fn blank_literal(
     original: &[u8],
     size: usize,
-    filler: usize,
+    content_arg: usize,
     text: &mut [u8],
     starts: &mut [Offset],
     ends: &mut [Offset],
 ) -> Outcome
-    requires { ⌜ Held size (now text) (now starts) (now ends) × (1 ≤ filler) ⌝ }
+    requires { ⌜ Held size (now text) (now starts) (now ends) × (1 ≤ «content_arg») ⌝ }
     ensures { λ r. ⌜ Left r (now (text .exit)) (now (starts .exit)) (now (ends .exit)) ⌝ }
 {
-    let number = filler / 2;
+    let number = content_arg / 2;
     let mut literal = io::buffer();
-    let literal_size = os::arg(filler - 1, &mut literal);
+    let literal_size = os::arg(content_arg - 1, &mut literal);
     if os::errno() != 0 {
         refuse_long_literal(number);
         return Outcome::Refused;
     }
     let mut content = io::buffer();
-    let content_size = os::arg(filler, &mut content);
+    let content_size = os::arg(content_arg, &mut content);
     if os::errno() != 0 {
-        refuse_long_filler(number);
+        refuse_long_content(number);
         return Outcome::Refused;
     }
     match redact_in_place(

@@ -121,7 +121,7 @@ pub fn refuse_long_literal(number: usize) {
     );
 }
 
-pub fn refuse_long_filler(number: usize) {
+pub fn refuse_long_content(number: usize) {
     say(b"redact: the filler of ");
     say_literal(number);
     say(b" has more than 4,096 bytes; take a shorter one\n");

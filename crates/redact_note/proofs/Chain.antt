@@ -10,16 +10,16 @@ use Rattle.find.specs.Finding.{foundBytes}
 use Rattle.replace.specs.Replacing.{laid, carried, replaced}
 use Rattle.replace.specs.Blanking.{Equal, Agree, published}
 use Rattle.replace.proofs.Blanking.{published-is, blanking}
-use Rattle.redact_note.specs.Chain.{Step, leftBy, Call, Chain, Alike, AgreeOnce, ChainBlanking, Pair, stepOf, stepsOf, HiddenStays}
+use Rattle.redact_note.specs.Chain.{Step, leftBy, StepCall, Chain, Alike, AgreeOnce, ChainBlanking, Pair, stepOf, stepsOf, HiddenStays}
 
 -- a call leaves what the definition makes of the note
-call-left : {most : ℕ} {n : Note} {s : Step} {left : Note} → Call most n s left → left ≡ leftBy s n
+call-left : {most : ℕ} {n : Note} {s : Step} {left : Note} → StepCall most n s left → left ≡ leftBy s n
 call-left {n = n} {s = s} {left = left} c =
     let e = published-is (c .replacing) in
     c .leaves ∙ (λ i. record { original = n .original; normalized = e .same-text i; starts = e .same-starts i; ends = e .same-ends i; original-shift = n .original-shift })
 
 -- one step of two notes
-module _ {most : ℕ} {n m nʹ mʹ : Note} {s : Step} (c : Call most n s nʹ) (d : Call most m s mʹ) where
+module _ {most : ℕ} {n m nʹ mʹ : Note} {s : Step} (c : StepCall most n s nʹ) (d : StepCall most m s mʹ) where
   both-ways : (Equal (published (c .size) (c .out) (c .starts) (c .ends)) (published (d .size) (d .out) (d .starts) (d .ends)) → Agree n m (placesOf (s .list)) (s .content)) × (Agree n m (placesOf (s .list)) (s .content) → Equal (published (c .size) (c .out) (c .starts) (c .ends)) (published (d .size) (d .out) (d .starts) (d .ends)))
   both-ways = blanking most n m (s .list) (s .content) (c .size) (d .size) _ _ _ _ _ _ _ _ _ _ _ _ (c .replacing) (d .replacing)
 

@@ -16,50 +16,50 @@ use Rattle.find.proofs.FirstFrom.{first-of-none}
 use Rattle.find.proofs.MatchesFrom.{Searched, first-there, match-inside, searched-more, matches-more, matches-end}
 use Rattle.find.proofs.FoundPlaces.{between-some, between-none, found-cases, found-whole, searched-first, found-from}
 use Rattle.note.specs.Notes.{limit}
-use Rattle.replace.specs.Sizes.{sizeOf, sizes}
+use Rattle.replace.specs.Sizes.{placeSize, placesSize}
 use Rattle.redact_note.specs.Redacting.{matchCount}
 use Rattle.redact_note.specs.Blanks.{Matched, blankedSize}
 
 -- what places hold without the matched ones, and how many of these there are
 abbrev Tally : List Place → ℕ → ℕ → Type 0
-Tally ps rest count = (sizes 0 ps ≡ rest) × (matchCount ps ≡ count)
+Tally ps rest count = (placesSize 0 ps ≡ rest) × (matchCount ps ≡ count)
 
 none-tallied : Tally [] 0 0
-unfolding sizes matchCount
+unfolding placesSize matchCount
 none-tallied = (refl, refl)
 
 unmatched-tallied : (a e : ℕ) → Tally (placeFrom a e false ∷ []) (e - a) 0
-unfolding sizes sizeOf matchCount
+unfolding placesSize placeSize matchCount
 unmatched-tallied a e = (omega arith, refl)
 
-matched-tallied : (a e : ℕ) (ps : List Place) → Tally (placeFrom a e true ∷ ps) (sizes 0 ps) (1 + matchCount ps)
-unfolding sizes sizeOf matchCount
+matched-tallied : (a e : ℕ) (ps : List Place) → Tally (placeFrom a e true ∷ ps) (placesSize 0 ps) (1 + matchCount ps)
+unfolding placesSize placeSize matchCount
 matched-tallied a e ps = (omega arith, refl)
 
-append-tallied : (ps qs : List Place) → Tally (ps ++ qs) (sizes 0 ps + sizes 0 qs) (matchCount ps + matchCount qs)
-unfolding sizes matchCount
+append-tallied : (ps qs : List Place) → Tally (ps ++ qs) (placesSize 0 ps + placesSize 0 qs) (matchCount ps + matchCount qs)
+unfolding placesSize matchCount
 append-tallied [] qs = (omega arith, omega arith)
 append-tallied (p ∷ ps) qs = let rest = append-tallied ps qs in (omega (arith, rest .0), omega (arith, rest .1))
 
 between-tallied : (a e : ℕ) → Tally (between a e) (e - a) 0
 between-tallied a e =
     le-or-lt e a
-    (λ h. (ap (sizes 0) (between-none h) ∙ omega (arith, none-tallied .0), ap matchCount (between-none h) ∙ none-tallied .1))
-    (λ h. (ap (sizes 0) (between-some h) ∙ unmatched-tallied a e .0, ap matchCount (between-some h) ∙ unmatched-tallied a e .1))
+    (λ h. (ap (placesSize 0) (between-none h) ∙ omega (arith, none-tallied .0), ap matchCount (between-none h) ∙ none-tallied .1))
+    (λ h. (ap (placesSize 0) (between-some h) ∙ unmatched-tallied a e .0, ap matchCount (between-some h) ∙ unmatched-tallied a e .1))
 
 -- from a position on, up to the next match and behind it, or up to the end
 module _ {text literal : List ℕ} {at p : ℕ} (s : Searched text literal at p) where
-  tally-more : p < length text → Tally (matchesFrom text literal at) ((p - at) + sizes 0 (matchesFrom text literal (p + length literal))) (1 + matchCount (matchesFrom text literal (p + length literal)))
+  tally-more : p < length text → Tally (matchesFrom text literal at) ((p - at) + placesSize 0 (matchesFrom text literal (p + length literal))) (1 + matchCount (matchesFrom text literal (p + length literal)))
   tally-more h =
       let onward : List Place = matchesFrom text literal (p + length literal) in
       let here = matched-tallied p (p + length literal) onward in
       let all = append-tallied (between at p) (placeFrom p (p + length literal) true ∷ onward) in (
-        ap (sizes 0) (matches-more s h) ∙ omega (arith, all .0, between-tallied at p .0, here .0),
+        ap (placesSize 0) (matches-more s h) ∙ omega (arith, all .0, between-tallied at p .0, here .0),
         ap matchCount (matches-more s h) ∙ omega (arith, all .1, between-tallied at p .1, here .1),
       )
 
   tally-end : length text ≤ p → Tally (matchesFrom text literal at) (p - at) 0
-  tally-end h = (ap (sizes 0) (matches-end s h) ∙ between-tallied at p .0, ap matchCount (matches-end s h) ∙ between-tallied at p .1)
+  tally-end h = (ap (placesSize 0) (matches-end s h) ∙ between-tallied at p .0, ap matchCount (matches-end s h) ∙ between-tallied at p .1)
 
 -- counting: none yet, one match more, all
 pub record Counting (text literal : List ℕ) (count p : ℕ) : Type 0 where
@@ -101,8 +101,8 @@ module _ {text literal : List ℕ} {count p : ℕ} (c : Counting text literal co
   next-onward next = omega (arith, c .stands h .some, first-there (searched-more (c .stands h) h next) .from)
 
 -- a content of `wide` bytes for each match
-sizes-tallied : (wide : ℕ) (ps : List Place) → sizes wide ps ≡ sizes 0 ps + matchCount ps * wide
-unfolding sizes sizeOf matchCount
+sizes-tallied : (wide : ℕ) (ps : List Place) → placesSize wide ps ≡ placesSize 0 ps + matchCount ps * wide
+unfolding placesSize placeSize matchCount
 sizes-tallied wide [] = omega arith
 sizes-tallied wide (p ∷ ps) =
     true-or-false (p .matched)
@@ -112,7 +112,7 @@ sizes-tallied wide (p ∷ ps) =
 -- the matches and what they leave are the text
 module _ (text literal : List ℕ) where
   abbrev Whole : List Place → ℕ → Type 0
-  Whole ps size = sizes 0 ps + matchCount ps * length literal ≡ size
+  Whole ps size = placesSize 0 ps + matchCount ps * length literal ≡ size
 
   rest-whole : (n at p : ℕ) → length text - at < n → Searched text literal at p → Whole (matchesFrom text literal at) (length text - at)
   rest-whole zero at p h s = absurd (omega arith)
@@ -133,7 +133,7 @@ module _ (text literal : List ℕ) where
       (λ one. let t = unmatched-tallied 0 (length text) in rw (one, t .0, t .1) (omega arith))
       (λ some all. rw all (omega (arith, rest-whole (suc (length text)) 0 (firstFrom text literal 0) (omega arith) (record { some = some; most = omega arith; next = refl }))))
 
-  pub found-size : (wide : ℕ) {count : ℕ} → count ≡ matchCount (foundPlaces text literal) → blankedSize (length text) count (length literal) wide ≡ sizes wide (foundPlaces text literal)
+  pub found-size : (wide : ℕ) {count : ℕ} → count ≡ matchCount (foundPlaces text literal) → blankedSize (length text) count (length literal) wide ≡ placesSize wide (foundPlaces text literal)
   unfolding blankedSize
   found-size wide {count} is = rw is (omega (arith, found-total, sizes-tallied wide (foundPlaces text literal)))
 
@@ -143,12 +143,12 @@ module _ (text literal : List ℕ) where
       le-or-lt (length literal) 0
       (λ none. omega (arith, is ∙ ap matchCount (found-whole text literal (first-of-none text literal (omega arith))), unmatched-tallied 0 (length text) .1))
       (λ some.
-      let whole : sizes 0 (foundPlaces text literal) + count * length literal ≡ length text = rw is found-total in
+      let whole : placesSize 0 (foundPlaces text literal) + count * length literal ≡ length text = rw is found-total in
       omega (arith, whole, le-mul-of-pos-right count some))
 
   pub found-matched : {count : ℕ} → length text ≤ limit → count ≡ matchCount (foundPlaces text literal) → Matched (length text) count (length literal)
   found-matched {count} short is =
-      let whole : sizes 0 (foundPlaces text literal) + count * length literal ≡ length text = rw is found-total in
+      let whole : placesSize 0 (foundPlaces text literal) + count * length literal ≡ length text = rw is found-total in
       record { short = short; few = few is; inside = omega (arith, whole) }
 
 -- the size that fits

@@ -14,14 +14,15 @@ use Rattle.buffers.proofs.Booleans.{and-false-l}
 use Rattle.buffers.proofs.Splice.{take-overlay, overlay-long}
 use Rattle.utf8.specs.Formed.{wellFormed}
 use Rattle.note.specs.declared.Refusal.{Refusal}
-use Rattle.note.specs.declared.Refusal.the-variants.{NoRoom}
+use Rattle.note.specs.declared.Refusal.the-variants.{NoRoom, Misaligned}
 use Rattle.note.specs.declared.Verdict.{Verdict}
 use Rattle.note.specs.declared.Verdict.the-variants.{Accepted, Refused as Rejected}
 use Rattle.note.specs.Refusals.{none, meets, also, least, verdict, after}
 use Rattle.note.specs.Rank.{earlier}
 use Rattle.note.specs.Notes.{Note, limit, fits}
 use Rattle.note.specs.Faults.{noteFaults, stringFaults, roomFaults}
-use Rattle.note.proofs.Verdicts.{earlier-of, refused-then, accepted-then, accepted-first, accepted-second, both-accepted}
+use Rattle.note.specs.Rank.{upTo}
+use Rattle.note.proofs.FirstMet.{earlier-of, refused-then, accepted-then, accepted-first, accepted-second, both-accepted}
 use Rattle.note.proofs.Faults.{accepted-sound, string-formed, room-enough}
 use Rattle.note.proofs.Sound.{normalized-formed}
 use Rattle.pattern.specs.Entries.{placesOf}
@@ -33,14 +34,14 @@ use Rattle.find.specs.Searching.{firstMatch}
 use Rattle.find.proofs.FoundPlaces.{found-read, found-covers}
 use Rattle.replace.specs.declared.Publication.the-variants.{Published as Replaced}
 use Rattle.replace.specs.Replacing.{laid, publication, replaced, replaceFaults}
-use Rattle.replace.specs.Sizes.{sizes}
+use Rattle.replace.specs.Sizes.{placesSize}
 use Rattle.replace.specs.Laying.{Ready, AllLaid}
 use Rattle.replace.proofs.Sizes.{length-laid}
 use Rattle.replace.proofs.Faults.{ready}
 use Rattle.redact_note.specs.declared.Redaction.{Redaction}
 use Rattle.redact_note.specs.declared.Redaction.the-variants.{Published, Refused}
 use Rattle.redact_note.specs.Redacting.{matchCount, blanked, inputFaults, roomsFaults, redactFaults, redaction, NoteRedacted, BlankedCall}
-use Rattle.redact_note.specs.Blanks.{blankedSize, roomsFit, Searchable, Blankable, Blanked}
+use Rattle.redact_note.specs.Blanks.{blankedSize, roomsFit, Searchable, NoteBlankable, NoteBlanked}
 use Rattle.redact_note.proofs.MatchCount.{found-size}
 
 -- the inputs
@@ -95,11 +96,11 @@ module _ (n : Note) (literal content : List ℕ) (f : Formed n literal content) 
   unfolding verdict
   content-accepted = rw (f .content-formed)
 
-  blanked-length : length (blanked n literal content .text) ≡ sizes (length content) (foundPlaces (n .normalized) literal)
+  blanked-length : length (blanked n literal content .text) ≡ placesSize (length content) (foundPlaces (n .normalized) literal)
   unfolding replaced
   blanked-length =
       length-laid (n .normalized) (n .normalized) (λ end. content) (length content) 0 (placesOf (foundBytes (n .normalized) literal)) refl (λ e. refl) (covers-places (n .normalized) (foundBytes (n .normalized) literal) (found-covers (n .normalized) literal (f .text-formed) (f .literal-formed) (f .short)))
-      ∙ ap (sizes (length content)) (found-read (n .normalized) literal (f .short))
+      ∙ ap (placesSize (length content)) (found-read (n .normalized) literal (f .short))
 
   -- `replace` accepts the note with the list, where there is room
   replace-accepts : (room : ℕ) → verdict (roomFaults (length (blanked n literal content .text)) (min limit room)) ≡ Accepted → verdict (replaceFaults limit n (foundBytes (n .normalized) literal) content room) ≡ Accepted
@@ -116,7 +117,7 @@ rooms-verdict false y = refl
 
 module _ (n : Note) (literal content : List ℕ) (a b : ℕ) {v : Verdict} (e : v ≡ verdict (inputFaults limit n literal content)) where
   pub inputs-refused : {k : Refusal} → v ≡ Rejected k → Rejected k ≡ verdict (redactFaults limit n literal content a b)
-  inputs-refused is = refused-then 4 (inputFaults limit n literal content) (roomsFaults limit n literal content a b) refl refl e is
+  inputs-refused is = refused-then (upTo Misaligned) (inputFaults limit n literal content) (roomsFaults limit n literal content a b) refl refl e is
 
   module _ (is : v ≡ Accepted) {t : Bool} (fits : t ≡ roomsFit limit (n .normalized) literal (length content) a b) where
     rooms-said : verdict (roomsFaults limit n literal content a b) ≡ cond t Accepted (Rejected NoRoom)
@@ -126,7 +127,7 @@ module _ (n : Note) (literal content : List ℕ) (a b : ℕ) {v : Verdict} (e : 
         ∙ rw (blanked-length n literal content (inputs-formed n literal content e is), ← fits)
 
     then-rooms : {w : Verdict} → w ≡ verdict (roomsFaults limit n literal content a b) → w ≡ verdict (redactFaults limit n literal content a b)
-    then-rooms w = accepted-then 4 (inputFaults limit n literal content) (roomsFaults limit n literal content a b) refl refl e is w
+    then-rooms w = accepted-then (upTo Misaligned) (inputFaults limit n literal content) (roomsFaults limit n literal content a b) refl refl e is w
 
     pub rooms-refused : not t ≡ true → Rejected NoRoom ≡ verdict (redactFaults limit n literal content a b)
     rooms-refused short = then-rooms (sym (rooms-said ∙ rw (not-true t short)))
@@ -159,7 +160,7 @@ module _ (text literal list₀ : List ℕ) {list : List ℕ} {r : ℕ} (w : (r �
   pub list-ready : {starts ends content out starts₀ ends₀ : List ℕ} → Ready text starts ends (foundBytes text literal) content out starts₀ ends₀ → Ready text starts ends (take r list) content out starts₀ ends₀
   list-ready h = rw list-front h
 
-  pub list-blanked : {starts ends content out₀ starts₀ ends₀ out starts₁ ends₁ : List ℕ} {size : ℕ} → AllLaid text starts ends (take r list) content out₀ starts₀ ends₀ size out starts₁ ends₁ → Blanked text starts ends literal content list₀ out₀ starts₀ ends₀ size list out starts₁ ends₁
+  pub list-blanked : {starts ends content out₀ starts₀ ends₀ out starts₁ ends₁ : List ℕ} {size : ℕ} → AllLaid text starts ends (take r list) content out₀ starts₀ ends₀ size out starts₁ ends₁ → NoteBlanked text starts ends literal content list₀ out₀ starts₀ ends₀ size list out starts₁ ends₁
   list-blanked h = record { list-is = w .1; laid = rw list-front at h }
 
 -- the call
@@ -173,16 +174,16 @@ module _ (n : Note) (literal content list₀ out₀ starts₀ ends₀ : List ℕ
       record { says = Rejected k; says-is = all-rooms is; answer = refl; list-is = refl; text-is = refl; starts-are = refl; ends-are = refl }
 
   module _ (ok : Accepted ≡ verdict (redactFaults limit n literal content (length list₀) room)) where
-    pub all-blankable : {first : ℕ} → first ≡ firstMatch (n .normalized) literal → Blankable (n .normalized) (n .starts) (n .ends) literal content first list₀ out₀ starts₀ ends₀
+    pub all-blankable : {first : ℕ} → first ≡ firstMatch (n .normalized) literal → NoteBlankable (n .normalized) (n .starts) (n .ends) literal content first list₀ out₀ starts₀ ends₀
     all-blankable is =
         record {
           searchable = record { short = all-formed n literal content (length list₀) room ok .short; first-is = is };
           list-room = list-fits n literal content (length list₀) room ok;
           ready = ready limit n (foundBytes (n .normalized) literal) content out₀ starts₀ ends₀ rooms refl
-              (ap (λ (v : Verdict). publication v (sizes (length content) (placesOf (foundBytes (n .normalized) literal)))) (replaces n literal content (length list₀) room ok));
+              (ap (λ (v : Verdict). publication v (placesSize (length content) (placesOf (foundBytes (n .normalized) literal)))) (replaces n literal content (length list₀) room ok));
         }
 
-    pub all-blanked : {size count : ℕ} {list out starts ends : List ℕ} → count ≡ matchCount (foundPlaces (n .normalized) literal) → Blanked (n .normalized) (n .starts) (n .ends) literal content list₀ out₀ starts₀ ends₀ size list out starts ends → NoteRedacted limit n literal content list₀ out₀ starts₀ ends₀ (Published size count) list out starts ends
+    pub all-blanked : {size count : ℕ} {list out starts ends : List ℕ} → count ≡ matchCount (foundPlaces (n .normalized) literal) → NoteBlanked (n .normalized) (n .starts) (n .ends) literal content list₀ out₀ starts₀ ends₀ size list out starts ends → NoteRedacted limit n literal content list₀ out₀ starts₀ ends₀ (Published size count) list out starts ends
     unfolding replaced
     all-blanked {size} {count} counted h =
         let sized : size ≡ length (blanked n literal content .text) = h .laid .reached in

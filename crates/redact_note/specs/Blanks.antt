@@ -11,7 +11,7 @@ use Rattle.note.specs.Notes.{limit}
 use Rattle.find.specs.Matching.{foundPlaces}
 use Rattle.find.specs.Finding.{foundBytes}
 use Rattle.find.specs.Searching.{firstMatch}
-use Rattle.replace.specs.Sizes.{sizes}
+use Rattle.replace.specs.Sizes.{placesSize}
 use Rattle.replace.specs.Laying.{Ready, AllLaid}
 
 -- a text within the limit, and so many matches of so many bytes in it
@@ -27,7 +27,7 @@ blankedSize size count narrow wide = (size - count * narrow) + count * wide
 -- there is room for the list, and for what is published beside a content of `wide` bytes
 unfoldable pub roomsFit : ℕ → List ℕ → List ℕ → ℕ → ℕ → ℕ → Bool
 roomsFit most text literal wide list result =
-    leb (length (foundBytes text literal)) list && leb (sizes wide (foundPlaces text literal)) (min most result)
+    leb (length (foundBytes text literal)) list && leb (placesSize wide (foundPlaces text literal)) (min most result)
 
 -- what is known of text and literal before the room is judged, and the first match
 pub record Searchable (text literal : List ℕ) (first : ℕ) : Type 0 where
@@ -35,14 +35,14 @@ pub record Searchable (text literal : List ℕ) (first : ℕ) : Type 0 where
   pub first-is : first ≡ firstMatch text literal
 
 -- what is known once nothing is refused
-pub record Blankable (text starts ends literal content : List ℕ) (first : ℕ) (list out starts₀ ends₀ : List ℕ)
+pub record NoteBlankable (text starts ends literal content : List ℕ) (first : ℕ) (list out starts₀ ends₀ : List ℕ)
     : Type 0 where
   pub searchable : Searchable text literal first
   pub list-room : length (foundBytes text literal) ≤ length list
   pub ready : Ready text starts ends (foundBytes text literal) content out starts₀ ends₀
 
 -- list and result stand in front of the lent buffers
-pub record Blanked (text starts ends literal content list₀ out₀ starts₀ ends₀ : List ℕ) (r : ℕ)
+pub record NoteBlanked (text starts ends literal content list₀ out₀ starts₀ ends₀ : List ℕ) (r : ℕ)
     (list out starts₁ ends₁ : List ℕ) : Type 0 where
   pub list-is : list ≡ overlay (foundBytes text literal) list₀
   pub laid : AllLaid text starts ends (foundBytes text literal) content out₀ starts₀ ends₀ r out starts₁ ends₁

@@ -22,7 +22,7 @@ leftBy s n = resulting n (replaced (placesOf (s .list)) (s .content) n)
 
 -- a call of `replace` that publishes, whatever buffers it is lent, and the note that is put together from what it has
 -- published and the transcript
-pub record Call (most : ℕ) (n : Note) (s : Step) (left : Note) : Type 0 where
+pub record StepCall (most : ℕ) (n : Note) (s : Step) (left : Note) : Type 0 where
   pub out₀ : List ℕ
   pub starts₀ : List ℕ
   pub ends₀ : List ℕ
@@ -36,7 +36,7 @@ pub record Call (most : ℕ) (n : Note) (s : Step) (left : Note) : Type 0 where
 -- a chain of such calls, each on the note that the one before left
 unfoldable pub Chain : ℕ → Note → List Step → Note → Type 0
 Chain most n [] left = left ≡ n
-Chain most n (s ∷ ss) left = (next : Note) × (Call most n s next × Chain most next ss left)
+Chain most n (s ∷ ss) left = (next : Note) × (StepCall most n s next × Chain most next ss left)
 
 -- two notes would be published alike: the same text with the same alignments, whatever the transcripts
 abbrev pub Alike : Note → Note → Type 0

@@ -13,9 +13,9 @@ use find::write_list;
 use note::LIMIT;
 use note::Refusal;
 use note::Verdict;
-use note::answers::earlier;
+use note::verdicts::earlier;
 use replace::laying::lay_out;
-use replace::measure;
+use replace::result_len;
 ghost use mathlib.Core.Path.{_≡_};
 ghost use Prim.Native.Nat.{_≤_};
 ghost use lib.Dec.{leb};
@@ -25,7 +25,7 @@ ghost use Rattle.note.specs.Refusals.{verdict};
 ghost use Rattle.find.specs.Matching.{foundPlaces};
 ghost use Rattle.find.specs.Searching.{firstMatch};
 ghost use Rattle.redact_note.specs.Redacting.{NoteRedacted, inputFaults, matchCount};
-ghost use Rattle.redact_note.specs.Blanks.{Blankable, Blanked, Matched, Searchable, blankedSize, roomsFit};
+ghost use Rattle.redact_note.specs.Blanks.{NoteBlankable, NoteBlanked, Matched, Searchable, blankedSize, roomsFit};
 
 // What is published: how many bytes, and how many matches gave way; or why nothing is.
 pub enum Redaction {
@@ -121,15 +121,15 @@ fn blank(
     out_starts: &mut [Offset],
     out_ends: &mut [Offset],
 ) -> usize
-    requires { ⌜ Blankable (now normalized) (now starts) (now ends) (now literal) (now content) first
+    requires { ⌜ NoteBlankable (now normalized) (now starts) (now ends) (now literal) (now content) first
         (now list) (now out) (now «out_starts») (now «out_ends») ⌝ }
-    ensures { λ r. ⌜ Blanked (now (normalized .entry)) (now (starts .entry)) (now (ends .entry))
+    ensures { λ r. ⌜ NoteBlanked (now (normalized .entry)) (now (starts .entry)) (now (ends .entry))
         (now (literal .entry)) (now (content .entry)) (now (list .entry))
         (now (out .entry)) (now («out_starts» .entry)) (now («out_ends» .entry))
         r (now (list .exit)) (now (out .exit)) (now («out_starts» .exit)) (now («out_ends» .exit)) ⌝ }
 {
     let n = write_list(normalized, literal, first, list);
-    let until = measure(&list[..n], content.len());
+    let until = result_len(&list[..n], content.len());
     lay_out(
         normalized,
         starts,

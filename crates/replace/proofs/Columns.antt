@@ -19,7 +19,7 @@ use Rattle.pattern.specs.Places.{coversFrom}
 use Rattle.pattern.proofs.Entries.{Stepped, entry-step, entry-broken, entries-end}
 use Rattle.pattern.proofs.Places.{Span, covers-first, covers-rest, covers-span}
 use Rattle.replace.specs.Replacing.{piece, laid, carried}
-use Rattle.replace.specs.Sizes.{sizeOf, sizes}
+use Rattle.replace.specs.Sizes.{placeSize, placesSize}
 use Rattle.replace.specs.Laying.{PlaceRoom, PlaceLaid, ColumnReady, ColumnLaid, Ready}
 use Rattle.replace.proofs.Sizes.{size-matched, size-unmatched, length-piece, length-laid}
 use Rattle.replace.proofs.Laid.{piece-matched, piece-unmatched}
@@ -35,8 +35,8 @@ module _ {column : List ℕ} {wide : ℕ} {p : Place} {until : ℕ} {d : List �
         until-room = r .until-room;
       }
 
-  pub content-source : (filler : List ℕ) → p .matched ≡ true → wide ≤ length filler → Source filler 0 wide d at until
-  content-source filler t h =
+  pub content-source : (padded : List ℕ) → p .matched ≡ true → wide ≤ length padded → Source padded 0 wide d at until
+  content-source padded t h =
       record { onward = omega arith; inside = h; room = omega (arith, r .room, size-matched p wide t); until-room = r .until-room }
 
   pub content-room : p .matched ≡ true → (at + wide ≤ length d) × (until ≤ length d)
@@ -49,14 +49,7 @@ module _ (fill : ℕ → List ℕ) (column : List ℕ) (wide : ℕ) (p : Place) 
   pub place-filled : p .matched ≡ true → Over (fill (p .end .0)) d₀ at until d → PlaceLaid fill column wide p until d₀ at (at + wide) d
   place-filled t o = record { reached = rw (size-matched p wide t); holds = rw (piece-matched fill p column t) o }
 
--- a content laid as the front of a block, through a local array
-pub content-block : (filler : List ℕ) (wide : ℕ) (d : List ℕ) (at until : ℕ) (b₀ : List ℕ) {b d₁ : List ℕ} → Source filler 0 wide d at until → length b₀ ≡ 16 → wide ≤ 16 → 16 ≤ length filler → at + 16 ≤ until → b ≡ splice b₀ 0 (part filler 0 16) → d₁ ≡ splice d at b → Over (part filler 0 wide) d at until d₁
-content-block filler wide d at until b₀ s size few long below local is =
-    let all : length (part filler 0 16) ≡ 16 = omega (arith, length-part filler 0 16 long) in
-    rw (part-front filler 0 wide 16 few) at
-    (over-front (wide - 0) (over-exact (part filler 0 16) d at until (omega (arith, s .until-room)) (through (part filler 0 16) d at b₀ (omega arith) local is)) (omega arith) (omega (arith, s .until-room)) (omega arith))
-
--- the same by the number that the column has before the end
+-- a place that is filled by the number that the column has before its end
 pub carried-filled : (column : List ℕ) (wide : ℕ) (p : Place) {until : ℕ} {d₀ : List ℕ} {at : ℕ} {d : List ℕ} {x : ℕ} → p .matched ≡ true → x ≡ beforeEnd column (p .end .0) → Over (replicate wide x) d₀ at until d → PlaceLaid (carried wide column) column wide p until d₀ at (at + wide) d
 carried-filled column wide p t is o = place-filled (carried wide column) column wide p t (rw is at o)
 
@@ -73,7 +66,7 @@ pub record Going (fill : ℕ → List ℕ) (column list : List ℕ) (wide until 
 
 pub none-going : (fill : ℕ → List ℕ) {column list : List ℕ} {wide until : ℕ} {d : List ℕ} → ((e : ℕ) → length (fill e) ≡ wide) → ColumnReady column list wide until d → Going fill column list wide until d 0 0 d
 none-going fill {column} {list} {wide} wides r =
-    let size : length (laid fill (placesOf list) column) ≡ sizes wide (placesOf list) = length-laid (r .text) column fill wide 0 (placesOf list) (r .long) wides (r .covered) in
+    let size : length (laid fill (placesOf list) column) ≡ placesSize wide (placesOf list) = length-laid (r .text) column fill wide 0 (placesOf list) (r .long) wides (r .covered) in
     record {
       text = r .text;
       long = r .long;
@@ -93,7 +86,7 @@ module _ {fill : ℕ → List ℕ} {column list : List ℕ} {wide until : ℕ} {
     covered-here : coversFrom (g .text) (g .from) (p ∷ placesOf (drop next list)) ≡ true
     covered-here = rw (step .places) at (g .covered)
 
-    size : length (piece fill p column) ≡ sizeOf wide p
+    size : length (piece fill p column) ≡ placeSize wide p
     size = length-piece (g .text) column fill wide (g .from) p (g .long) (g .wides) (covers-first (g .text) (g .from) p (placesOf (drop next list)) covered-here)
 
     here : Reaching (laid fill (placesOf list) column) (piece fill p column ++ laid fill (placesOf (drop next list)) column) d₀ at d
@@ -142,8 +135,8 @@ module _ {fill : ℕ → List ℕ} {column list : List ℕ} {wide until : ℕ} {
 pub carried-wide : (k : ℕ) (xs : List ℕ) (e : ℕ) → length (carried k xs e) ≡ k
 carried-wide k xs e = length-replicate k (beforeEnd xs e)
 
-pub filler-wide : (filler : List ℕ) (wide : ℕ) → wide ≤ length filler → (e : ℕ) → length (part filler 0 wide) ≡ wide
-filler-wide filler wide h e = omega (arith, length-part filler 0 wide h)
+pub padded-wide : (padded : List ℕ) (wide : ℕ) → wide ≤ length padded → (e : ℕ) → length (part padded 0 wide) ≡ wide
+padded-wide padded wide h e = omega (arith, length-part padded 0 wide h)
 
 -- a content that stands in front of its padding, or alone
 pub content-padded : (content zeros : List ℕ) {padded : List ℕ} → padded ≡ splice zeros 0 content → part padded 0 (length content) ≡ content
@@ -158,7 +151,7 @@ pub filled-by : (text list d₀ : List ℕ) {a content : List ℕ} {r : ℕ} {d 
 filled-by text list d₀ is l = rw is at l
 
 -- the three columns, one after the other, below a size
-module _ {text starts ends list content out₀ starts₀ ends₀ : List ℕ} (r : Ready text starts ends list content out₀ starts₀ ends₀) {until : ℕ} (low : until ≤ sizes (length content) (placesOf list)) where
+module _ {text starts ends list content out₀ starts₀ ends₀ : List ℕ} (r : Ready text starts ends list content out₀ starts₀ ends₀) {until : ℕ} (low : until ≤ placesSize (length content) (placesOf list)) where
   pub text-ready : ColumnReady text list (length content) until out₀
   text-ready = record { text = text; long = refl; covered = r .covered; room = r .text-room; below = low }
 

@@ -9,14 +9,15 @@ use borrow.Author.Tests.{not-true, not-false, le-leb, lt-leb}
 use Rattle.buffers.proofs.Cases.{true-or-false}
 use Rattle.utf8.specs.Formed.{wellFormed}
 use Rattle.note.specs.declared.Refusal.{Refusal}
-use Rattle.note.specs.declared.Refusal.the-variants.{BadMatches, NoRoom}
+use Rattle.note.specs.declared.Refusal.the-variants.{BadMatches, NoRoom, Misaligned}
 use Rattle.note.specs.declared.Verdict.{Verdict}
 use Rattle.note.specs.declared.Verdict.the-variants.{Accepted, Refused as Rejected}
 use Rattle.note.specs.Refusals.{least, also, verdict}
 use Rattle.note.specs.Rank.{earlier}
 use Rattle.note.specs.Notes.{Note, fits, Sound}
 use Rattle.note.specs.Faults.{noteFaults, stringFaults, roomFaults}
-use Rattle.note.proofs.Verdicts.{accepted-first, accepted-second, accepted-meets, earlier-of, refused-then, accepted-then}
+use Rattle.note.specs.Rank.{upTo}
+use Rattle.note.proofs.FirstMet.{accepted-first, accepted-second, accepted-meets, earlier-of, refused-then, accepted-then}
 use Rattle.note.proofs.Sound.{length-starts, length-ends}
 use Rattle.note.proofs.Faults.{accepted-sound, string-formed, room-enough}
 use Rattle.pattern.specs.Entries.{placesOf}
@@ -25,7 +26,7 @@ use Rattle.pattern.proofs.Places.{covers-places, covers-length}
 use Rattle.replace.specs.declared.Publication.{Publication}
 use Rattle.replace.specs.declared.Publication.the-variants.{Published, Refused}
 use Rattle.replace.specs.Replacing.{laid, replaced, replaceFaults, publication, Replacing}
-use Rattle.replace.specs.Sizes.{sizes}
+use Rattle.replace.specs.Sizes.{placesSize}
 use Rattle.replace.specs.Laying.{Ready, AllLaid}
 use Rattle.replace.proofs.Sizes.{length-laid}
 
@@ -115,7 +116,7 @@ module _ (text list : List ℕ) (size : ℕ) {t : Bool} (is : t ≡ covers text 
         rw (sym is ∙ not-false t e, le-leb size (min most room) (omega arith), whole)
 
 -- the size of the places is that of the result, where they cover the text
-sizes-verdict : (n : Note) (list content : List ℕ) (room : ℕ) → verdict (resultFaults (n .normalized) list (sizes (length content) (placesOf list)) room) ≡ verdict (resultFaults (n .normalized) list (sizeIn n list content) room)
+sizes-verdict : (n : Note) (list content : List ℕ) (room : ℕ) → verdict (resultFaults (n .normalized) list (placesSize (length content) (placesOf list)) room) ≡ verdict (resultFaults (n .normalized) list (sizeIn n list content) room)
 unfolding verdict replaced
 sizes-verdict n list content room =
     true-or-false (covers (n .normalized) list)
@@ -128,12 +129,12 @@ module _ (most : ℕ) (n : Note) (list content : List ℕ) (room : ℕ) {u v w :
   lent-verdict = earlier-of (noteFaults most n) (stringFaults content) noted string first
 
   pub refused-lent : {k : Refusal} (size : ℕ) → w ≡ Rejected k → Refused k ≡ publication (verdict (replaceFaults most n list content room)) size
-  refused-lent size e = ap (λ (v : Verdict). publication v size) (refused-then 4 (lentFaults most n content) (resultFaults (n .normalized) list (sizeIn n list content) (min most room)) refl refl lent-verdict e)
+  refused-lent size e = ap (λ (v : Verdict). publication v size) (refused-then (upTo Misaligned) (lentFaults most n content) (resultFaults (n .normalized) list (sizeIn n list content) (min most room)) refl refl lent-verdict e)
 
-  pub accepted-lent : {r : Publication} (size : ℕ) → w ≡ Accepted → r ≡ publication (verdict (resultFaults (n .normalized) list (sizes (length content) (placesOf list)) (min most room))) size → r ≡ publication (verdict (replaceFaults most n list content room)) size
+  pub accepted-lent : {r : Publication} (size : ℕ) → w ≡ Accepted → r ≡ publication (verdict (resultFaults (n .normalized) list (placesSize (length content) (placesOf list)) (min most room))) size → r ≡ publication (verdict (replaceFaults most n list content room)) size
   accepted-lent size e l =
       l ∙ ap (λ (v : Verdict). publication v size)
-      (accepted-then 4 (lentFaults most n content) (resultFaults (n .normalized) list (sizeIn n list content) (min most room)) refl refl lent-verdict e
+      (accepted-then (upTo Misaligned) (lentFaults most n content) (resultFaults (n .normalized) list (sizeIn n list content) (min most room)) refl refl lent-verdict e
       (sizes-verdict n list content (min most room)))
 
 -- the size that an answer tells
@@ -142,9 +143,9 @@ measured-size most n list content room answers e =
     omega (arith, says-published (verdict (replaceFaults most n list content room)) _ _ (sym e ∙ answers) .1)
 
 -- the call
-module _ (most : ℕ) (n : Note) (list content out₀ starts₀ ends₀ : List ℕ) {r : Publication} {room : ℕ} (rooms : room ≡ least (length out₀) (length starts₀) (length ends₀)) (answers : r ≡ publication (verdict (replaceFaults most n list content room)) (sizes (length content) (placesOf list))) where
-  said : r ≡ publication (verdict (replaceFaults most n list content (least (length out₀) (length starts₀) (length ends₀)))) (sizes (length content) (placesOf list))
-  said = answers ∙ ap (λ (x : ℕ). publication (verdict (replaceFaults most n list content x)) (sizes (length content) (placesOf list))) rooms
+module _ (most : ℕ) (n : Note) (list content out₀ starts₀ ends₀ : List ℕ) {r : Publication} {room : ℕ} (rooms : room ≡ least (length out₀) (length starts₀) (length ends₀)) (answers : r ≡ publication (verdict (replaceFaults most n list content room)) (placesSize (length content) (placesOf list))) where
+  said : r ≡ publication (verdict (replaceFaults most n list content (least (length out₀) (length starts₀) (length ends₀)))) (placesSize (length content) (placesOf list))
+  said = answers ∙ ap (λ (x : ℕ). publication (verdict (replaceFaults most n list content x)) (placesSize (length content) (placesOf list))) rooms
 
   says-accepted : {a : ℕ} → r ≡ Published a → verdict (replaceFaults most n list content (least (length out₀) (length starts₀) (length ends₀))) ≡ Accepted
   says-accepted e = says-published _ _ _ (sym e ∙ said) .0
@@ -157,7 +158,7 @@ module _ (most : ℕ) (n : Note) (list content out₀ starts₀ ends₀ : List �
   ready e =
       let all : ℕ = least (length out₀) (length starts₀) (length ends₀) in
       let t : Taken n list = accepted-taken most n list content all (says-accepted e) in
-      let size : length (laid (λ end. content) (placesOf list) (n .normalized)) ≡ sizes (length content) (placesOf list) =
+      let size : length (laid (λ end. content) (placesOf list) (n .normalized)) ≡ placesSize (length content) (placesOf list) =
       length-laid (n .normalized) (n .normalized) (λ end. content) (length content) 0 (placesOf list) refl (λ e. refl) (t .covered) in
       let fits = accepted-room most n list content all (says-accepted e) in
       record {

@@ -11,9 +11,11 @@ use Rattle.buffers.proofs.Cases.{le-or-lt, clash}
 use Rattle.utf8.specs.Formed.{wellFormed, continues, announced, boundary}
 use Rattle.utf8.proofs.Boundaries.{boundary-begins, boundary-most}
 use Rattle.note.specs.Refusals.{least}
-use Rattle.note.specs.Starting.{charStart, charEnd, starting}
+use Rattle.utf8.specs.CharRanges.{charStart, charEnd}
+use Rattle.note.specs.Starting.{starting}
 use Rattle.note.proofs.Sound.{normalized-formed}
-use Rattle.note.proofs.Starting.{ranged, charStart-begins, charStart-continues, starting-start, starting-end}
+use Rattle.utf8.proofs.CharRanges.{ranged, charStart-begins, charStart-continues}
+use Rattle.note.proofs.Starting.{starting-start, starting-end}
 use Rattle.pattern.specs.declared.Place.{Place}
 use Rattle.pattern.specs.Entries.{placesOf}
 use Rattle.pattern.specs.Places.{coversFrom}

@@ -1,4 +1,4 @@
--- Laws of `sizeOf` and `sizes`: the size of a result is that of its places, and the code sums it up to the limit.
+-- Laws of `placeSize` and `placesSize`: the size of a result is that of its places, and the code sums it up to the limit.
 use Prim.Native.Nat.{ℕ, _+_, _-_, _≤_, _<_, min}
 use mathlib.Core.Path.{_≡_, _∙_, ap, refl, sym}
 use mathlib.Core.Bool.{Bool, true, false}
@@ -15,31 +15,31 @@ use Rattle.pattern.specs.Places.{fitsAt, coversFrom}
 use Rattle.pattern.proofs.Entries.{Stepped, entry-step, entry-broken, entries-end}
 use Rattle.pattern.proofs.Places.{Span, fits-span, covers-first, covers-rest}
 use Rattle.replace.specs.Replacing.{piece, laid}
-use Rattle.replace.specs.Sizes.{sizeOf, sizes}
+use Rattle.replace.specs.Sizes.{placeSize, placesSize}
 
 module _ (p : Place) (wide : ℕ) where
-  pub size-matched : p .matched ≡ true → sizeOf wide p ≡ wide
-  unfolding sizeOf
+  pub size-matched : p .matched ≡ true → placeSize wide p ≡ wide
+  unfolding placeSize
   size-matched e = rw e
 
-  pub size-unmatched : p .matched ≡ false → sizeOf wide p ≡ p .end .0 - p .start .0
-  unfolding sizeOf
+  pub size-unmatched : p .matched ≡ false → placeSize wide p ≡ p .end .0 - p .start .0
+  unfolding placeSize
   size-unmatched e = rw e
 
-  pub size-reversed : p .matched ≡ false → p .end .0 < p .start .0 → 0 ≡ sizeOf wide p
+  pub size-reversed : p .matched ≡ false → p .end .0 < p .start .0 → 0 ≡ placeSize wide p
   size-reversed e h = omega (arith, size-unmatched e)
 
 -- a place that fits gives as many elements of a column as it gives bytes
-pub length-piece : (text xs : List ℕ) (f : ℕ → List ℕ) (wide at : ℕ) (p : Place) → length xs ≡ length text → ((e : ℕ) → length (f e) ≡ wide) → fitsAt text at p ≡ true → length (piece f p xs) ≡ sizeOf wide p
-unfolding piece sizeOf
+pub length-piece : (text xs : List ℕ) (f : ℕ → List ℕ) (wide at : ℕ) (p : Place) → length xs ≡ length text → ((e : ℕ) → length (f e) ≡ wide) → fitsAt text at p ≡ true → length (piece f p xs) ≡ placeSize wide p
+unfolding piece placeSize
 length-piece text xs f wide at p lx lf h =
     let here : Span text at p = fits-span text at p h in
     true-or-false (p .matched)
     (λ t. rw t (lf (p .end .0)))
     (λ u. rw u (length-part xs (p .start .0) (p .end .0) (omega (arith, here .inside))))
 
-pub length-laid : (text xs : List ℕ) (f : ℕ → List ℕ) (wide at : ℕ) (ps : List Place) → length xs ≡ length text → ((e : ℕ) → length (f e) ≡ wide) → coversFrom text at ps ≡ true → length (laid f ps xs) ≡ sizes wide ps
-unfolding laid sizes
+pub length-laid : (text xs : List ℕ) (f : ℕ → List ℕ) (wide at : ℕ) (ps : List Place) → length xs ≡ length text → ((e : ℕ) → length (f e) ≡ wide) → coversFrom text at ps ≡ true → length (laid f ps xs) ≡ placesSize wide ps
+unfolding laid placesSize
 length-laid text xs f wide at [] lx lf c = refl
 length-laid text xs f wide at (p ∷ ps) lx lf c =
     rw (
@@ -50,7 +50,7 @@ length-laid text xs f wide at (p ∷ ps) lx lf c =
 
 -- what the places before i give, all of which is within the limit
 pub record Measured (most : ℕ) (list : List ℕ) (wide total i : ℕ) : Type 0 where
-  pub so-far : sizes wide (placesOf list) ≡ total + sizes wide (placesOf (drop i list))
+  pub so-far : placesSize wide (placesOf list) ≡ total + placesSize wide (placesOf (drop i list))
   pub small : total ≤ most
   pub inside : i ≤ length list
 
@@ -58,23 +58,23 @@ pub none-measured : {most : ℕ} (list : List ℕ) (wide : ℕ) → Measured mos
 none-measured list wide = record { so-far = omega arith; small = omega arith; inside = omega arith }
 
 module _ {most : ℕ} {list : List ℕ} {wide total i : ℕ} (m : Measured most list wide total i) where
-  module _ {entry : Entry} {p : Place} {next size : ℕ} (is : entry ≡ entryAt list i) (there : entry ≡ At p next) (e : size ≡ sizeOf wide p) where
-    step : sizes wide (placesOf list) ≡ total + (size + sizes wide (placesOf (drop next list)))
-    unfolding sizes
+  module _ {entry : Entry} {p : Place} {next size : ℕ} (is : entry ≡ entryAt list i) (there : entry ≡ At p next) (e : size ≡ placeSize wide p) where
+    step : placesSize wide (placesOf list) ≡ total + (size + placesSize wide (placesOf (drop next list)))
+    unfolding placesSize
     step = let s : Stepped list i p next = entry-step list is there in m .so-far ∙ rw (s .places, e)
 
     pub more-measured : size ≤ most - total → Measured most list wide (total + size) next
     more-measured fits = record { so-far = omega (arith, step); small = omega (arith, m .small); inside = entry-step list is there .most }
 
-    pub too-much : most - total < size → most + 1 ≡ min (most + 1) (sizes wide (placesOf list))
+    pub too-much : most - total < size → most + 1 ≡ min (most + 1) (placesSize wide (placesOf list))
     too-much over = omega (arith, step, m .small)
 
-  rest : placesOf (drop i list) ≡ [] → total ≡ min (most + 1) (sizes wide (placesOf list))
-  unfolding sizes
-  rest none = let z : sizes wide (placesOf (drop i list)) ≡ 0 = rw none in omega (arith, m .so-far, m .small)
+  rest : placesOf (drop i list) ≡ [] → total ≡ min (most + 1) (placesSize wide (placesOf list))
+  unfolding placesSize
+  rest none = let z : placesSize wide (placesOf (drop i list)) ≡ 0 = rw none in omega (arith, m .so-far, m .small)
 
-  pub broken-measured : {entry : Entry} → i < length list → entry ≡ entryAt list i → entry ≡ Broken → total ≡ min (most + 1) (sizes wide (placesOf list))
+  pub broken-measured : {entry : Entry} → i < length list → entry ≡ entryAt list i → entry ≡ Broken → total ≡ min (most + 1) (placesSize wide (placesOf list))
   broken-measured h is e = rest (entry-broken list h is e .0)
 
-  pub all-measured : length list ≤ i → total ≡ min (most + 1) (sizes wide (placesOf list))
+  pub all-measured : length list ≤ i → total ≡ min (most + 1) (placesSize wide (placesOf list))
   all-measured h = rest (entries-end list h .0)

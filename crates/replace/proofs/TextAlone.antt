@@ -1,4 +1,4 @@
--- The claims about the published text alone: `laid` of the texts, by its laws for one list, by `kept` for two.
+-- The claims about the published text alone: `laid` of the texts, by its laws for one list, by `keptParts` for two.
 use Prim.Native.Nat.{ℕ}
 use mathlib.Core.Path.{_≡_, _∙_, ap, refl, sym}
 use mathlib.Core.Bool.{Bool, cond}
@@ -10,7 +10,7 @@ use Rattle.note.specs.Notes.{Note}
 use Rattle.pattern.specs.declared.Place.{Place}
 use Rattle.pattern.specs.Entries.{placesOf}
 use Rattle.replace.specs.Replacing.{piece, laid, replaced}
-use Rattle.replace.specs.TextAlone.{SameOutside, kept, TextAlone, TextAloneTwoLists}
+use Rattle.replace.specs.TextAlone.{SameOutside, keptParts, TextAlone, TextAloneTwoLists}
 use Rattle.replace.proofs.Laid.{agree-laid, laid-agree}
 use Rattle.replace.proofs.Blanking.{published-is}
 use Rattle.replace.proofs.Faults.{Taken, taken, taken-length}
@@ -42,8 +42,8 @@ filled : List ℕ → List (Bool × List ℕ) → List ℕ
 filled content [] = []
 filled content (k ∷ ks) = cond (k .0) content (k .1) ++ filled content ks
 
-laid-kept : (content : List ℕ) (ps : List Place) (xs : List ℕ) → laid (λ end. content) ps xs ≡ filled content (kept ps xs)
-unfolding laid kept piece filled
+laid-kept : (content : List ℕ) (ps : List Place) (xs : List ℕ) → laid (λ end. content) ps xs ≡ filled content (keptParts ps xs)
+unfolding laid keptParts piece filled
 laid-kept content [] xs = refl
 laid-kept content (p ∷ ps) xs = true-or-false (p .matched) (λ t. rw (t, laid-kept content ps xs)) (λ u. rw (u, laid-kept content ps xs))
 

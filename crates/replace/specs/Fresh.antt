@@ -4,7 +4,8 @@ use mathlib.Core.Path.{_≡_}
 use mathlib.Core.Bool.{true}
 use mathlib.Core.List.{List, List·Memᴰ}
 use lib.ListN.{length, getD}
-use Rattle.note.specs.Starting.{charStart, starting}
+use Rattle.utf8.specs.CharRanges.{charStart}
+use Rattle.note.specs.Starting.{starting}
 use Rattle.pattern.specs.declared.Place.{Place}
 use Rattle.pattern.specs.Entries.{placesOf}
 use Rattle.replace.specs.declared.Publication.the-variants.{Published}

@@ -10,19 +10,19 @@ use Rattle.pattern.specs.declared.Place.{Place}
 use Rattle.pattern.specs.Entries.{placesOf}
 use Rattle.pattern.specs.Places.{coversFrom}
 use Rattle.replace.specs.Replacing.{piece, laid, carried}
-use Rattle.replace.specs.Sizes.{sizeOf, sizes}
+use Rattle.replace.specs.Sizes.{placeSize, placesSize}
 
 -- a place of a column, and room for what it gives beside a content of `wide` bytes
 pub record PlaceRoom (column : List ℕ) (wide : ℕ) (p : Place) (until : ℕ) (d : List ℕ) (at : ℕ) : Type 0 where
   pub onward : p .start .0 ≤ p .end .0
   pub inside : p .end .0 ≤ length column
-  pub room : at + sizeOf wide p ≤ length d
+  pub room : at + placeSize wide p ≤ length d
   pub until-room : until ≤ length d
 
 -- what it gives stands in d from `at` on
 pub record PlaceLaid (fill : ℕ → List ℕ) (column : List ℕ) (wide : ℕ) (p : Place) (until : ℕ) (d₀ : List ℕ) (at r : ℕ)
     (d : List ℕ) : Type 0 where
-  pub reached : r ≡ at + sizeOf wide p
+  pub reached : r ≡ at + placeSize wide p
   pub holds : Over (piece fill p column) d₀ at until d
 
 -- a list that covers a text of the column's length, and room for what it gives, which is no less than `until`
@@ -30,8 +30,8 @@ pub record ColumnReady (column list : List ℕ) (wide until : ℕ) (d : List ℕ
   pub text : List ℕ
   pub long : length column ≡ length text
   pub covered : coversFrom text 0 (placesOf list) ≡ true
-  pub room : sizes wide (placesOf list) ≤ length d
-  pub below : until ≤ sizes wide (placesOf list)
+  pub room : placesSize wide (placesOf list) ≤ length d
+  pub below : until ≤ placesSize wide (placesOf list)
 
 -- what the places give of a column stands in front of d
 pub record ColumnLaid (fill : ℕ → List ℕ) (column list d₀ : List ℕ) (r : ℕ) (d : List ℕ) : Type 0 where
@@ -43,9 +43,9 @@ pub record Ready (text starts ends list content out starts₀ ends₀ : List ℕ
   pub one-start : length starts ≡ length text
   pub one-end : length ends ≡ length text
   pub covered : coversFrom text 0 (placesOf list) ≡ true
-  pub text-room : sizes (length content) (placesOf list) ≤ length out
-  pub starts-room : sizes (length content) (placesOf list) ≤ length starts₀
-  pub ends-room : sizes (length content) (placesOf list) ≤ length ends₀
+  pub text-room : placesSize (length content) (placesOf list) ≤ length out
+  pub starts-room : placesSize (length content) (placesOf list) ≤ length starts₀
+  pub ends-room : placesSize (length content) (placesOf list) ≤ length ends₀
 
 -- the whole result stands in front
 pub record AllLaid (text starts ends list content out₀ starts₀ ends₀ : List ℕ) (r : ℕ)

@@ -5,9 +5,9 @@ use mathlib.Core.List.{List, [], _∷_}
 use Rattle.pattern.specs.declared.Place.{Place}
 
 -- how many bytes a place gives beside a content of `wide` bytes
-unfoldable pub sizeOf : ℕ → Place → ℕ
-sizeOf wide p = cond (p .matched) wide (p .end .0 - p .start .0)
+unfoldable pub placeSize : ℕ → Place → ℕ
+placeSize wide p = cond (p .matched) wide (p .end .0 - p .start .0)
 
-unfoldable pub sizes : ℕ → List Place → ℕ
-sizes wide [] = 0
-sizes wide (p ∷ ps) = sizeOf wide p + sizes wide ps
+unfoldable pub placesSize : ℕ → List Place → ℕ
+placesSize wide [] = 0
+placesSize wide (p ∷ ps) = placeSize wide p + placesSize wide ps

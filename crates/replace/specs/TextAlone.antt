@@ -28,9 +28,9 @@ TextAlone =
     × (SameOutside n m (placesOf list) → take a outₙ ≡ take b outₘ)
 
 -- what places leave of a text: of each one whether it is matched, and the bytes that it holds where it is not
-unfoldable pub kept : List Place → List ℕ → List (Bool × List ℕ)
-kept [] xs = []
-kept (p ∷ ps) xs = (p .matched, piece (λ end. []) p xs) ∷ kept ps xs
+unfoldable pub keptParts : List Place → List ℕ → List (Bool × List ℕ)
+keptParts [] xs = []
+keptParts (p ∷ ps) xs = (p .matched, piece (λ end. []) p xs) ∷ keptParts ps xs
 
 -- CLAIM: two notes, a list for each of them and one content, replacing accepts both: where matched and unmatched places
 -- follow each other in the same order and the unmatched ones hold the same bytes, the published texts are equal,
@@ -41,5 +41,5 @@ TextAloneTwoLists =
     (outₙ₀ startsₙ₀ endsₙ₀ outₙ startsₙ endsₙ outₘ₀ startsₘ₀ endsₘ₀ outₘ startsₘ endsₘ : List ℕ)
     → Replacing most n listₙ content outₙ₀ startsₙ₀ endsₙ₀ (Published a) outₙ startsₙ endsₙ
     → Replacing most m listₘ content outₘ₀ startsₘ₀ endsₘ₀ (Published b) outₘ startsₘ endsₘ
-    → kept (placesOf listₙ) (n .normalized) ≡ kept (placesOf listₘ) (m .normalized)
+    → keptParts (placesOf listₙ) (n .normalized) ≡ keptParts (placesOf listₘ) (m .normalized)
     → take a outₙ ≡ take b outₘ

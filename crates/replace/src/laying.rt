@@ -4,6 +4,7 @@
 use buffers::Offset;
 use buffers::blocks::copy_bytes_over;
 use buffers::blocks::copy_offsets_over;
+use buffers::blocks::copy_front_over;
 use buffers::blocks::fill_offsets_over;
 use buffers::copy_bytes;
 use note::before_end;
@@ -16,40 +17,22 @@ ghost use Rattle.buffers.specs.Splice.{part};
 ghost use Rattle.buffers.specs.Over.{Over, Source};
 ghost use Rattle.replace.specs.Replacing.{carried};
 ghost use Rattle.pattern.specs.Entries.{placesOf};
-ghost use Rattle.replace.specs.Sizes.{sizes};
+ghost use Rattle.replace.specs.Sizes.{placesSize};
 ghost use Rattle.replace.specs.Laying.{AllLaid, ColumnLaid, ColumnReady, PlaceLaid, PlaceRoom, Ready};
-
-// The content, what `filler` has in front, `wide` bytes, in `out` from `at` on: 16 at once where they are no more.
-pub fn lay_content(filler: &[u8], wide: usize, out: &mut [u8], at: usize, until: usize)
-    requires { ⌜ Source (now filler) 0 wide (now out) at until ⌝ }
-    ensures { λ _. ⌜ Over (part (now (filler .entry)) 0 wide) (now (out .entry)) at until (now (out .exit)) ⌝ }
-{
-    if wide <= 16 {
-        if 16 <= filler.len() {
-            if at + 16 <= until {
-                let mut block = [0u8; 16];
-                copy_bytes(&filler[0..16], &mut block, 0);
-                copy_bytes(&block, out, at);
-                return;
-            }
-        }
-    }
-    copy_bytes_over(filler, 0, wide, out, at, until);
-}
 
 // A place's bytes, or the content in the place of a matched one, in `out` from `at` on; how far it reaches then. Here
 // and below the content is what `filler` has in front, `wide` bytes.
 fn lay_bytes(
     text: &[u8],
     place: Place,
-    filler: &[u8],
+    padded: &[u8],
     wide: usize,
     until: usize,
     out: &mut [u8],
     at: usize,
 ) -> usize
-    requires { ⌜ PlaceRoom (now text) wide place until (now out) at × (wide ≤ length (now filler)) ⌝ }
-    ensures { λ r. ⌜ PlaceLaid (λ end. part (now (filler .entry)) 0 wide) (now (text .entry)) wide place until
+    requires { ⌜ PlaceRoom (now text) wide place until (now out) at × (wide ≤ length (now padded)) ⌝ }
+    ensures { λ r. ⌜ PlaceLaid (λ end. part (now (padded .entry)) 0 wide) (now (text .entry)) wide place until
         (now (out .entry)) at r (now (out .exit)) ⌝ }
 {
     let start = place.start;
@@ -57,7 +40,7 @@ fn lay_bytes(
     let from = start.0 as usize;
     let to = end.0 as usize;
     if place.matched {
-        lay_content(filler, wide, out, at, until);
+        copy_front_over(padded, wide, out, at, until);
         return at + wide;
     }
     copy_bytes_over(text, from, to, out, at, until);
@@ -93,13 +76,13 @@ fn lay_offsets(
 fn lay_text(
     text: &[u8],
     list: &[u8],
-    filler: &[u8],
+    padded: &[u8],
     wide: usize,
     until: usize,
     out: &mut [u8],
 ) -> usize
-    requires { ⌜ ColumnReady (now text) (now list) wide until (now out) × (wide ≤ length (now filler)) ⌝ }
-    ensures { λ r. ⌜ ColumnLaid (λ end. part (now (filler .entry)) 0 wide) (now (text .entry)) (now (list .entry))
+    requires { ⌜ ColumnReady (now text) (now list) wide until (now out) × (wide ≤ length (now padded)) ⌝ }
+    ensures { λ r. ⌜ ColumnLaid (λ end. part (now (padded .entry)) 0 wide) (now (text .entry)) (now (list .entry))
         (now (out .entry)) r (now (out .exit)) ⌝ }
 {
     let mut at = 0;
@@ -107,7 +90,7 @@ fn lay_text(
     while i < list.len() {
         match entry_at(list, i) {
             Entry::At(place, next) => {
-                at = lay_bytes(text, place, filler, wide, until, out, at);
+                at = lay_bytes(text, place, padded, wide, until, out, at);
                 i = next;
             }
             Entry::Broken => return at,
@@ -170,7 +153,7 @@ pub fn lay_out(
 ) -> usize
     requires { ⌜ Ready (now normalized) (now starts) (now ends) (now list) (now content)
         (now out) (now «out_starts») (now «out_ends») ⌝ }
-    requires { ⌜ until ≤ sizes (length (now content)) (placesOf (now list)) ⌝ }
+    requires { ⌜ until ≤ placesSize (length (now content)) (placesOf (now list)) ⌝ }
     ensures { λ r. ⌜ AllLaid (now (normalized .entry)) (now (starts .entry)) (now (ends .entry))
         (now (list .entry)) (now (content .entry))
         (now (out .entry)) (now («out_starts» .entry)) (now («out_ends» .entry))

@@ -11,7 +11,7 @@ use laying::lay_out;
 use note::LIMIT;
 use note::Refusal;
 use note::Verdict;
-use note::answers::earlier;
+use note::verdicts::earlier;
 use pattern::Entry;
 use pattern::Place;
 use pattern::covers;
@@ -25,7 +25,7 @@ ghost use Rattle.note.specs.Refusals.{also, verdict};
 ghost use Rattle.pattern.specs.Entries.{placesOf};
 ghost use Rattle.pattern.specs.Places.{listFaults};
 ghost use Rattle.replace.specs.Replacing.{Replacing, publication, replaceFaults};
-ghost use Rattle.replace.specs.Sizes.{sizeOf, sizes};
+ghost use Rattle.replace.specs.Sizes.{placeSize, placesSize};
 
 // What is published: how many bytes; or why nothing is.
 pub enum Publication {
@@ -34,8 +34,8 @@ pub enum Publication {
 }
 
 // How many bytes a place gives beside a content of `wide` bytes.
-fn size_of(place: Place, wide: usize) -> usize
-    ensures { λ r. ⌜ r ≡ sizeOf wide place ⌝ }
+fn place_size(place: Place, wide: usize) -> usize
+    ensures { λ r. ⌜ r ≡ placeSize wide place ⌝ }
 {
     let start = place.start;
     let end = place.end;
@@ -50,15 +50,15 @@ fn size_of(place: Place, wide: usize) -> usize
 
 // How many bytes the places of a list give beside a content of `wide` bytes; one more than the limit where they are
 // more.
-pub fn measure(list: &[u8], wide: usize) -> usize
-    ensures { λ r. ⌜ r ≡ min (limit + 1) (sizes wide (placesOf (now (list .entry)))) ⌝ }
+pub fn result_len(list: &[u8], wide: usize) -> usize
+    ensures { λ r. ⌜ r ≡ min (limit + 1) (placesSize wide (placesOf (now (list .entry)))) ⌝ }
 {
     let mut total: usize = 0;
     let mut i = 0;
     while i < list.len() {
         match entry_at(list, i) {
             Entry::At(place, next) => {
-                let size = size_of(place, wide);
+                let size = place_size(place, wide);
                 if LIMIT - total < size {
                     return LIMIT + 1;
                 }
@@ -74,13 +74,13 @@ pub fn measure(list: &[u8], wide: usize) -> usize
 // Whether a list covers the text and its result fits the room that is lent; how many bytes that is.
 fn check_list(text: &[u8], list: &[u8], wide: usize, room: usize) -> Publication
     ensures { λ r. ⌜ r ≡ publication (verdict (also (listFaults (now (text .entry)) (now (list .entry)))
-        (roomFaults (sizes wide (placesOf (now (list .entry)))) (min limit room))))
-        (sizes wide (placesOf (now (list .entry)))) ⌝ }
+        (roomFaults (placesSize wide (placesOf (now (list .entry)))) (min limit room))))
+        (placesSize wide (placesOf (now (list .entry)))) ⌝ }
 {
     if !covers(text, list) {
         return Publication::Refused(Refusal::BadMatches);
     }
-    let size = measure(list, wide);
+    let size = result_len(list, wide);
     if least_of_two(LIMIT, room) < size {
         return Publication::Refused(Refusal::NoRoom);
     }
@@ -102,7 +102,7 @@ pub fn check_replace(
         (lent (now (original .entry)) (now (normalized .entry))
         (now (starts .entry)) (now (ends .entry)) «original_shift»)
         (now (list .entry)) (now (content .entry)) room))
-        (sizes (length (now (content .entry))) (placesOf (now (list .entry)))) ⌝ }
+        (placesSize (length (now (content .entry))) (placesOf (now (list .entry)))) ⌝ }
 {
     let noted = check_note(original, normalized, starts, ends, original_shift);
     match earlier(noted, check_string(content)) {

@@ -8,12 +8,17 @@ mod texts;
 
 use libc::STDOUT_FILENO;
 use replayed_pieces::printing::printed;
+use stored_answers::calls::CALLS;
+use stored_answers::calls::CHAR_OFFSETS;
+use stored_answers::calls::FIND_MATCHES;
+use stored_answers::calls::FROM_TEXT;
+use stored_answers::calls::LETTER_COUNT;
+use stored_answers::calls::PART;
+use stored_answers::calls::PIECES;
+use stored_answers::calls::WELL_FORMED;
 use stored_answers::fields::field;
 use stored_answers::unpack::unpack;
 ghost use Rattle.io.specs.Counts.{Counts};
-
-// How many calls there are.
-const CALLS: u8 = 26;
 
 // The most bytes of a case, unpacked.
 const CASE: usize = 3145728;
@@ -27,13 +32,13 @@ struct Tally {
 // Whether the call answers as the case says.
 fn agrees(call: u8, case: &[u8]) -> bool {
     match call {
-        0 => texts::well_formed(case),
-        1 => texts::letter_count(case),
-        2 => texts::char_offsets(case),
-        4 => notes::from_text(case),
-        12 => ranges::part(case),
-        13 => matches::find_matches(case),
-        18 => printed(case),
+        WELL_FORMED => texts::well_formed(case),
+        LETTER_COUNT => texts::letter_count(case),
+        CHAR_OFFSETS => texts::char_offsets(case),
+        FROM_TEXT => notes::from_text(case),
+        PART => ranges::part(case),
+        FIND_MATCHES => matches::find_matches(case),
+        PIECES => printed(case),
         _ => notes::on_note(call, case),
     }
 }

@@ -8,6 +8,25 @@ use replayed_pieces::pieces::get_splits;
 use replayed_pieces::pieces::split;
 use replayed_pieces::slices::slice;
 use replayed_pieces::told::are_columns;
+use stored_answers::calls::APPEND;
+use stored_answers::calls::CHAR_OFFSETS_ALL;
+use stored_answers::calls::CHECK_NOTE;
+use stored_answers::calls::CLEAR;
+use stored_answers::calls::CONVERT_ALL;
+use stored_answers::calls::CONVERT_OFFSETS;
+use stored_answers::calls::FILTER;
+use stored_answers::calls::GET_RANGE;
+use stored_answers::calls::GET_RANGE_ORIGINAL;
+use stored_answers::calls::GET_SPLITS;
+use stored_answers::calls::MAP;
+use stored_answers::calls::PREPEND;
+use stored_answers::calls::PUBLISHED_ALIKE;
+use stored_answers::calls::REDACT;
+use stored_answers::calls::REPLACE;
+use stored_answers::calls::SLICE;
+use stored_answers::calls::SPLIT;
+use stored_answers::calls::TRANSFORM;
+use stored_answers::calls::TRANSFORM_RANGE;
 use stored_answers::columns::offsets;
 use stored_answers::columns::zeros;
 use stored_answers::fields::field;
@@ -39,20 +58,20 @@ pub fn from_text(case: &[u8]) -> bool {
 // One of the calls on a note; its columns are read already.
 fn called(call: u8, case: &[u8], starts: &[Offset], ends: &[Offset]) -> bool {
     match call {
-        3 => on_pairs(call, case, 1, starts, ends),
-        5 => check_note(case, starts, ends),
-        6 | 7 | 8 => on_range(call, case, starts, ends),
-        9 => on_pairs(call, case, 6, starts, ends),
-        10 => on_publishing(call, case, 7, starts, ends),
-        11 => published_alike(case, starts, ends),
-        14 => on_publishing(call, case, 3, starts, ends),
-        15 => slice(case, starts, ends),
-        16 => split(case, starts, ends),
-        17 => get_splits(case, starts, ends),
-        19 => on_publishing(call, case, 10, starts, ends),
-        20 => on_publishing(call, case, 7, starts, ends),
-        21 | 22 | 23 | 24 => on_publishing(call, case, 6, starts, ends),
-        25 => on_publishing(call, case, 5, starts, ends),
+        CHAR_OFFSETS_ALL => on_pairs(call, case, 1, starts, ends),
+        CHECK_NOTE => check_note(case, starts, ends),
+        CONVERT_OFFSETS | GET_RANGE | GET_RANGE_ORIGINAL => on_range(call, case, starts, ends),
+        CONVERT_ALL => on_pairs(call, case, 6, starts, ends),
+        REPLACE => on_publishing(call, case, 7, starts, ends),
+        PUBLISHED_ALIKE => published_alike(case, starts, ends),
+        REDACT => on_publishing(call, case, 3, starts, ends),
+        SLICE => slice(case, starts, ends),
+        SPLIT => split(case, starts, ends),
+        GET_SPLITS => get_splits(case, starts, ends),
+        TRANSFORM_RANGE => on_publishing(call, case, 10, starts, ends),
+        TRANSFORM => on_publishing(call, case, 7, starts, ends),
+        MAP | FILTER | APPEND | PREPEND => on_publishing(call, case, 6, starts, ends),
+        CLEAR => on_publishing(call, case, 5, starts, ends),
         _ => false,
     }
 }

@@ -3,6 +3,8 @@ use buffers::Offset;
 use convert::range_of;
 use get_range::part_of;
 use replayed_pieces::told::is_range;
+use stored_answers::calls::CONVERT_OFFSETS;
+use stored_answers::calls::GET_RANGE;
 use stored_answers::fields::field;
 use stored_answers::fields::is_number;
 use stored_answers::fields::is_text;
@@ -22,7 +24,7 @@ pub fn on_range(call: u8, case: &[u8], starts: &[Offset], ends: &[Offset]) -> bo
     let start = value(case, 6);
     let end = value(case, 7);
     let answer = match call {
-        6 => zulmyren_convert_offsets(
+        CONVERT_OFFSETS => zulmyren_convert_offsets(
             original,
             normalized,
             starts,
@@ -32,7 +34,7 @@ pub fn on_range(call: u8, case: &[u8], starts: &[Offset], ends: &[Offset]) -> bo
             start,
             end,
         ),
-        7 => zulmyren_get_range(
+        GET_RANGE => zulmyren_get_range(
             original,
             normalized,
             starts,

@@ -9,19 +9,18 @@ use borrow.Author.Tests.{ne-eqb}
 use Rattle.buffers.specs.Splice.{Laid}
 use Rattle.note.specs.Notes.{Note, lent, limit}
 use Rattle.convert.specs.Converting.{rangeOf}
-use Rattle.replace.specs.Replacing.{Replacing}
-use Rattle.redact.specs.Redacting.{Redacted}
-use Rattle.transform.specs.Transforming.{wholeTranscript}
+use Rattle.transform.specs.Transforming.{wholeOriginal}
+use Rattle.stored_answers.specs.Calls.{appendNumber, clearNumber, filterNumber, mapNumber, redactNumber, replaceNumber, transformNumber, transformRangeNumber}
 use Rattle.stored_answers.specs.Framing.{fieldOf}
 use Rattle.stored_answers.specs.Lending.{numberAt, noteAt}
 use Rattle.stored_answers.proofs.Splice.{take-laid}
 use Rattle.zulmyren.specs.declared.answers.Count.{Count}
 use Rattle.zulmyren.specs.declared.answers.Lengths.{Lengths}
-use Rattle.zulmyren.specs.Calls.{Told, publishedOf, sideOf}
+use Rattle.zulmyren.specs.Calls.{sideOf}
+use Rattle.zulmyren.specs.Contracts.{OnThree, RedactCall, ReplaceCall}
 use Rattle.zulmyren.specs.Edits.{AppendTold, ClearTold, FilterTold, PrependTold, TransformTold}
 use Rattle.replayed_edits.specs.Replaying.{
-  Answered,
-  Call,
+  CallAnswered,
   MapCase,
   Published,
   RangeCase,
@@ -36,22 +35,22 @@ use Rattle.replayed_edits.specs.Replaying.{
 
 module _ (case : List ℕ) {out₀ s₀ e₀ : List ℕ} {a : Count} {out s e : List ℕ} where
   -- a literal, a content
-  pub redact-lent : {text literal content : List ℕ} → text ≡ fieldOf 0 case → literal ≡ fieldOf 1 case → content ≡ fieldOf 2 case → Told publishedOf (λ v. Redacted limit text literal content out₀ s₀ e₀ v out s e) a → RedactCase case out₀ s₀ e₀ a out s e
-  redact-lent t l f call = coe 0 1 (i. Told publishedOf (λ v. Redacted limit (t i) (l i) (f i) out₀ s₀ e₀ v out s e) a) call
+  pub redact-lent : {text literal content : List ℕ} → text ≡ fieldOf 0 case → literal ≡ fieldOf 1 case → content ≡ fieldOf 2 case → RedactCall text literal content out₀ s₀ e₀ a out s e → RedactCase case out₀ s₀ e₀ a out s e
+  redact-lent t l f call = coe 0 1 (i. RedactCall (t i) (l i) (f i) out₀ s₀ e₀ a out s e) call
 
   -- what was read of the note
   module _ (starts ends : List ℕ) {original normalized : List ℕ} {shift : ℕ} (o : original ≡ fieldOf 0 case) (n : normalized ≡ fieldOf 1 case) (k : shift ≡ numberAt case 4) where
-    pub replace-lent : {list content : List ℕ} → list ≡ fieldOf 5 case → content ≡ fieldOf 6 case → Told publishedOf (λ v. Replacing limit (lent original normalized starts ends shift) list content out₀ s₀ e₀ v out s e) a → ReplaceCase case starts ends out₀ s₀ e₀ a out s e
-    replace-lent l f call = coe 0 1 (i. Told publishedOf (λ v. Replacing limit (lent (o i) (n i) starts ends (k i)) (l i) (f i) out₀ s₀ e₀ v out s e) a) call
+    pub replace-lent : {list content : List ℕ} → list ≡ fieldOf 5 case → content ≡ fieldOf 6 case → ReplaceCall (lent original normalized starts ends shift) list content out₀ s₀ e₀ a out s e → ReplaceCase case starts ends out₀ s₀ e₀ a out s e
+    replace-lent l f call = coe 0 1 (i. ReplaceCall (lent (o i) (n i) starts ends (k i)) (l i) (f i) out₀ s₀ e₀ a out s e) call
 
     pub range-lent : {side start end offset : ℕ} {script : List ℕ} → side ≡ numberAt case 5 → start ≡ numberAt case 6 → end ≡ numberAt case 7 → script ≡ fieldOf 8 case → offset ≡ numberAt case 9 → TransformTold (lent original normalized starts ends shift) (rangeOf (sideOf (eqb side 1)) start end) script offset out₀ s₀ e₀ a out s e → RangeCase case starts ends out₀ s₀ e₀ a out s e
     range-lent f from to b x call = coe 0 1 (i. TransformTold (lent (o i) (n i) starts ends (k i)) (rangeOf (sideOf (eqb (f i) 1)) (from i) (to i)) (b i) (x i) out₀ s₀ e₀ a out s e) call
 
-    pub script-lent : {offset : ℕ} {script : List ℕ} → script ≡ fieldOf 5 case → offset ≡ numberAt case 6 → TransformTold (lent original normalized starts ends shift) (wholeTranscript original) script offset out₀ s₀ e₀ a out s e → ScriptCase case starts ends out₀ s₀ e₀ a out s e
-    script-lent b x call = coe 0 1 (i. TransformTold (lent (o i) (n i) starts ends (k i)) (wholeTranscript (o i)) (b i) (x i) out₀ s₀ e₀ a out s e) call
+    pub script-lent : {offset : ℕ} {script : List ℕ} → script ≡ fieldOf 5 case → offset ≡ numberAt case 6 → TransformTold (lent original normalized starts ends shift) (wholeOriginal original) script offset out₀ s₀ e₀ a out s e → ScriptCase case starts ends out₀ s₀ e₀ a out s e
+    script-lent b x call = coe 0 1 (i. TransformTold (lent (o i) (n i) starts ends (k i)) (wholeOriginal (o i)) (b i) (x i) out₀ s₀ e₀ a out s e) call
 
     -- code points, flags, a string
-    pub whole-lent : (edit : Note → List ℕ → Call) {given stored : List ℕ} → given ≡ stored → edit (lent original normalized starts ends shift) given out₀ s₀ e₀ a out s e → edit (noteAt case starts ends) stored out₀ s₀ e₀ a out s e
+    pub whole-lent : (edit : Note → List ℕ → OnThree Count) {given stored : List ℕ} → given ≡ stored → edit (lent original normalized starts ends shift) given out₀ s₀ e₀ a out s e → edit (noteAt case starts ends) stored out₀ s₀ e₀ a out s e
     whole-lent edit b call = coe 0 1 (i. edit (lent (o i) (n i) starts ends (k i)) (b i) out₀ s₀ e₀ a out s e) call
 
 module _ (case starts ends : List ℕ) {original normalized : List ℕ} {shift : ℕ} (o : original ≡ fieldOf 0 case) (n : normalized ≡ fieldOf 1 case) (k : shift ≡ numberAt case 4) {out₀ s₀ e₀ out s e : List ℕ} {r : Bool} where
@@ -68,39 +67,39 @@ module _ (case starts ends : List ℕ) {original normalized : List ℕ} {shift :
 
 -- a call by its number
 module _ {call : ℕ} {case starts ends out₀ s₀ e₀ : List ℕ} {a : Count} {out s e : List ℕ} where
-  pub filters : call ≡ 22 → FilterTold (noteAt case starts ends) (fieldOf 5 case) out₀ s₀ e₀ a out s e → WholeCase call case starts ends out₀ s₀ e₀ a out s e
+  pub filters : call ≡ filterNumber → FilterTold (noteAt case starts ends) (fieldOf 5 case) out₀ s₀ e₀ a out s e → WholeCase call case starts ends out₀ s₀ e₀ a out s e
   filters is met = record { met = rw is met }
 
-  pub appends : call ≡ 23 → AppendTold (noteAt case starts ends) (fieldOf 5 case) out₀ s₀ e₀ a out s e → WholeCase call case starts ends out₀ s₀ e₀ a out s e
+  pub appends : call ≡ appendNumber → AppendTold (noteAt case starts ends) (fieldOf 5 case) out₀ s₀ e₀ a out s e → WholeCase call case starts ends out₀ s₀ e₀ a out s e
   appends is met = record { met = rw is met }
 
-  pub prepends : (call ≡ 22 → ⊥) → (call ≡ 23 → ⊥) → PrependTold (noteAt case starts ends) (fieldOf 5 case) out₀ s₀ e₀ a out s e → WholeCase call case starts ends out₀ s₀ e₀ a out s e
-  prepends f p met = record { met = rw (ne-eqb call 22 f, ne-eqb call 23 p) met }
+  pub prepends : (call ≡ filterNumber → ⊥) → (call ≡ appendNumber → ⊥) → PrependTold (noteAt case starts ends) (fieldOf 5 case) out₀ s₀ e₀ a out s e → WholeCase call case starts ends out₀ s₀ e₀ a out s e
+  prepends f p met = record { met = rw (ne-eqb call filterNumber f, ne-eqb call appendNumber p) met }
 
-  pub replaces : call ≡ 10 → ReplaceCase case starts ends out₀ s₀ e₀ a out s e → Answered call case starts ends out₀ s₀ e₀ a out s e
+  pub replaces : call ≡ replaceNumber → ReplaceCase case starts ends out₀ s₀ e₀ a out s e → CallAnswered call case starts ends out₀ s₀ e₀ a out s e
   replaces is met = record { met = rw is met }
 
-  pub redacts : call ≡ 14 → RedactCase case out₀ s₀ e₀ a out s e → Answered call case starts ends out₀ s₀ e₀ a out s e
+  pub redacts : call ≡ redactNumber → RedactCase case out₀ s₀ e₀ a out s e → CallAnswered call case starts ends out₀ s₀ e₀ a out s e
   redacts is met = record { met = rw is met }
 
-  pub ranges : call ≡ 19 → RangeCase case starts ends out₀ s₀ e₀ a out s e → Answered call case starts ends out₀ s₀ e₀ a out s e
+  pub ranges : call ≡ transformRangeNumber → RangeCase case starts ends out₀ s₀ e₀ a out s e → CallAnswered call case starts ends out₀ s₀ e₀ a out s e
   ranges is met = record { met = rw is met }
 
-  pub scripts : call ≡ 20 → ScriptCase case starts ends out₀ s₀ e₀ a out s e → Answered call case starts ends out₀ s₀ e₀ a out s e
+  pub scripts : call ≡ transformNumber → ScriptCase case starts ends out₀ s₀ e₀ a out s e → CallAnswered call case starts ends out₀ s₀ e₀ a out s e
   scripts is met = record { met = rw is met }
 
-  pub maps : call ≡ 21 → MapCase case starts ends out₀ s₀ e₀ a out s e → Answered call case starts ends out₀ s₀ e₀ a out s e
+  pub maps : call ≡ mapNumber → MapCase case starts ends out₀ s₀ e₀ a out s e → CallAnswered call case starts ends out₀ s₀ e₀ a out s e
   maps is met = record { met = rw is met }
 
-  pub edits : (call ≡ 10 → ⊥) → (call ≡ 14 → ⊥) → (call ≡ 19 → ⊥) → (call ≡ 20 → ⊥) → (call ≡ 21 → ⊥) → WholeCase call case starts ends out₀ s₀ e₀ a out s e → Answered call case starts ends out₀ s₀ e₀ a out s e
-  edits p b t x m met = record { met = rw (ne-eqb call 10 p, ne-eqb call 14 b, ne-eqb call 19 t, ne-eqb call 20 x, ne-eqb call 21 m) met }
+  pub edits : (call ≡ replaceNumber → ⊥) → (call ≡ redactNumber → ⊥) → (call ≡ transformRangeNumber → ⊥) → (call ≡ transformNumber → ⊥) → (call ≡ mapNumber → ⊥) → WholeCase call case starts ends out₀ s₀ e₀ a out s e → CallAnswered call case starts ends out₀ s₀ e₀ a out s e
+  edits p b t x m met = record { met = rw (ne-eqb call replaceNumber p, ne-eqb call redactNumber b, ne-eqb call transformRangeNumber t, ne-eqb call transformNumber x, ne-eqb call mapNumber m) met }
 
 module _ {call : ℕ} {case : List ℕ} {at : ℕ} {starts ends out₀ s₀ e₀ : List ℕ} {r : Bool} where
-  pub cleared : call ≡ 25 → Replayed (ClearTold (noteAt case starts ends) out₀ s₀ e₀) (clearStored case 8) r → Published call case at starts ends out₀ s₀ e₀ r
+  pub cleared : call ≡ clearNumber → Replayed (ClearTold (noteAt case starts ends) out₀ s₀ e₀) (clearStored case 8) r → Published call case at starts ends out₀ s₀ e₀ r
   cleared is met = record { met = rw is met }
 
-  pub counted : {a : Count} {out s e : List ℕ} → (call ≡ 25 → ⊥) → Answered call case starts ends out₀ s₀ e₀ a out s e → r ≡ editStored case (at + 3) a out s e → Published call case at starts ends out₀ s₀ e₀ r
-  counted {a} {out} {s} {e} c met told = record { met = rw (ne-eqb call 25 c) (record { answer = a; text = out; starts = s; ends = e; met = met; says = told }) }
+  pub counted : {a : Count} {out s e : List ℕ} → (call ≡ clearNumber → ⊥) → CallAnswered call case starts ends out₀ s₀ e₀ a out s e → r ≡ editStored case (at + 3) a out s e → Published call case at starts ends out₀ s₀ e₀ r
+  counted {a} {out} {s} {e} c met told = record { met = rw (ne-eqb call clearNumber c) (record { answer = a; text = out; starts = s; ends = e; met = met; says = told }) }
 
   pub buffers-lent : {out₁ s₁ e₁ : List ℕ} → out₀ ≡ out₁ → s₀ ≡ s₁ → e₀ ≡ e₁ → Published call case at starts ends out₀ s₀ e₀ r → Published call case at starts ends out₁ s₁ e₁ r
   buffers-lent o p q met = coe 0 1 (i. Published call case at starts ends (o i) (p i) (q i) r) met

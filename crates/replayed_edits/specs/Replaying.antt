@@ -8,22 +8,22 @@ use lib.Dec.{eqb}
 use Rattle.buffers.specs.Same.{same}
 use Rattle.note.specs.Notes.{limit}
 use Rattle.convert.specs.Converting.{rangeOf}
-use Rattle.replace.specs.Replacing.{Replacing}
-use Rattle.redact.specs.Redacting.{Redacted}
-use Rattle.transform.specs.Transforming.{wholeTranscript}
+use Rattle.transform.specs.Transforming.{wholeOriginal}
+use Rattle.stored_answers.specs.Calls.{appendNumber, clearNumber, filterNumber, mapNumber, redactNumber, replaceNumber, transformNumber, transformRangeNumber}
 use Rattle.stored_answers.specs.Framing.{fieldOf, isNumber}
-use Rattle.stored_answers.specs.Differences.{numbersOf, offsetsOf}
+use Rattle.stored_answers.specs.Differences.{numbersOf, offsetColumn}
 use Rattle.stored_answers.specs.Lending.{flagAt, noteAt, numberAt}
 use Rattle.zulmyren.specs.declared.answers.Count.{Count}
 use Rattle.zulmyren.specs.declared.answers.Lengths.{Lengths}
-use Rattle.zulmyren.specs.Calls.{Told, publishedOf, sideOf}
+use Rattle.zulmyren.specs.Calls.{sideOf}
+use Rattle.zulmyren.specs.Contracts.{OnThree, RedactCall, ReplaceCall}
 use Rattle.zulmyren.specs.Edits.{AppendTold, ClearTold, FilterTold, MapTold, PrependTold, TransformTold}
 
 -- whether the fields from `index` on are a text and its columns
 abbrev pub publishedStored : List ℕ → ℕ → List ℕ → List ℕ → List ℕ → Bool
 publishedStored case index text starts ends =
-    (same (fieldOf index case) text && same starts (offsetsOf limit (fieldOf (index + 1) case)))
-    && same ends (offsetsOf limit (fieldOf (index + 2) case))
+    (same (fieldOf index case) text && same starts (offsetColumn limit (fieldOf (index + 1) case)))
+    && same ends (offsetColumn limit (fieldOf (index + 2) case))
 
 -- the refusal, the size, and these three
 abbrev pub editStored : List ℕ → ℕ → Count → List ℕ → List ℕ → List ℕ → Bool
@@ -48,54 +48,44 @@ pub record Replayed {A : Type 0} (call : A → List ℕ → List ℕ → List �
   pub met : call answer text starts ends
   pub says : r ≡ stored answer text starts ends
 
--- a call's contract: the three lent buffers before; the answer, and the three after
-abbrev pub Call : Type 1
-Call = List ℕ → List ℕ → List ℕ → Count → List ℕ → List ℕ → List ℕ → Type 0
+-- the calls with what a case and the note's columns give them
+abbrev pub ReplaceCase : List ℕ → List ℕ → List ℕ → OnThree Count
+ReplaceCase case starts ends = ReplaceCall (noteAt case starts ends) (fieldOf 5 case) (fieldOf 6 case)
 
--- the calls with what a case and the note's columns lend
-abbrev pub ReplaceCase : List ℕ → List ℕ → List ℕ → Call
-ReplaceCase case starts ends out₀ starts₀ ends₀ r out s e =
-    Told publishedOf
-    (λ v. Replacing limit (noteAt case starts ends) (fieldOf 5 case) (fieldOf 6 case) out₀ starts₀ ends₀ v out s e)
-    r
+abbrev pub RedactCase : List ℕ → OnThree Count
+RedactCase case = RedactCall (fieldOf 0 case) (fieldOf 1 case) (fieldOf 2 case)
 
-abbrev pub RedactCase : List ℕ → Call
-RedactCase case out₀ starts₀ ends₀ r out s e =
-    Told publishedOf
-    (λ v. Redacted limit (fieldOf 0 case) (fieldOf 1 case) (fieldOf 2 case) out₀ starts₀ ends₀ v out s e)
-    r
-
-abbrev pub RangeCase : List ℕ → List ℕ → List ℕ → Call
+abbrev pub RangeCase : List ℕ → List ℕ → List ℕ → OnThree Count
 RangeCase case starts ends =
     TransformTold (noteAt case starts ends)
     (rangeOf (sideOf (flagAt case 5)) (numberAt case 6) (numberAt case 7))
     (fieldOf 8 case) (numberAt case 9)
 
-abbrev pub ScriptCase : List ℕ → List ℕ → List ℕ → Call
+abbrev pub ScriptCase : List ℕ → List ℕ → List ℕ → OnThree Count
 ScriptCase case starts ends =
-    TransformTold (noteAt case starts ends) (wholeTranscript (fieldOf 0 case)) (fieldOf 5 case) (numberAt case 6)
+    TransformTold (noteAt case starts ends) (wholeOriginal (fieldOf 0 case)) (fieldOf 5 case) (numberAt case 6)
 
-abbrev pub MapCase : List ℕ → List ℕ → List ℕ → Call
+abbrev pub MapCase : List ℕ → List ℕ → List ℕ → OnThree Count
 MapCase case starts ends = MapTold (noteAt case starts ends) (numbersOf (fieldOf 5 case))
 
 -- a call by its number: filter, append, and prepend for any other
 pub record WholeCase (call : ℕ) (case starts ends out₀ starts₀ ends₀ : List ℕ) (r : Count)
     (out s e : List ℕ) : Type 0 where
   pub met :
-      cond (eqb call 22) (FilterTold (noteAt case starts ends) (fieldOf 5 case))
-      (cond (eqb call 23) (AppendTold (noteAt case starts ends) (fieldOf 5 case))
+      cond (eqb call filterNumber) (FilterTold (noteAt case starts ends) (fieldOf 5 case))
+      (cond (eqb call appendNumber) (AppendTold (noteAt case starts ends) (fieldOf 5 case))
       (PrependTold (noteAt case starts ends) (fieldOf 5 case)))
       out₀ starts₀ ends₀ r out s e
 
 -- and replace, redact, transform_range, transform, map
-pub record Answered (call : ℕ) (case starts ends out₀ starts₀ ends₀ : List ℕ) (r : Count)
+pub record CallAnswered (call : ℕ) (case starts ends out₀ starts₀ ends₀ : List ℕ) (r : Count)
     (out s e : List ℕ) : Type 0 where
   pub met :
-      cond (eqb call 10) (ReplaceCase case starts ends)
-      (cond (eqb call 14) (RedactCase case)
-      (cond (eqb call 19) (RangeCase case starts ends)
-      (cond (eqb call 20) (ScriptCase case starts ends)
-      (cond (eqb call 21) (MapCase case starts ends) (WholeCase call case starts ends)))))
+      cond (eqb call replaceNumber) (ReplaceCase case starts ends)
+      (cond (eqb call redactNumber) (RedactCase case)
+      (cond (eqb call transformRangeNumber) (RangeCase case starts ends)
+      (cond (eqb call transformNumber) (ScriptCase case starts ends)
+      (cond (eqb call mapNumber) (MapCase case starts ends) (WholeCase call case starts ends)))))
       out₀ starts₀ ends₀ r out s e
 
 -- the replay of a call by its number, or of clear, whose answer has two lengths; the lent buffers stand in the fields
@@ -103,6 +93,6 @@ pub record Answered (call : ℕ) (case starts ends out₀ starts₀ ends₀ : Li
 pub record Published (call : ℕ) (case : List ℕ) (at : ℕ) (starts ends out₀ starts₀ ends₀ : List ℕ)
     (r : Bool) : Type 0 where
   pub met :
-      cond (eqb call 25)
+      cond (eqb call clearNumber)
       (Replayed (ClearTold (noteAt case starts ends) out₀ starts₀ ends₀) (clearStored case 8) r)
-      (Replayed (Answered call case starts ends out₀ starts₀ ends₀) (editStored case (at + 3)) r)
+      (Replayed (CallAnswered call case starts ends out₀ starts₀ ends₀) (editStored case (at + 3)) r)

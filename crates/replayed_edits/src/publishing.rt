@@ -9,6 +9,12 @@ use crate::whole::clear;
 use crate::whole::edit;
 use crate::whole::map;
 use buffers::Offset;
+use stored_answers::calls::CLEAR;
+use stored_answers::calls::MAP;
+use stored_answers::calls::REDACT;
+use stored_answers::calls::REPLACE;
+use stored_answers::calls::TRANSFORM;
+use stored_answers::calls::TRANSFORM_RANGE;
 use stored_answers::columns::bytes;
 use stored_answers::columns::offsets;
 use stored_answers::columns::zeros;
@@ -16,9 +22,9 @@ use zulmyren::answers::Count;
 ghost use Prim.Native.Nat.{_+_, _<_};
 ghost use lib.ListN.{take};
 ghost use Rattle.note.specs.Notes.{limit};
-ghost use Rattle.stored_answers.specs.Differences.{offsetsOf};
+ghost use Rattle.stored_answers.specs.Differences.{offsetColumn};
 ghost use Rattle.stored_answers.specs.Framing.{fieldOf};
-ghost use Rattle.replayed_edits.specs.Replaying.{Answered, Published};
+ghost use Rattle.replayed_edits.specs.Replaying.{CallAnswered, Published};
 
 fn answered(
     call: u8,
@@ -29,16 +35,16 @@ fn answered(
     out_starts: &mut [Offset],
     out_ends: &mut [Offset],
 ) -> Count
-    ensures { λ r. ⌜ Answered call (now (case .entry)) (now (starts .entry)) (now (ends .entry))
+    ensures { λ r. ⌜ CallAnswered call (now (case .entry)) (now (starts .entry)) (now (ends .entry))
         (now (out .entry)) (now («out_starts» .entry)) (now («out_ends» .entry))
         r (now (out .exit)) (now («out_starts» .exit)) (now («out_ends» .exit)) ⌝ }
 {
     match call {
-        10 => replace(case, starts, ends, out, out_starts, out_ends),
-        14 => redact(case, out, out_starts, out_ends),
-        19 => transform_range(case, starts, ends, out, out_starts, out_ends),
-        20 => transform(case, starts, ends, out, out_starts, out_ends),
-        21 => map(case, starts, ends, out, out_starts, out_ends),
+        REPLACE => replace(case, starts, ends, out, out_starts, out_ends),
+        REDACT => redact(case, out, out_starts, out_ends),
+        TRANSFORM_RANGE => transform_range(case, starts, ends, out, out_starts, out_ends),
+        TRANSFORM => transform(case, starts, ends, out, out_starts, out_ends),
+        MAP => map(case, starts, ends, out, out_starts, out_ends),
         _ => edit(call, case, starts, ends, out, out_starts, out_ends),
     }
 }
@@ -57,7 +63,7 @@ fn published(
     ensures { λ r. ⌜ Published call (now (case .entry)) at (now (starts .entry)) (now (ends .entry))
         (now (out .entry)) (now («out_starts» .entry)) (now («out_ends» .entry)) r ⌝ }
 {
-    if call == 25 {
+    if call == CLEAR {
         return clear(case, starts, ends, out, out_starts, out_ends);
     }
     let answer = answered(call, case, starts, ends, out, out_starts, out_ends);
@@ -67,8 +73,8 @@ fn published(
 pub fn on_publishing(call: u8, case: &[u8], at: usize, starts: &[Offset], ends: &[Offset]) -> bool
     requires { ⌜ at < 80 ⌝ }
     ensures { λ r. ⌜ Published call (now (case .entry)) at (now (starts .entry)) (now (ends .entry))
-        (take (limit + 1) (fieldOf at (now (case .entry)))) (offsetsOf limit (fieldOf (at + 1) (now (case .entry))))
-        (offsetsOf limit (fieldOf (at + 2) (now (case .entry)))) r ⌝ }
+        (take (limit + 1) (fieldOf at (now (case .entry)))) (offsetColumn limit (fieldOf (at + 1) (now (case .entry))))
+        (offsetColumn limit (fieldOf (at + 2) (now (case .entry)))) r ⌝ }
 {
     let mut out = io::large_buffer();
     let mut out_starts = zeros();

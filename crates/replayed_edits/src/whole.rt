@@ -3,6 +3,8 @@ use crate::told::is_cleared;
 use buffers::Offset;
 use stored_answers::columns::FEW;
 use stored_answers::columns::numbers;
+use stored_answers::calls::APPEND;
+use stored_answers::calls::FILTER;
 use stored_answers::fields::field;
 use stored_answers::fields::value;
 use zulmyren::answers::Count;
@@ -62,7 +64,7 @@ pub fn edit(
     let shift = value(case, 4);
     let given = field(case, 5);
     match call {
-        22 => zulmyren_filter(
+        FILTER => zulmyren_filter(
             original,
             normalized,
             starts,
@@ -73,7 +75,7 @@ pub fn edit(
             out_starts,
             out_ends,
         ),
-        23 => zulmyren_append(
+        APPEND => zulmyren_append(
             original,
             normalized,
             starts,

@@ -14,60 +14,62 @@ use Rattle.char_offsets.specs.Positions.{CharOffsetsList}
 use Rattle.convert.specs.Converting.{rangeOf}
 use Rattle.convert_list.specs.ConvertList.{ConvertedList}
 use Rattle.slice.specs.Slicing.{Slicing}
-use Rattle.split.specs.Splitting.{Columns, Splitting, columns}
-use Rattle.splits.specs.SplitOffsets.{GetSplits}
+use Rattle.split.specs.Splitting.{PieceColumns, Splitting, columns}
+use Rattle.split_offsets.specs.SplitOffsets.{GetSplits}
 use Rattle.piece_lines.specs.Printing.{printed}
+use Rattle.stored_answers.specs.Calls.{charOffsetsAllNumber}
 use Rattle.stored_answers.specs.Framing.{fieldOf}
-use Rattle.stored_answers.specs.Differences.{offsetsOf}
+use Rattle.stored_answers.specs.Differences.{offsetColumn}
 use Rattle.stored_answers.specs.Lending.{numberAt}
 use Rattle.stored_answers.proofs.Framing.{both}
 use Rattle.stored_answers.proofs.Splice.{take-laid}
 use Rattle.zulmyren.specs.declared.answers.Cut.{Cut}
 use Rattle.zulmyren.specs.declared.answers.Listed.{Listed}
 use Rattle.zulmyren.specs.declared.answers.Slice.{Slice}
-use Rattle.zulmyren.specs.Calls.{Told, sliceNumbers, cutNumbers, splitsNumbers, sideOf, behaviorOf, emptyOf, unitOf}
+use Rattle.zulmyren.specs.Calls.{sideOf, behaviorOf, emptyOf, unitOf}
+use Rattle.zulmyren.specs.Contracts.{CharOffsetsAllCall, ConvertAllCall, GetSplitsCall, SliceCall, SplitCall}
 use Rattle.replayed_pieces.specs.Stored.{pairsStored, sliceStored, piecesStored, splitsStored}
 use Rattle.replayed_pieces.specs.Replaying.{PairsReplayed, PairsTold, SliceReplayed, SplitReplayed, SplitsReplayed}
 
 -- what was read of the note
 module _ {case starts ends original normalized : List ℕ} {shift : ℕ} (o : original ≡ fieldOf 0 case) (n : normalized ≡ fieldOf 1 case) (k : shift ≡ numberAt case 4) where
-  pub slice-replayed : {side start end : ℕ} {s₀ e₀ s e : List ℕ} {a : Slice} {told first last : Bool} → side ≡ numberAt case 5 → start ≡ numberAt case 6 → end ≡ numberAt case 7 → Told sliceNumbers (λ v. Slicing limit (lent original normalized starts ends shift) (rangeOf (sideOf (eqb side 1)) start end) s₀ e₀ v s e) a → told ≡ sliceStored case 10 a → first ≡ same s (offsetsOf limit (fieldOf 16 case)) → last ≡ same e (offsetsOf limit (fieldOf 17 case)) → SliceReplayed case starts ends s₀ e₀ ((told && first) && last)
+  pub slice-replayed : {side start end : ℕ} {s₀ e₀ s e : List ℕ} {a : Slice} {told first last : Bool} → side ≡ numberAt case 5 → start ≡ numberAt case 6 → end ≡ numberAt case 7 → SliceCall (lent original normalized starts ends shift) (rangeOf (sideOf (eqb side 1)) start end) s₀ e₀ a s e → told ≡ sliceStored case 10 a → first ≡ same s (offsetColumn limit (fieldOf 16 case)) → last ≡ same e (offsetColumn limit (fieldOf 17 case)) → SliceReplayed case starts ends s₀ e₀ ((told && first) && last)
   slice-replayed {s₀ = s₀} {e₀ = e₀} {s = s} {e = e} {a = a} f from to call t p q =
       record {
         answer = a;
         out-starts = s;
         out-ends = e;
-        met = coe 0 1 (i. Told sliceNumbers (λ v. Slicing limit (lent (o i) (n i) starts ends (k i)) (rangeOf (sideOf (eqb (f i) 1)) (from i) (to i)) s₀ e₀ v s e) a) call;
+        met = coe 0 1 (i. SliceCall (lent (o i) (n i) starts ends (k i)) (rangeOf (sideOf (eqb (f i) 1)) (from i) (to i)) s₀ e₀ a s e) call;
         says = both (both t p) q;
       }
 
   module _ {list : List ℕ} {behavior : ℕ} (l : list ≡ fieldOf 5 case) (b : behavior ≡ numberAt case 6) where
-    pub split-replayed : {dropped : ℕ} {c₀ c : Columns} {a : Cut} {told first last : Bool} → dropped ≡ numberAt case 7 → Told cutNumbers (λ v. Splitting limit (lent original normalized starts ends shift) list (behaviorOf behavior) (emptyOf (eqb dropped 1)) c₀ v c) a → told ≡ piecesStored case 14 a (c .starts) (c .ends) (c .shifts) (c .lengths) → first ≡ same (c .alignment-starts) (offsetsOf limit (fieldOf 21 case)) → last ≡ same (c .alignment-ends) (offsetsOf limit (fieldOf 22 case)) → SplitReplayed case starts ends c₀ ((told && first) && last)
+    pub split-replayed : {dropped : ℕ} {c₀ c : PieceColumns} {a : Cut} {told first last : Bool} → dropped ≡ numberAt case 7 → SplitCall (lent original normalized starts ends shift) list (behaviorOf behavior) (emptyOf (eqb dropped 1)) c₀ a c → told ≡ piecesStored case 14 a (c .starts) (c .ends) (c .shifts) (c .lengths) → first ≡ same (c .alignment-starts) (offsetColumn limit (fieldOf 21 case)) → last ≡ same (c .alignment-ends) (offsetColumn limit (fieldOf 22 case)) → SplitReplayed case starts ends c₀ ((told && first) && last)
     split-replayed {c₀ = c₀} {c = c} {a = a} d call t p q =
         record {
           answer = a;
           out = c;
-          met = coe 0 1 (i. Told cutNumbers (λ v. Splitting limit (lent (o i) (n i) starts ends (k i)) (l i) (behaviorOf (b i)) (emptyOf (eqb (d i) 1)) c₀ v c) a) call;
+          met = coe 0 1 (i. SplitCall (lent (o i) (n i) starts ends (k i)) (l i) (behaviorOf (b i)) (emptyOf (eqb (d i) 1)) c₀ a c) call;
           says = both (both t p) q;
         }
 
-    pub splits-replayed : {side unit : ℕ} {s₀ e₀ s e : List ℕ} {a : Listed} {r : Bool} → side ≡ numberAt case 7 → unit ≡ numberAt case 8 → Told splitsNumbers (λ v. GetSplits limit (lent original normalized starts ends shift) list (behaviorOf behavior) (sideOf (eqb side 1)) (unitOf (eqb unit 1)) s₀ e₀ v s e) a → r ≡ splitsStored case 11 a s e → SplitsReplayed case starts ends s₀ e₀ r
+    pub splits-replayed : {side unit : ℕ} {s₀ e₀ s e : List ℕ} {a : Listed} {r : Bool} → side ≡ numberAt case 7 → unit ≡ numberAt case 8 → GetSplitsCall (lent original normalized starts ends shift) list (behaviorOf behavior) (sideOf (eqb side 1)) (unitOf (eqb unit 1)) s₀ e₀ a s e → r ≡ splitsStored case 11 a s e → SplitsReplayed case starts ends s₀ e₀ r
     splits-replayed {s₀ = s₀} {e₀ = e₀} {s = s} {e = e} {a = a} f u call t =
         record {
           answer = a;
           out-starts = s;
           out-ends = e;
-          met = coe 0 1 (i. Told splitsNumbers (λ v. GetSplits limit (lent (o i) (n i) starts ends (k i)) (l i) (behaviorOf (b i)) (sideOf (eqb (f i) 1)) (unitOf (eqb (u i) 1)) s₀ e₀ v s e) a) call;
+          met = coe 0 1 (i. GetSplitsCall (lent (o i) (n i) starts ends (k i)) (l i) (behaviorOf (b i)) (sideOf (eqb (f i) 1)) (unitOf (eqb (u i) 1)) s₀ e₀ a s e) call;
           says = t;
         }
 
 -- a call on a list of pairs
 module _ {call : ℕ} {case starts ends from to n₀ s₀ e₀ : List ℕ} {a : ℕ} {n s e : List ℕ} where
-  pub chars-told : {text : List ℕ} → call ≡ 3 → text ≡ fieldOf 0 case → Told answerOf (λ v. CharOffsetsList limit text from to n₀ s₀ e₀ v n s e) a → PairsTold call case starts ends from to n₀ s₀ e₀ a n s e
-  chars-told is t call = record { met = rw is (coe 0 1 (i. Told answerOf (λ v. CharOffsetsList limit (t i) from to n₀ s₀ e₀ v n s e) a) call) }
+  pub chars-told : {text : List ℕ} → call ≡ charOffsetsAllNumber → text ≡ fieldOf 0 case → CharOffsetsAllCall text from to n₀ s₀ e₀ a n s e → PairsTold call case starts ends from to n₀ s₀ e₀ a n s e
+  chars-told is t call = record { met = rw is (coe 0 1 (i. CharOffsetsAllCall (t i) from to n₀ s₀ e₀ a n s e) call) }
 
-  pub ranges-told : {original normalized : List ℕ} {shift side : ℕ} → (call ≡ 3 → ⊥) → original ≡ fieldOf 0 case → normalized ≡ fieldOf 1 case → shift ≡ numberAt case 4 → side ≡ numberAt case 5 → Told answerOf (λ v. ConvertedList limit (lent original normalized starts ends shift) (sideOf (eqb side 1)) from to n₀ s₀ e₀ v n s e) a → PairsTold call case starts ends from to n₀ s₀ e₀ a n s e
-  ranges-told not o t k f met = record { met = rw (ne-eqb call 3 not) (coe 0 1 (i. Told answerOf (λ v. ConvertedList limit (lent (o i) (t i) starts ends (k i)) (sideOf (eqb (f i) 1)) from to n₀ s₀ e₀ v n s e) a) met) }
+  pub ranges-told : {original normalized : List ℕ} {shift side : ℕ} → (call ≡ charOffsetsAllNumber → ⊥) → original ≡ fieldOf 0 case → normalized ≡ fieldOf 1 case → shift ≡ numberAt case 4 → side ≡ numberAt case 5 → ConvertAllCall (lent original normalized starts ends shift) (sideOf (eqb side 1)) from to n₀ s₀ e₀ a n s e → PairsTold call case starts ends from to n₀ s₀ e₀ a n s e
+  ranges-told not o t k f met = record { met = rw (ne-eqb call charOffsetsAllNumber not) (coe 0 1 (i. ConvertAllCall (lent (o i) (t i) starts ends (k i)) (sideOf (eqb (f i) 1)) from to n₀ s₀ e₀ a n s e) met) }
 
   pub pairs-replayed : {index : ℕ} {r : Bool} → PairsTold call case starts ends from to n₀ s₀ e₀ a n s e → r ≡ pairsStored case index a n s e → PairsReplayed call case index starts ends from to n₀ s₀ e₀ r
   pairs-replayed met told = record { answer = a; numbers = n; out-starts = s; out-ends = e; met = met; says = told }

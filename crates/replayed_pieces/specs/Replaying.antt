@@ -12,15 +12,17 @@ use Rattle.char_offsets.specs.Positions.{CharOffsetsList}
 use Rattle.convert.specs.Converting.{rangeOf}
 use Rattle.convert_list.specs.ConvertList.{ConvertedList}
 use Rattle.slice.specs.Slicing.{Slicing}
-use Rattle.split.specs.Splitting.{Columns, Splitting}
-use Rattle.splits.specs.SplitOffsets.{GetSplits}
+use Rattle.split.specs.Splitting.{PieceColumns, Splitting}
+use Rattle.split_offsets.specs.SplitOffsets.{GetSplits}
+use Rattle.stored_answers.specs.Calls.{charOffsetsAllNumber}
 use Rattle.stored_answers.specs.Framing.{fieldOf}
-use Rattle.stored_answers.specs.Differences.{offsetsOf}
+use Rattle.stored_answers.specs.Differences.{offsetColumn}
 use Rattle.stored_answers.specs.Lending.{numberAt, flagAt, noteAt}
 use Rattle.zulmyren.specs.declared.answers.Cut.{Cut}
 use Rattle.zulmyren.specs.declared.answers.Listed.{Listed}
 use Rattle.zulmyren.specs.declared.answers.Slice.{Slice}
-use Rattle.zulmyren.specs.Calls.{Told, sliceNumbers, cutNumbers, splitsNumbers, sideOf, behaviorOf, emptyOf, unitOf}
+use Rattle.zulmyren.specs.Calls.{sideOf, behaviorOf, emptyOf, unitOf}
+use Rattle.zulmyren.specs.Contracts.{CharOffsetsAllCall, ConvertAllCall, GetSplitsCall, SliceCall, SplitCall}
 use Rattle.replayed_pieces.specs.Stored.{pairsStored, sliceStored, piecesStored, splitsStored}
 
 -- slicing; the note's columns, and those lent for the slice
@@ -29,28 +31,23 @@ pub record SliceReplayed (case starts ends lentStarts lentEnds : List ℕ) (r : 
   pub out-starts : List ℕ
   pub out-ends : List ℕ
   pub met :
-      Told sliceNumbers
-      (λ v. Slicing limit (noteAt case starts ends)
-      (rangeOf (sideOf (flagAt case 5)) (numberAt case 6) (numberAt case 7))
-      lentStarts lentEnds v out-starts out-ends)
-      answer
+      SliceCall (noteAt case starts ends) (rangeOf (sideOf (flagAt case 5)) (numberAt case 6) (numberAt case 7))
+      lentStarts lentEnds answer out-starts out-ends
   pub says :
-      r ≡ (sliceStored case 10 answer && same out-starts (offsetsOf limit (fieldOf 16 case)))
-      && same out-ends (offsetsOf limit (fieldOf 17 case))
+      r ≡ (sliceStored case 10 answer && same out-starts (offsetColumn limit (fieldOf 16 case)))
+      && same out-ends (offsetColumn limit (fieldOf 17 case))
 
 -- splitting; the note's columns, and the six that are lent
-pub record SplitReplayed (case starts ends : List ℕ) (lent : Columns) (r : Bool) : Type 0 where
+pub record SplitReplayed (case starts ends : List ℕ) (lent : PieceColumns) (r : Bool) : Type 0 where
   pub answer : Cut
-  pub out : Columns
+  pub out : PieceColumns
   pub met :
-      Told cutNumbers
-      (λ v. Splitting limit (noteAt case starts ends) (fieldOf 5 case)
-      (behaviorOf (numberAt case 6)) (emptyOf (flagAt case 7)) lent v out)
-      answer
+      SplitCall (noteAt case starts ends) (fieldOf 5 case) (behaviorOf (numberAt case 6)) (emptyOf (flagAt case 7))
+      lent answer out
   pub says :
       r ≡ (piecesStored case 14 answer (out .starts) (out .ends) (out .shifts) (out .lengths)
-      && same (out .alignment-starts) (offsetsOf limit (fieldOf 21 case)))
-      && same (out .alignment-ends) (offsetsOf limit (fieldOf 22 case))
+      && same (out .alignment-starts) (offsetColumn limit (fieldOf 21 case)))
+      && same (out .alignment-ends) (offsetColumn limit (fieldOf 22 case))
 
 -- split offsets; the note's columns, and the two that are lent
 pub record SplitsReplayed (case starts ends lentStarts lentEnds : List ℕ) (r : Bool) : Type 0 where
@@ -58,11 +55,9 @@ pub record SplitsReplayed (case starts ends lentStarts lentEnds : List ℕ) (r :
   pub out-starts : List ℕ
   pub out-ends : List ℕ
   pub met :
-      Told splitsNumbers
-      (λ v. GetSplits limit (noteAt case starts ends) (fieldOf 5 case)
+      GetSplitsCall (noteAt case starts ends) (fieldOf 5 case)
       (behaviorOf (numberAt case 6)) (sideOf (flagAt case 7)) (unitOf (flagAt case 8))
-      lentStarts lentEnds v out-starts out-ends)
-      answer
+      lentStarts lentEnds answer out-starts out-ends
   pub says : r ≡ splitsStored case 11 answer out-starts out-ends
 
 -- a call on a list of pairs by its number: char_offsets_all, and convert_all for any other; the three lent buffers
@@ -70,14 +65,9 @@ pub record SplitsReplayed (case starts ends lentStarts lentEnds : List ℕ) (r :
 pub record PairsTold (call : ℕ) (case starts ends from to numbers₀ starts₀ ends₀ : List ℕ) (r : ℕ)
     (numbers s e : List ℕ) : Type 0 where
   pub met :
-      cond (eqb call 3)
-      (Told answerOf
-      (λ v. CharOffsetsList limit (fieldOf 0 case) from to numbers₀ starts₀ ends₀ v numbers s e)
-      r)
-      (Told answerOf
-      (λ v. ConvertedList limit (noteAt case starts ends) (sideOf (flagAt case 5)) from to
-      numbers₀ starts₀ ends₀ v numbers s e)
-      r)
+      cond (eqb call charOffsetsAllNumber) (CharOffsetsAllCall (fieldOf 0 case) from to)
+      (ConvertAllCall (noteAt case starts ends) (sideOf (flagAt case 5)) from to)
+      numbers₀ starts₀ ends₀ r numbers s e
 
 pub record PairsReplayed (call : ℕ) (case : List ℕ) (index : ℕ) (starts ends from to : List ℕ)
     (numbers₀ starts₀ ends₀ : List ℕ) (r : Bool) : Type 0 where

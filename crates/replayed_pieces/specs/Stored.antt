@@ -4,9 +4,9 @@ use mathlib.Core.Bool.{Bool, _&&_}
 use mathlib.Core.List.{List}
 use Rattle.buffers.specs.Same.{same}
 use Rattle.note.specs.Notes.{limit}
-use Rattle.split.specs.Splitting.{Columns}
+use Rattle.split.specs.Splitting.{PieceColumns}
 use Rattle.stored_answers.specs.Framing.{fieldOf, isNumber}
-use Rattle.stored_answers.specs.Differences.{offsetsOf, numbersOf}
+use Rattle.stored_answers.specs.Differences.{offsetColumn, numbersOf}
 use Rattle.zulmyren.specs.declared.answers.Cut.{Cut}
 use Rattle.zulmyren.specs.declared.answers.Listed.{Listed}
 use Rattle.zulmyren.specs.declared.answers.Slice.{Slice}
@@ -35,10 +35,10 @@ piecesStored case index a starts ends shifts lengths =
     (((((isNumber (fieldOf index case) (a .refusal)
     && isNumber (fieldOf (index + 1) case) (a .pieces))
     && isNumber (fieldOf (index + 2) case) (a .alignments))
-    && same starts (offsetsOf limit (fieldOf (index + 3) case)))
-    && same ends (offsetsOf limit (fieldOf (index + 4) case)))
+    && same starts (offsetColumn limit (fieldOf (index + 3) case)))
+    && same ends (offsetColumn limit (fieldOf (index + 4) case)))
     && same shifts (numbersOf (fieldOf (index + 5) case)))
-    && same lengths (offsetsOf limit (fieldOf (index + 6) case))
+    && same lengths (offsetColumn limit (fieldOf (index + 6) case))
 
 -- the refusal, how many there are, their starts and ends
 abbrev pub splitsStored : List ℕ → ℕ → Listed → List ℕ → List ℕ → Bool

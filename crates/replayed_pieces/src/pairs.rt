@@ -2,6 +2,7 @@
 // `at` on; the refusal, the three buffers.
 use crate::told::are_pairs;
 use buffers::Offset;
+use stored_answers::calls::CHAR_OFFSETS_ALL;
 use stored_answers::columns::FEW;
 use stored_answers::columns::bytes;
 use stored_answers::columns::numbers;
@@ -31,7 +32,7 @@ fn answered(
         (now (from .entry)) (now (to .entry)) (now (numbers .entry)) (now (starts .entry)) (now (ends .entry))
         r (now (numbers .exit)) (now (starts .exit)) (now (ends .exit)) ⌝ }
 {
-    if call == 3 {
+    if call == CHAR_OFFSETS_ALL {
         return zulmyren_char_offsets_all(field(case, 0), from, to, numbers, starts, ends);
     }
     zulmyren_convert_all(

@@ -14,7 +14,7 @@ use zulmyren::slices::zulmyren_split;
 ghost use Rattle.note.specs.Notes.{limit};
 ghost use Rattle.split.specs.Splitting.{columns};
 ghost use Rattle.stored_answers.specs.Framing.{fieldOf};
-ghost use Rattle.stored_answers.specs.Differences.{numbersOf, offsetsOf};
+ghost use Rattle.stored_answers.specs.Differences.{numbersOf, offsetColumn};
 ghost use Rattle.replayed_pieces.specs.Replaying.{SplitReplayed, SplitsReplayed};
 
 fn cut(
@@ -65,8 +65,8 @@ fn cut_beside(
 ) -> bool
     ensures { λ r. ⌜ SplitReplayed (now (case .entry)) (now (starts .entry)) (now (ends .entry))
         (columns (now («piece_starts» .entry)) (now («piece_ends» .entry)) (now (shifts .entry))
-        (now (lengths .entry)) (offsetsOf limit (fieldOf 12 (now (case .entry))))
-        (offsetsOf limit (fieldOf 13 (now (case .entry))))) r ⌝ }
+        (now (lengths .entry)) (offsetColumn limit (fieldOf 12 (now (case .entry))))
+        (offsetColumn limit (fieldOf 13 (now (case .entry))))) r ⌝ }
 {
     let mut out_starts = zeros();
     let mut out_ends = zeros();
@@ -95,8 +95,8 @@ fn cut_spans(
 ) -> bool
     ensures { λ r. ⌜ SplitReplayed (now (case .entry)) (now (starts .entry)) (now (ends .entry))
         (columns (now («piece_starts» .entry)) (now («piece_ends» .entry))
-        (numbersOf (fieldOf 10 (now (case .entry)))) (offsetsOf limit (fieldOf 11 (now (case .entry))))
-        (offsetsOf limit (fieldOf 12 (now (case .entry)))) (offsetsOf limit (fieldOf 13 (now (case .entry))))) r ⌝ }
+        (numbersOf (fieldOf 10 (now (case .entry)))) (offsetColumn limit (fieldOf 11 (now (case .entry))))
+        (offsetColumn limit (fieldOf 12 (now (case .entry)))) (offsetColumn limit (fieldOf 13 (now (case .entry))))) r ⌝ }
 {
     let mut shifts = [0; FEW];
     let mut lengths = zeros();
@@ -117,9 +117,9 @@ fn cut_spans(
 // columns.
 pub fn split(case: &[u8], starts: &[Offset], ends: &[Offset]) -> bool
     ensures { λ r. ⌜ SplitReplayed (now (case .entry)) (now (starts .entry)) (now (ends .entry))
-        (columns (offsetsOf limit (fieldOf 8 (now (case .entry)))) (offsetsOf limit (fieldOf 9 (now (case .entry))))
-        (numbersOf (fieldOf 10 (now (case .entry)))) (offsetsOf limit (fieldOf 11 (now (case .entry))))
-        (offsetsOf limit (fieldOf 12 (now (case .entry)))) (offsetsOf limit (fieldOf 13 (now (case .entry))))) r ⌝ }
+        (columns (offsetColumn limit (fieldOf 8 (now (case .entry)))) (offsetColumn limit (fieldOf 9 (now (case .entry))))
+        (numbersOf (fieldOf 10 (now (case .entry)))) (offsetColumn limit (fieldOf 11 (now (case .entry))))
+        (offsetColumn limit (fieldOf 12 (now (case .entry)))) (offsetColumn limit (fieldOf 13 (now (case .entry))))) r ⌝ }
 {
     let mut piece_starts = zeros();
     let mut piece_ends = zeros();

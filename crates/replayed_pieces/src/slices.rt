@@ -9,7 +9,7 @@ use stored_answers::fields::value;
 use zulmyren::slices::zulmyren_slice;
 ghost use Rattle.note.specs.Notes.{limit};
 ghost use Rattle.stored_answers.specs.Framing.{fieldOf};
-ghost use Rattle.stored_answers.specs.Differences.{offsetsOf};
+ghost use Rattle.stored_answers.specs.Differences.{offsetColumn};
 ghost use Rattle.replayed_pieces.specs.Replaying.{SliceReplayed};
 
 fn sliced(
@@ -40,7 +40,7 @@ fn sliced(
 // A note, a range, the lent starts and ends; the refusal, the two ranges, the shift, the two columns.
 pub fn slice(case: &[u8], starts: &[Offset], ends: &[Offset]) -> bool
     ensures { λ r. ⌜ SliceReplayed (now (case .entry)) (now (starts .entry)) (now (ends .entry))
-        (offsetsOf limit (fieldOf 8 (now (case .entry)))) (offsetsOf limit (fieldOf 9 (now (case .entry)))) r ⌝ }
+        (offsetColumn limit (fieldOf 8 (now (case .entry)))) (offsetColumn limit (fieldOf 9 (now (case .entry)))) r ⌝ }
 {
     let mut out_starts = zeros();
     let mut out_ends = zeros();

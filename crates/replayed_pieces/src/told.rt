@@ -16,7 +16,7 @@ ghost use mathlib.Core.Bool.{_&&_};
 ghost use Rattle.buffers.specs.Same.{same};
 ghost use Rattle.note.specs.Notes.{limit};
 ghost use Rattle.stored_answers.specs.Framing.{fieldOf, isNumber};
-ghost use Rattle.stored_answers.specs.Differences.{offsetsOf};
+ghost use Rattle.stored_answers.specs.Differences.{offsetColumn};
 
 // The refusal, start, end.
 pub fn is_range(case: &[u8], index: usize, answer: Offsets) -> bool
@@ -52,8 +52,8 @@ pub fn are_columns(
 ) -> bool
     requires { ⌜ index < 100 ⌝ }
     ensures { λ r. ⌜ r ≡ (isNumber (fieldOf index (now (case .entry))) refusal
-        && same (now (starts .entry)) (offsetsOf limit (fieldOf (index + 1) (now (case .entry)))))
-        && same (now (ends .entry)) (offsetsOf limit (fieldOf (index + 2) (now (case .entry)))) ⌝ }
+        && same (now (starts .entry)) (offsetColumn limit (fieldOf (index + 1) (now (case .entry)))))
+        && same (now (ends .entry)) (offsetColumn limit (fieldOf (index + 2) (now (case .entry)))) ⌝ }
 {
     is_number(case, index, refusal)
         & are_offsets(case, index + 1, starts)

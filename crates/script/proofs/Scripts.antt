@@ -1,4 +1,4 @@
--- Laws of `entryAt`, `commandsOf` and `whole`: a script is read command by command, and nobody needs to know how long one
+-- Laws of `commandAt`, `commandsOf` and `whole`: a script is read command by command, and nobody needs to know how long one
 -- is.
 use Prim.Native.Nat.{ℕ, zero, suc, _+_, _-_, _≤_, _<_}
 use mathlib.Core.Path.{_≡_, _∙_, ap, refl, sym}
@@ -18,107 +18,59 @@ use Rattle.numbers.specs.LittleEndian.{valueOf}
 use Rattle.utf8.specs.Formed.{wellFormed, formed}
 use Rattle.utf8.specs.Scalar.{scalar, bytesOf}
 use Rattle.utf8.proofs.Scalar.{bytesOf-scalar, bytesOf-other, encoded-one, encoded-two, encoded-three, encoded-four, encoded-formed, length-encoded}
+use Rattle.utf8.proofs.LenUtf8.{size-none, size-some, size-most}
 use Rattle.script.specs.declared.Command.{Command}
 use Rattle.script.specs.declared.Entry.{Entry}
 use Rattle.script.specs.declared.Entry.the-variants.{At, Broken}
-use Rattle.script.specs.Scripts.{sizeOf, widthOf, characterAt, removedAt, removalAt, entryAt, isCommand, nextOf, listed, commandsFrom, commandsOf, wholeFrom, whole}
-
--- a character's bytes
-pub size-scalar : (c : ℕ) → scalar c ≡ true → (1 ≤ sizeOf c) × (sizeOf c ≤ 4)
-unfolding sizeOf
-size-scalar c s = rw (bytesOf-scalar c s) (length-encoded c)
-
-pub size-most : (c : ℕ) → sizeOf c ≤ 4
-unfolding sizeOf
-size-most c = true-or-false (scalar c) (λ s. rw (bytesOf-scalar c s) (length-encoded c .1)) (λ o. rw (bytesOf-other c o) (omega arith))
-
-pub size-none : (c : ℕ) → sizeOf c ≡ 0 → scalar c ≡ false
-size-none c z = true-or-false (scalar c) (λ s. absurd (omega (arith, size-scalar c s .0))) (λ o. o)
-
-pub size-some : (c : ℕ) → (sizeOf c ≡ 0 → ⊥) → scalar c ≡ true
-unfolding sizeOf
-size-some c h = true-or-false (scalar c) (λ s. s) (λ o. absurd (h (rw (bytesOf-other c o))))
-
-pub bytes-formed : (c : ℕ) → wellFormed (bytesOf c) ≡ true
-unfolding formed
-bytes-formed c = true-or-false (scalar c) (λ s. rw (bytesOf-scalar c s) (encoded-formed c s)) (λ o. rw (bytesOf-other c o))
-
--- how many they are, by ranges
-pub bool-most : (b : Bool) → boolByte b ≤ 1
-bool-most true = omega arith
-bool-most false = omega arith
-
-module _ (c : ℕ) where
-  pub size-beyond : 0x10FFFF < c → 0 ≡ sizeOf c
-  unfolding sizeOf bytesOf scalar
-  size-beyond h = rw (lt-leb c 0x10FFFF h)
-
-  pub size-surrogate : (leb 0xD800 c && leb c 0xDFFF) ≡ true → 0 ≡ sizeOf c
-  unfolding sizeOf bytesOf scalar
-  size-surrogate e = rw (e, and-false-r (leb c 0x10FFFF) false refl)
-
-  pub size-ranges : c ≤ 0x10FFFF → (leb 0xD800 c && leb c 0xDFFF) ≡ false → 1 + boolByte (leb 0x80 c) + boolByte (leb 0x800 c) + boolByte (leb 0x10000 c) ≡ sizeOf c
-  unfolding sizeOf bytesOf scalar
-  size-ranges h e =
-      le-or-lt 0x80 c
-      (λ one.
-      le-or-lt 0x800 c
-      (λ two.
-      le-or-lt 0x10000 c
-      (λ three. rw (le-leb _ _ h, e, le-leb _ _ one, le-leb _ _ two, le-leb _ _ three, encoded-four c three))
-      (λ less. rw (le-leb _ _ h, e, le-leb _ _ one, le-leb _ _ two, lt-leb _ _ less, encoded-three c two less)))
-      (λ less. let far : leb 0x10000 c ≡ false = lt-leb 0x10000 c (omega arith) in rw (le-leb _ _ h, e, le-leb _ _ one, lt-leb _ _ less, far, encoded-two c one less)))
-      (λ less.
-      let near : leb 0x800 c ≡ false = lt-leb 0x800 c (omega arith) in
-      let far : leb 0x10000 c ≡ false = lt-leb 0x10000 c (omega arith) in
-      rw (le-leb _ _ h, e, lt-leb _ _ less, near, far, encoded-one c less))
+use Rattle.utf8.specs.Scalar.{lenUtf8}
+use Rattle.script.specs.Scripts.{commandSize, characterAt, removedAt, removalAt, commandAt, isCommand, nextOf, listed, commandsFrom, commandsOf, wholeFrom, whole}
 
 -- a command's bytes, by its number
 module _ (b : ℕ) where
-  pub width-replace : b ≡ 1 → 5 ≡ widthOf b
-  unfolding widthOf
+  pub width-replace : b ≡ 1 → 5 ≡ commandSize b
+  unfolding commandSize
   width-replace e = rw (eq-eqb b 1 e)
 
-  pub width-add : b ≡ 2 → 5 ≡ widthOf b
-  unfolding widthOf
+  pub width-add : b ≡ 2 → 5 ≡ commandSize b
+  unfolding commandSize
   width-add e = rw (eq-eqb b 2 e, or-true (eqb b 1))
 
-  pub width-remove : b ≡ 3 → 7 ≡ widthOf b
-  unfolding widthOf
+  pub width-remove : b ≡ 3 → 7 ≡ commandSize b
+  unfolding commandSize
   width-remove e = rw (ne-eqb b 1 (λ z. absurd (omega arith)), ne-eqb b 2 (λ z. absurd (omega arith)), eq-eqb b 3 e)
 
-  pub width-unknown : (b ≡ 1 → ⊥) → (b ≡ 2 → ⊥) → (b ≡ 3 → ⊥) → 0 ≡ widthOf b
-  unfolding widthOf
+  pub width-unknown : (b ≡ 1 → ⊥) → (b ≡ 2 → ⊥) → (b ≡ 3 → ⊥) → 0 ≡ commandSize b
+  unfolding commandSize
   width-unknown not-1 not-2 not-3 = rw (ne-eqb b 1 not-1, ne-eqb b 2 not-2, ne-eqb b 3 not-3)
 
   -- seven bytes are a removal's, else a known command has five
-  width-seven : widthOf b ≡ 7 → eqb b 3 ≡ true
-  unfolding widthOf
+  width-seven : commandSize b ≡ 7 → eqb b 3 ≡ true
+  unfolding commandSize
   width-seven e =
       true-or-false (eqb b 3) (λ t. t)
       (λ u. true-or-false (eqb b 1 || eqb b 2)
       (λ t. let z : _≡_ {A = ℕ} 5 7 = rw t at e in absurd (omega arith))
       (λ o. let z : _≡_ {A = ℕ} 0 7 = rw (o, u) at e in absurd (omega arith)))
 
-  width-three : eqb b 3 ≡ true → widthOf b ≡ 7
+  width-three : eqb b 3 ≡ true → commandSize b ≡ 7
   width-three e = sym (width-remove (eqb-true b 3 e))
 
-  width-five : 0 < widthOf b → eqb b 3 ≡ false → widthOf b ≡ 5
-  unfolding widthOf
+  width-five : 0 < commandSize b → eqb b 3 ≡ false → commandSize b ≡ 5
+  unfolding commandSize
   width-five h u =
       true-or-false (eqb b 1 || eqb b 2)
       (λ t. rw t)
       (λ o. let z : 0 < 0 = rw (o, u) at h in absurd (omega arith))
 
-  pub width-least : {w : ℕ} → w ≡ widthOf b → (w ≡ 0 → ⊥) → 5 ≤ w
+  pub width-least : {w : ℕ} → w ≡ commandSize b → (w ≡ 0 → ⊥) → 5 ≤ w
   width-least is h =
       true-or-false (eqb b 3)
       (λ t. omega (arith, is, width-three t))
-      (λ u. le-or-lt (widthOf b) 0 (λ z. absurd (h (omega (arith, is)))) (λ some. omega (arith, is, width-five some u)))
+      (λ u. le-or-lt (commandSize b) 0 (λ z. absurd (h (omega (arith, is)))) (λ some. omega (arith, is, width-five some u)))
 
 -- whether the entry at i is a command, unless it is a removal of 0
 abbrev test : List ℕ → ℕ → Bool
-test l i = ltb 0 (widthOf (getD l i 0)) && leb (i + widthOf (getD l i 0)) (length l) && scalar (characterAt l i)
+test l i = ltb 0 (commandSize (getD l i 0)) && leb (i + commandSize (getD l i 0)) (length l) && scalar (characterAt l i)
 
 -- what it then says, the next one being counted from `at`
 abbrev body : List ℕ → ℕ → ℕ → Entry
@@ -127,51 +79,51 @@ body l i at =
     (cond (eqb (removedAt l i) 0) Broken (At (record { character = characterAt l i; added = false; removed = removedAt l i }) (at + 7)))
     (At (record { character = characterAt l i; added = eqb (getD l i 0) 2; removed = 0 }) (at + 5))
 
-entry-body : (l : List ℕ) (i : ℕ) → entryAt l i ≡ cond (test l i) (body l i i) Broken
-unfolding entryAt removalAt
+entry-body : (l : List ℕ) (i : ℕ) → commandAt l i ≡ cond (test l i) (body l i i) Broken
+unfolding commandAt removalAt
 entry-body l i = refl
 
 -- by what the code tests
 module _ (l : List ℕ) (i : ℕ) where
-  unknown : widthOf (getD l i 0) ≡ 0 → Broken ≡ entryAt l i
-  unfolding entryAt
-  unknown e = rw (le-ltb 0 (widthOf (getD l i 0)) (omega arith))
+  unknown : commandSize (getD l i 0) ≡ 0 → Broken ≡ commandAt l i
+  unfolding commandAt
+  unknown e = rw (le-ltb 0 (commandSize (getD l i 0)) (omega arith))
 
-  pub entry-past : length l ≤ i → Broken ≡ entryAt l i
-  unfolding widthOf
+  pub entry-past : length l ≤ i → Broken ≡ commandAt l i
+  unfolding commandSize
   entry-past h = unknown (rw (List·getD-eq-default l 0 h))
 
-  module _ {w : ℕ} (is : w ≡ widthOf (getD l i 0)) where
-    pub entry-unknown : w ≡ 0 → Broken ≡ entryAt l i
+  module _ {w : ℕ} (is : w ≡ commandSize (getD l i 0)) where
+    pub entry-unknown : w ≡ 0 → Broken ≡ commandAt l i
     entry-unknown e = unknown (sym is ∙ e)
 
-    pub entry-cut : length l < i + w → Broken ≡ entryAt l i
+    pub entry-cut : length l < i + w → Broken ≡ commandAt l i
     entry-cut h =
-        let over : length l < i + widthOf (getD l i 0) = rw is at h in
+        let over : length l < i + commandSize (getD l i 0) = rw is at h in
         sym (entry-body l i
-        ∙ rw (and-false-l (ltb 0 (widthOf (getD l i 0)) && leb (i + widthOf (getD l i 0)) (length l)) (scalar (characterAt l i)) (and-false-r (ltb 0 (widthOf (getD l i 0))) _ (lt-leb _ _ over))))
+        ∙ rw (and-false-l (ltb 0 (commandSize (getD l i 0)) && leb (i + commandSize (getD l i 0)) (length l)) (scalar (characterAt l i)) (and-false-r (ltb 0 (commandSize (getD l i 0))) _ (lt-leb _ _ over))))
 
-    module _ {c size : ℕ} (read : c ≡ characterAt l i) (wide : size ≡ sizeOf c) where
-      pub entry-no-character : size ≡ 0 → Broken ≡ entryAt l i
+    module _ {c size : ℕ} (read : c ≡ characterAt l i) (wide : size ≡ lenUtf8 c) where
+      pub entry-no-character : size ≡ 0 → Broken ≡ commandAt l i
       entry-no-character z =
           let none : scalar (characterAt l i) ≡ false = rw (← read) (size-none c (sym wide ∙ z)) in
-          sym (entry-body l i ∙ rw (and-false-r (ltb 0 (widthOf (getD l i 0)) && leb (i + widthOf (getD l i 0)) (length l)) _ none))
+          sym (entry-body l i ∙ rw (and-false-r (ltb 0 (commandSize (getD l i 0)) && leb (i + commandSize (getD l i 0)) (length l)) _ none))
 
       module _ (some : size ≡ 0 → ⊥) (known : w ≡ 0 → ⊥) (fits : i + w ≤ length l) where
         tested : test l i ≡ true
         tested =
-            let wide-enough : 0 < widthOf (getD l i 0) = omega (arith, is, known) in
-            let inside : i + widthOf (getD l i 0) ≤ length l = rw is at fits in
+            let wide-enough : 0 < commandSize (getD l i 0) = omega (arith, is, known) in
+            let inside : i + commandSize (getD l i 0) ≤ length l = rw is at fits in
             let character : scalar (characterAt l i) ≡ true = rw (← read) (size-some c (λ z. some (wide ∙ z))) in
             rw (lt-ltb _ _ wide-enough, le-leb _ _ inside, character)
 
-        pub entry-removal : w ≡ 7 → {r : Entry} → r ≡ removalAt l i c → r ≡ entryAt l i
+        pub entry-removal : w ≡ 7 → {r : Entry} → r ≡ removalAt l i c → r ≡ commandAt l i
         unfolding removalAt
         entry-removal e at =
             let three : eqb (getD l i 0) 3 ≡ true = width-seven (getD l i 0) (sym is ∙ e) in
             at ∙ sym (entry-body l i ∙ rw (tested, three, ← read))
 
-        pub entry-command : (w ≡ 7 → ⊥) → At (record { character = c; added = eqb (getD l i 0) 2; removed = 0 }) (i + 5) ≡ entryAt l i
+        pub entry-command : (w ≡ 7 → ⊥) → At (record { character = c; added = eqb (getD l i 0) 2; removed = 0 }) (i + 5) ≡ commandAt l i
         entry-command e =
             let other : eqb (getD l i 0) 3 ≡ false = true-or-false (eqb (getD l i 0) 3) (λ t. absurd (e (is ∙ width-three (getD l i 0) t))) (λ u. u) in
             sym (entry-body l i ∙ rw (tested, other, ← read))
@@ -200,19 +152,19 @@ part-drop l i a b =
     let wide : i + b - (i + a) ≡ b - a = omega arith in
     rw (drop-drop a i l, wide)
 
-entry-drop : (l : List ℕ) (i : ℕ) → entryAt (drop i l) 0 ≡ cond (test l i) (body l i 0) Broken
+entry-drop : (l : List ℕ) (i : ℕ) → commandAt (drop i l) 0 ≡ cond (test l i) (body l i 0) Broken
 unfolding characterAt removedAt
 entry-drop l i =
     let z : i + 0 ≡ i = omega arith in
     let long : length (drop i l) ≡ length l - i = length-drop i l in
     entry-body (drop i l) 0
     ∙ rw (getD-drop i l 0 0, part-drop l i (0 + 1) (0 + 5), part-drop l i (0 + 5) (0 + 7), z)
-    (le-or-lt (i + widthOf (getD l i 0)) (length l)
-    (λ k. rw (le-leb (i + widthOf (getD l i 0)) (length l) k, le-leb (0 + widthOf (getD l i 0)) (length (drop i l)) (omega arith)))
-    (λ k. rw (lt-leb (i + widthOf (getD l i 0)) (length l) k)
-    (le-or-lt (widthOf (getD l i 0)) 0
-    (λ none. rw (le-ltb 0 (widthOf (getD l i 0)) none))
-    (λ some. rw (lt-leb (0 + widthOf (getD l i 0)) (length (drop i l)) (omega arith))))))
+    (le-or-lt (i + commandSize (getD l i 0)) (length l)
+    (λ k. rw (le-leb (i + commandSize (getD l i 0)) (length l) k, le-leb (0 + commandSize (getD l i 0)) (length (drop i l)) (omega arith)))
+    (λ k. rw (lt-leb (i + commandSize (getD l i 0)) (length l) k)
+    (le-or-lt (commandSize (getD l i 0)) 0
+    (λ none. rw (le-ltb 0 (commandSize (getD l i 0)) none))
+    (λ some. rw (lt-leb (0 + commandSize (getD l i 0)) (length (drop i l)) (omega arith))))))
 
 commands-skip : (k : ℕ) (l : List ℕ) → commandsFrom k l ≡ commandsOf (drop k l)
 unfolding commandsFrom commandsOf
@@ -226,11 +178,11 @@ whole-skip zero l = refl
 whole-skip (suc k) [] = refl
 whole-skip (suc k) (b ∷ l) = whole-skip k l
 
-commands-cons : (l : List ℕ) (i : ℕ) → i < length l → commandsOf (drop i l) ≡ listed (entryAt (drop i l) 0) (commandsFrom (nextOf (entryAt (drop i l) 0) - 1) (drop (suc i) l))
+commands-cons : (l : List ℕ) (i : ℕ) → i < length l → commandsOf (drop i l) ≡ listed (commandAt (drop i l) 0) (commandsFrom (nextOf (commandAt (drop i l) 0) - 1) (drop (suc i) l))
 unfolding commandsFrom commandsOf
 commands-cons l i h = ap commandsOf (drop-cons l i 0 h) ∙ rw (← drop-cons l i 0 h)
 
-whole-cons : (l : List ℕ) (i : ℕ) → i < length l → whole (drop i l) ≡ (isCommand (entryAt (drop i l) 0) && wholeFrom (nextOf (entryAt (drop i l) 0) - 1) (drop (suc i) l))
+whole-cons : (l : List ℕ) (i : ℕ) → i < length l → whole (drop i l) ≡ (isCommand (commandAt (drop i l) 0) && wholeFrom (nextOf (commandAt (drop i l) 0) - 1) (drop (suc i) l))
 unfolding wholeFrom whole
 whole-cons l i h = ap whole (drop-cons l i 0 h) ∙ rw (← drop-cons l i 0 h)
 
@@ -240,22 +192,22 @@ record Told (l : List ℕ) (i : ℕ) (c : Command) (next : ℕ) : Type 0 where
   wide : 5 ≤ width
   ends : next ≡ i + width
   inside : i + width ≤ length l
-  front : entryAt (drop i l) 0 ≡ At c width
+  front : commandAt (drop i l) 0 ≡ At c width
 
 module _ (l : List ℕ) (i : ℕ) where
   not-at : {c : Command} {next : ℕ} {P : Type 0} → Broken ≡ At c next → P
   not-at e = let z : _≡_ {A = ℕ} 0 1 = cc in absurd (omega arith)
 
-  module _ {c : Command} {next : ℕ} (e : entryAt l i ≡ At c next) (t : test l i ≡ true) where
-    both : (ltb 0 (widthOf (getD l i 0)) && leb (i + widthOf (getD l i 0)) (length l)) ≡ true
+  module _ {c : Command} {next : ℕ} (e : commandAt l i ≡ At c next) (t : test l i ≡ true) where
+    both : (ltb 0 (commandSize (getD l i 0)) && leb (i + commandSize (getD l i 0)) (length l)) ≡ true
     both = and-elim-left _ (scalar (characterAt l i)) t
 
-    inside : i + widthOf (getD l i 0) ≤ length l
-    inside = leb-true _ _ (and-elim-right (ltb 0 (widthOf (getD l i 0))) _ both)
+    inside : i + commandSize (getD l i 0) ≤ length l
+    inside = leb-true _ _ (and-elim-right (ltb 0 (commandSize (getD l i 0))) _ both)
 
     told-other : eqb (getD l i 0) 3 ≡ false → Told l i c next
     told-other u =
-        let five : widthOf (getD l i 0) ≡ 5 = width-five (getD l i 0) (ltb-true 0 _ (and-elim-left _ (leb (i + widthOf (getD l i 0)) (length l)) both)) u in
+        let five : commandSize (getD l i 0) ≡ 5 = width-five (getD l i 0) (ltb-true 0 _ (and-elim-left _ (leb (i + commandSize (getD l i 0)) (length l)) both)) u in
         let at : At (record { character = characterAt l i; added = eqb (getD l i 0) 2; removed = 0 }) (i + 5) ≡ At c next = rw (t, u) at (sym (entry-body l i) ∙ e) in
         let is : record { character = characterAt l i; added = eqb (getD l i 0) 2; removed = 0 } ≡ c = cc in
         let ends : i + 5 ≡ next = cc in
@@ -263,13 +215,13 @@ module _ (l : List ℕ) (i : ℕ) where
 
     told-three : eqb (getD l i 0) 3 ≡ true → eqb (removedAt l i) 0 ≡ false → Told l i c next
     told-three three some =
-        let seven : widthOf (getD l i 0) ≡ 7 = width-three (getD l i 0) three in
+        let seven : commandSize (getD l i 0) ≡ 7 = width-three (getD l i 0) three in
         let at : At (record { character = characterAt l i; added = false; removed = removedAt l i }) (i + 7) ≡ At c next = rw (t, three, some) at (sym (entry-body l i) ∙ e) in
         let is : record { character = characterAt l i; added = false; removed = removedAt l i } ≡ c = cc in
         let ends : i + 7 ≡ next = cc in
         record { width = 7; wide = omega arith; ends = sym ends; inside = omega (arith, seven, inside); front = entry-drop l i ∙ rw (t, three, some, is) }
 
-  told : {c : Command} {next : ℕ} → entryAt l i ≡ At c next → Told l i c next
+  told : {c : Command} {next : ℕ} → commandAt l i ≡ At c next → Told l i c next
   told {c} {next} e =
       true-or-false (test l i)
       (λ t. true-or-false (eqb (getD l i 0) 3)
@@ -282,7 +234,7 @@ module _ (l : List ℕ) (i : ℕ) where
   not-broken : {c : Command} {next : ℕ} {P : Type 0} → At c next ≡ Broken → P
   not-broken e = let z : _≡_ {A = ℕ} 0 1 = cc in absurd (omega arith)
 
-  told-broken : entryAt l i ≡ Broken → entryAt (drop i l) 0 ≡ Broken
+  told-broken : commandAt l i ≡ Broken → commandAt (drop i l) 0 ≡ Broken
   told-broken e =
       true-or-false (test l i)
       (λ t. true-or-false (eqb (getD l i 0) 3)
@@ -294,12 +246,12 @@ module _ (l : List ℕ) (i : ℕ) where
 
 -- THE STEP: from the command at i to where the next one begins, which is further on than the command's character is long
 pub record Stepped (l : List ℕ) (i : ℕ) (c : Command) (next : ℕ) : Type 0 where
-  pub onward : i + sizeOf (c .character) < next
+  pub onward : i + lenUtf8 (c .character) < next
   pub most : next ≤ length l
   pub commands : commandsOf (drop i l) ≡ c ∷ commandsOf (drop next l)
   pub wholes : whole (drop i l) ≡ whole (drop next l)
 
-pub entry-step : (l : List ℕ) {i : ℕ} {e : Entry} {c : Command} {next : ℕ} → e ≡ entryAt l i → e ≡ At c next → Stepped l i c next
+pub entry-step : (l : List ℕ) {i : ℕ} {e : Entry} {c : Command} {next : ℕ} → e ≡ commandAt l i → e ≡ At c next → Stepped l i c next
 entry-step l {i} {e} {c} {next} is at =
     let t : Told l i c next = told l i (sym is ∙ at) in
     let w : ℕ = t .width in
@@ -312,9 +264,9 @@ entry-step l {i} {e} {c} {next} is at =
     }
 
 -- an entry that is no command
-pub entry-broken : (l : List ℕ) {i : ℕ} {e : Entry} → i < length l → e ≡ entryAt l i → e ≡ Broken → (commandsOf (drop i l) ≡ []) × (whole (drop i l) ≡ false)
+pub entry-broken : (l : List ℕ) {i : ℕ} {e : Entry} → i < length l → e ≡ commandAt l i → e ≡ Broken → (commandsOf (drop i l) ≡ []) × (whole (drop i l) ≡ false)
 entry-broken l {i} h is at =
-    let first : entryAt (drop i l) 0 ≡ Broken = told-broken l i (sym is ∙ at) in
+    let first : commandAt (drop i l) 0 ≡ Broken = told-broken l i (sym is ∙ at) in
     (commands-cons l i h ∙ rw first, whole-cons l i h ∙ rw first)
 
 -- the script's end
@@ -331,10 +283,10 @@ pub none-judged : {l : List ℕ} → Judged l 0
 none-judged = record { same = refl; most = omega arith }
 
 module _ {l : List ℕ} {i : ℕ} (j : Judged l i) where
-  pub next-judged : {e : Entry} {c : Command} {next : ℕ} → e ≡ entryAt l i → e ≡ At c next → Judged l next
+  pub next-judged : {e : Entry} {c : Command} {next : ℕ} → e ≡ commandAt l i → e ≡ At c next → Judged l next
   next-judged is at = let s = entry-step l is at in record { same = j .same ∙ s .wholes; most = s .most }
 
-  pub broken-judged : {e : Entry} → i < length l → e ≡ entryAt l i → e ≡ Broken → false ≡ whole l
+  pub broken-judged : {e : Entry} → i < length l → e ≡ commandAt l i → e ≡ Broken → false ≡ whole l
   broken-judged h is at = sym (j .same ∙ entry-broken l h is at .1)
 
   pub all-judged : length l ≤ i → true ≡ whole l

@@ -8,7 +8,7 @@ use lib.Dec.{leb, ltb, eqb}
 use lib.ListN.{length, getD}
 use Rattle.buffers.specs.Splice.{part}
 use Rattle.numbers.specs.LittleEndian.{valueOf}
-use Rattle.utf8.specs.Scalar.{scalar, bytesOf}
+use Rattle.utf8.specs.Scalar.{scalar}
 use Rattle.note.specs.declared.Refusal.{Refusal}
 use Rattle.note.specs.declared.Refusal.the-variants.{BadScript}
 use Rattle.note.specs.Refusals.{none, meets}
@@ -16,13 +16,9 @@ use Rattle.script.specs.declared.Command.{Command}
 use Rattle.script.specs.declared.Entry.{Entry}
 use Rattle.script.specs.declared.Entry.the-variants.{At, Broken}
 
--- how many bytes a character has
-unfoldable pub sizeOf : ℕ → ℕ
-sizeOf c = length (bytesOf c)
-
 -- how many bytes a command has, by its number; 0 for an unknown one
-unfoldable pub widthOf : ℕ → ℕ
-widthOf b = cond (eqb b 1 || eqb b 2) 5 (cond (eqb b 3) 7 0)
+unfoldable pub commandSize : ℕ → ℕ
+commandSize b = cond (eqb b 1 || eqb b 2) 5 (cond (eqb b 3) 7 0)
 
 unfoldable pub characterAt : List ℕ → ℕ → ℕ
 characterAt l i = valueOf (part l (i + 1) (i + 5))
@@ -37,9 +33,9 @@ removalAt l i c =
 
 -- a command, and where the next one begins; or an unknown command, a cut operand, a number that is no scalar value, a
 -- removal of 0
-unfoldable pub entryAt : List ℕ → ℕ → Entry
-entryAt l i =
-    cond (ltb 0 (widthOf (getD l i 0)) && leb (i + widthOf (getD l i 0)) (length l) && scalar (characterAt l i))
+unfoldable pub commandAt : List ℕ → ℕ → Entry
+commandAt l i =
+    cond (ltb 0 (commandSize (getD l i 0)) && leb (i + commandSize (getD l i 0)) (length l) && scalar (characterAt l i))
     (cond (eqb (getD l i 0) 3) (removalAt l i (characterAt l i))
     (At (record { character = characterAt l i; added = eqb (getD l i 0) 2; removed = 0 }) (i + 5)))
     Broken
@@ -59,7 +55,7 @@ listed Broken cs = []
 -- the commands of a script, up to an entry that is none, from an entry on that is k bytes away
 unfoldable pub commandsFrom : ℕ → List ℕ → List Command
 commandsFrom k [] = []
-commandsFrom zero (b ∷ l) = listed (entryAt (b ∷ l) 0) (commandsFrom (nextOf (entryAt (b ∷ l) 0) - 1) l)
+commandsFrom zero (b ∷ l) = listed (commandAt (b ∷ l) 0) (commandsFrom (nextOf (commandAt (b ∷ l) 0) - 1) l)
 commandsFrom (suc k) (b ∷ l) = commandsFrom k l
 
 unfoldable pub commandsOf : List ℕ → List Command
@@ -68,7 +64,7 @@ commandsOf l = commandsFrom 0 l
 -- whether each entry of a script is a command
 unfoldable pub wholeFrom : ℕ → List ℕ → Bool
 wholeFrom k [] = true
-wholeFrom zero (b ∷ l) = isCommand (entryAt (b ∷ l) 0) && wholeFrom (nextOf (entryAt (b ∷ l) 0) - 1) l
+wholeFrom zero (b ∷ l) = isCommand (commandAt (b ∷ l) 0) && wholeFrom (nextOf (commandAt (b ∷ l) 0) - 1) l
 wholeFrom (suc k) (b ∷ l) = wholeFrom k l
 
 unfoldable pub whole : List ℕ → Bool

@@ -2,10 +2,12 @@
 // No other crate knows how many bytes a command has.
 use numbers::little_endian::get_u16_le;
 use numbers::little_endian::get_u32_le;
+use utf8::lead::len_utf8;
 ghost use mathlib.Core.Path.{_≡_};
 ghost use Prim.Native.Nat.{_+_, _≤_};
 ghost use lib.ListN.{length};
-ghost use Rattle.script.specs.Scripts.{entryAt, removalAt, sizeOf, whole, widthOf};
+ghost use Rattle.utf8.specs.Scalar.{lenUtf8};
+ghost use Rattle.script.specs.Scripts.{commandAt, removalAt, whole, commandSize};
 
 // A character of the new text, and what it does to the old one (Rust: `(char, isize)`): it is added, the Rust's 1;
 // or it replaces a character and removes so many behind it, the Rust's 0 and -1, -2 and so on.
@@ -21,25 +23,9 @@ pub enum Entry {
     Broken,
 }
 
-// How many bytes a character has; 0 for a number that is no scalar value.
-pub fn size_of(character: u32) -> usize
-    ensures { λ r. ⌜ r ≡ sizeOf character ⌝ }
-{
-    if 0x10FFFF < character {
-        return 0;
-    }
-    if (0xD800 <= character) & (character <= 0xDFFF) {
-        return 0;
-    }
-    1
-        + (0x80 <= character) as usize
-        + (0x800 <= character) as usize
-        + (0x10000 <= character) as usize
-}
-
 // How many bytes a command has, by its first; 0 for an unknown one.
-fn width_of(command: u8) -> usize
-    ensures { λ r. ⌜ r ≡ widthOf command ⌝ }
+fn command_size(command: u8) -> usize
+    ensures { λ r. ⌜ r ≡ commandSize command ⌝ }
 {
     if command == 1 {
         return 5;
@@ -74,13 +60,13 @@ fn removal_at(script: &[u8], i: usize, character: u32) -> Entry
 
 // What stands at byte `i` of the script.
 pub fn entry_at(script: &[u8], i: usize) -> Entry
-    ensures { λ r. ⌜ r ≡ entryAt (now (script .entry)) i ⌝ }
+    ensures { λ r. ⌜ r ≡ commandAt (now (script .entry)) i ⌝ }
 {
     if script.len() <= i {
         return Entry::Broken;
     }
     let command = script[i];
-    let width = width_of(command);
+    let width = command_size(command);
     if width == 0 {
         return Entry::Broken;
     }
@@ -88,7 +74,7 @@ pub fn entry_at(script: &[u8], i: usize) -> Entry
         return Entry::Broken;
     }
     let character = get_u32_le(script, i + 1);
-    if size_of(character) == 0 {
+    if len_utf8(character) == 0 {
         return Entry::Broken;
     }
     if width == 7 {

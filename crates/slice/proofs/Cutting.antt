@@ -28,8 +28,8 @@ use Rattle.convert.specs.Inside.{Lies, Outcome}
 use Rattle.convert.proofs.Leading.{leading-most, leading-within, converted-by-leading}
 use Rattle.convert.proofs.Conversions.{expanded-inside}
 use Rattle.convert.proofs.Inside.{first-or-none, expanded-inside as expanded-lies, inside}
-use Rattle.get_range.specs.Reading.{asOriginal, asNormalized}
-use Rattle.slice.specs.Slicing.{valid, unplaced, sliceMissing}
+use Rattle.convert.specs.Converting.{asOriginal, asNormalized}
+use Rattle.slice.specs.Slicing.{validRange, unplaced, sliceMissing}
 
 pub record Cutting (n : Note) (range : Range) : Type 0 where
   pub a : ℕ
@@ -196,7 +196,7 @@ module _ (n : Note) (sound : Sound n) where
         (λ j from to. absurd (omega arith))
         (λ j to. leading-within (n .ends) y j to)))
 
--- a range that is valid and has its place in both texts
+-- a range that is validRange and has its place in both texts
 or-none : (t u w : Bool) → (t || u || w) ≡ false → (t ≡ false) × (u ≡ false) × (w ≡ false)
 or-none true u w e = clash true refl e
 or-none false true w e = clash true refl e
@@ -208,8 +208,8 @@ placed o m size e =
     let all = or-none (missing o) (missing m) (ltb size (endIn m)) e in (all .0, all .1, ltb-false size (endIn m) (all .2))
 
 module _ (n : Note) (sound : Sound n) where
-  pub cutting : (range : Range) → valid (n .original) (n .normalized) range ≡ true → sliceMissing n range ≡ false → Cutting n range
-  unfolding valid sliceMissing
+  pub cutting : (range : Range) → validRange (n .original) (n .normalized) range ≡ true → sliceMissing n range ≡ false → Cutting n range
+  unfolding validRange sliceMissing
   cutting (Normalized x y) v m =
       let o : Converted = asOriginal (n .starts) (n .ends) (Normalized x y) in
       let all = placed o (asNormalized (n .starts) (n .ends) (Normalized x y)) (length (n .normalized)) m in
@@ -238,9 +238,9 @@ module _ (n : Note) (sound : Sound n) where
       (λ none. clash (missing c) (ap missing (normalized-found (n .starts) (n .ends) (x .0) (y .0) ∙ none)) (all .1))))
       (λ reversed. clash (missing c) (reversed-normalized (n .starts) (n .ends) (x .0) (y .0) reversed) (all .1))
 
-  -- where a valid range begins in the transcript, found or not
-  pub start-near : (most : ℕ) (range : Range) → valid (n .original) (n .normalized) range ≡ true → length (n .original) ≤ most → length (n .normalized) ≤ most → startIn (asOriginal (n .starts) (n .ends) range) ≤ most
-  unfolding valid
+  -- where a validRange range begins in the transcript, found or not
+  pub start-near : (most : ℕ) (range : Range) → validRange (n .original) (n .normalized) range ≡ true → length (n .original) ≤ most → length (n .normalized) ≤ most → startIn (asOriginal (n .starts) (n .ends) range) ≤ most
+  unfolding validRange
   start-near most (Original x y) v o m =
       rw (original-own (n .starts) (n .ends) (x .0) (y .0)) (omega (arith, boundary-most (n .original) (x .0) (and-elim-left _ (boundary (n .original) (y .0)) v)))
   start-near most (Normalized x y) v o m =

@@ -13,24 +13,25 @@ use Rattle.buffers.specs.Splice.{part, splice}
 use Rattle.buffers.proofs.Cases.{true-or-false}
 use Rattle.buffers.proofs.Splice.{length-part, part-index, splice-overlay}
 use Rattle.note.specs.declared.Refusal.{Refusal}
-use Rattle.note.specs.declared.Refusal.the-variants.{NotBoundary, Missing, NoRoom}
+use Rattle.note.specs.declared.Refusal.the-variants.{NotBoundary, Missing, NoRoom, Misaligned}
 use Rattle.note.specs.declared.Verdict.{Verdict}
 use Rattle.note.specs.declared.Verdict.the-variants.{Accepted, Refused as Rejected}
 use Rattle.note.specs.Refusals.{none, meets, also, verdict}
 use Rattle.note.specs.Notes.{Note, fits, Sound}
 use Rattle.note.specs.Faults.{noteFaults, roomFaults}
-use Rattle.note.proofs.Verdicts.{accepted-first, accepted-second, accepted-meets, refused-then, accepted-then}
+use Rattle.note.specs.Rank.{upTo}
+use Rattle.note.proofs.FirstMet.{accepted-first, accepted-second, accepted-meets, refused-then, accepted-then}
 use Rattle.note.proofs.Faults.{accepted-sound, room-enough, no-room, enough-room}
 use Rattle.note.proofs.Sound.{length-starts, length-ends, inside-at}
 use Rattle.convert.specs.declared.Range.{Range}
 use Rattle.convert.specs.declared.Converted.{Converted}
 use Rattle.convert.specs.declared.Converted.the-variants.{Found}
 use Rattle.convert.specs.Converting.{inOriginal, inNormalized}
-use Rattle.get_range.specs.Reading.{asOriginal, asNormalized}
+use Rattle.convert.specs.Converting.{asOriginal, asNormalized}
 use Rattle.slice.specs.declared.NoteSlice.{NoteSlice}
 use Rattle.slice.specs.declared.Sliced.{Sliced}
 use Rattle.slice.specs.declared.Sliced.the-variants.{Cut, Refused}
-use Rattle.slice.specs.Slicing.{valid, sliceOf, sliced, unplaced, sliceMissing, sliceSize, sliceFaults, slicedColumn, slicedUnlessRefused, Slicing, lowered, originalStart, normalizedStart, normalizedEnd}
+use Rattle.slice.specs.Slicing.{validRange, sliceOf, sliced, unplaced, sliceMissing, sliceSize, sliceFaults, slicedColumn, slicedUnlessRefused, Slicing, lowered, originalStart, normalizedStart, normalizedEnd}
 use Rattle.slice.specs.Writing.{SliceJudged, Shiftable, Lowerable}
 use Rattle.slice.proofs.Cutting.{Cutting, cutting, start-near}
 
@@ -94,7 +95,7 @@ lost t s e is =
 
 module _ (most : ℕ) (n : Note) (range : Range) (room : ℕ) where
   abbrev off : Refusal → Bool
-  off = meets NotBoundary (not (valid (n .original) (n .normalized) range)) none
+  off = meets NotBoundary (not (validRange (n .original) (n .normalized) range)) none
 
   abbrev gone : Refusal → Bool
   gone = meets Missing (sliceMissing n range) none
@@ -108,7 +109,7 @@ module _ (most : ℕ) (n : Note) (range : Range) (room : ℕ) where
 
   module _ {v : Verdict} (noted : v ≡ verdict (noteFaults most n)) where
     pub judged-note : {k : Refusal} → v ≡ Rejected k → SliceJudged most n range room (Refused k)
-    judged-note is = refusing (refused-then 4 (noteFaults most n) (also off (also gone small)) refl refl noted is)
+    judged-note is = refusing (refused-then (upTo Misaligned) (noteFaults most n) (also off (also gone small)) refl refl noted is)
 
     module _ (ok : v ≡ Accepted) where
       sound : Sound n
@@ -118,19 +119,19 @@ module _ (most : ℕ) (n : Note) (range : Range) (room : ℕ) where
       short = accepted-short most n (accepted-sound most n (sym noted ∙ ok) .1)
 
       past-note : {w : Verdict} → w ≡ verdict (also off (also gone small)) → w ≡ verdict (sliceFaults most n range room)
-      past-note e = accepted-then 4 (noteFaults most n) (also off (also gone small)) refl refl noted ok e
+      past-note e = accepted-then (upTo Misaligned) (noteFaults most n) (also off (also gone small)) refl refl noted ok e
 
-      module _ {t : Bool} (tested : t ≡ valid (n .original) (n .normalized) range) where
+      module _ {t : Bool} (tested : t ≡ validRange (n .original) (n .normalized) range) where
         pub judged-off : t ≡ false → SliceJudged most n range room (Refused NotBoundary)
         judged-off u =
-            refusing (past-note (refused-then 8 off (also gone small) refl refl {v = Rejected NotBoundary} (off-met (sym tested ∙ u)) refl))
+            refusing (past-note (refused-then (upTo NotBoundary) off (also gone small) refl refl {v = Rejected NotBoundary} (off-met (sym tested ∙ u)) refl))
 
         module _ (on : t ≡ true) where
-          is-valid : valid (n .original) (n .normalized) range ≡ true
+          is-valid : validRange (n .original) (n .normalized) range ≡ true
           is-valid = sym tested ∙ on
 
           past-off : {w : Verdict} → w ≡ verdict (also gone small) → w ≡ verdict (sliceFaults most n range room)
-          past-off e = past-note (accepted-then 8 off (also gone small) refl refl {v = Accepted} (off-unmet is-valid) refl e)
+          past-off e = past-note (accepted-then (upTo NotBoundary) off (also gone small) refl refl {v = Accepted} (off-unmet is-valid) refl e)
 
           pub shiftable : {o : Converted} → o ≡ asOriginal (n .starts) (n .ends) range → Shiftable most o (n .original-shift)
           shiftable is = record { near = rw is (start-near n sound most range is-valid (short .original-short) (short .normalized-short)); low = short .shift-low }
@@ -143,14 +144,14 @@ module _ (most : ℕ) (n : Note) (range : Range) (room : ℕ) where
             pub judged-missing : {k : Refusal} → s ≡ Refused k → SliceJudged most n range room (Refused k)
             judged-missing e =
                 let l = lost (sliceMissing n range) (sliced n range) placed e in
-                rw (l .1) (refusing (past-off (refused-then 9 gone small refl refl {v = Rejected Missing} (gone-met (l .0)) refl)))
+                rw (l .1) (refusing (past-off (refused-then (upTo Missing) gone small refl refl {v = Rejected Missing} (gone-met (l .0)) refl)))
 
             module _ {z : NoteSlice} (e : s ≡ Cut z) where
               is-sliced : z ≡ sliced n range
               is-sliced = kept (sliceMissing n range) (sliced n range) placed e .1
 
               past-gone : {w : Verdict} → w ≡ verdict small → w ≡ verdict (sliceFaults most n range room)
-              past-gone d = past-off (accepted-then 9 gone small refl refl {v = Accepted} (gone-unmet (kept (sliceMissing n range) (sliced n range) placed e .0)) refl d)
+              past-gone d = past-off (accepted-then (upTo Missing) gone small refl refl {v = Accepted} (gone-unmet (kept (sliceMissing n range) (sliced n range) placed e .0)) refl d)
 
               pub cut-forward : normalizedStart z ≤ normalizedEnd z
               cut-forward = let k = cutting n sound range is-valid (kept (sliceMissing n range) (sliced n range) placed e .0) in rw is-sliced (cut-on n range k)
@@ -169,8 +170,8 @@ module _ (most : ℕ) (n : Note) (range : Range) (room : ℕ) (e : verdict (slic
   rest : verdict (also (gone most n range room) (small most n range room)) ≡ Accepted
   rest = accepted-second (off most n range room) _ (accepted-second (noteFaults most n) (also (off most n range room) (also (gone most n range room) (small most n range room))) e)
 
-  pub accepted-valid : valid (n .original) (n .normalized) range ≡ true
-  accepted-valid = not-false (valid (n .original) (n .normalized) range) (accepted-meets (off most n range room) (accepted-first (off most n range room) (also (gone most n range room) (small most n range room)) (accepted-second (noteFaults most n) _ e)) NotBoundary)
+  pub accepted-valid : validRange (n .original) (n .normalized) range ≡ true
+  accepted-valid = not-false (validRange (n .original) (n .normalized) range) (accepted-meets (off most n range room) (accepted-first (off most n range room) (also (gone most n range room) (small most n range room)) (accepted-second (noteFaults most n) _ e)) NotBoundary)
 
   pub accepted-cutting : Cutting n range
   accepted-cutting = cutting n (accepted-note .0) range accepted-valid (accepted-meets (gone most n range room) (accepted-first (gone most n range room) (small most n range room) rest) Missing)

@@ -1,4 +1,4 @@
--- Laws of `valid`, `unplaced` and `sliceOf`, case by case as the code comes to them.
+-- Laws of `validRange`, `unplaced` and `sliceOf`, case by case as the code comes to them.
 use Prim.Native.Nat.{ℕ, _+_, _≤_, _<_}
 use mathlib.Core.Path.{_≡_}
 use mathlib.Core.Bool.{Bool, false, cond, _&&_, _||_, or-true}
@@ -17,16 +17,16 @@ use Rattle.convert.specs.declared.Converted.the-variants.{Found, Refused as Unf
 use Rattle.convert.specs.Converting.{startOf, endOf, missing}
 use Rattle.slice.specs.declared.Sliced.{Sliced}
 use Rattle.slice.specs.declared.Sliced.the-variants.{Cut, Refused}
-use Rattle.slice.specs.Slicing.{valid, sliceOf, unplaced}
+use Rattle.slice.specs.Slicing.{validRange, sliceOf, unplaced}
 use Rattle.slice.specs.Writing.{Shiftable}
 
 module _ (original normalized : List ℕ) {range : Range} {x y : ℕ} {t u : Bool} where
-  pub valid-original : {a b : OriginalByte} → range ≡ Original a b → x ≡ startOf range → y ≡ endOf range → t ≡ boundary original x → u ≡ boundary original y → (t && u) ≡ valid original normalized range
-  unfolding valid
+  pub valid-original : {a b : OriginalByte} → range ≡ Original a b → x ≡ startOf range → y ≡ endOf range → t ≡ boundary original x → u ≡ boundary original y → (t && u) ≡ validRange original normalized range
+  unfolding validRange
   valid-original is p q f g = rw (f, g, p, q, is)
 
-  pub valid-normalized : {a b : NormalizedByte} → range ≡ Normalized a b → x ≡ startOf range → y ≡ endOf range → t ≡ boundary normalized x → u ≡ boundary normalized y → (t && u) ≡ valid original normalized range
-  unfolding valid
+  pub valid-normalized : {a b : NormalizedByte} → range ≡ Normalized a b → x ≡ startOf range → y ≡ endOf range → t ≡ boundary normalized x → u ≡ boundary normalized y → (t && u) ≡ validRange original normalized range
+  unfolding validRange
   valid-normalized is p q f g = rw (f, g, p, q, is)
 
 abbrev placedOr : Converted → Converted → ℕ → ℕ → Sliced

@@ -9,7 +9,7 @@ use Rattle.note.proofs.Sound.{length-ends}
 use Rattle.convert.specs.declared.Range.{Range}
 use Rattle.convert.specs.declared.Range.the-variants.{Original, Normalized}
 use Rattle.convert.specs.Converting.{startOf, endOf, startIn, endIn, missing}
-use Rattle.get_range.specs.Reading.{asOriginal, asNormalized}
+use Rattle.convert.specs.Converting.{asOriginal, asNormalized}
 use Rattle.slice.specs.Slicing.{sliceOf, sliced}
 use Rattle.slice.specs.Bytes.{Has, HasBytes, SliceBytes}
 use Rattle.slice.proofs.Cutting.{Cutting, original-empty, normalized-own, original-own, normalized-empty, normalized-found, reversed-original, reversed-normalized}

@@ -20,8 +20,8 @@ use Rattle.convert.specs.declared.Converted.the-variants.{Found}
 use Rattle.convert.specs.Converting.{inOriginal, inNormalized}
 use Rattle.convert.specs.Inside.{Lies}
 use Rattle.convert.proofs.Conversions.{expanded-inside}
-use Rattle.slice.specs.Slicing.{valid, sliceOf, sliced, lowered, slicedColumn, sliceNote, SliceSound}
-use Rattle.slice.specs.Bytes.{Stands, SliceStands, cleanedSlice, SliceOfSlice}
+use Rattle.slice.specs.Slicing.{validRange, sliceOf, sliced, lowered, slicedColumn, sliceNote, SliceSound}
+use Rattle.slice.specs.Bytes.{Stands, SliceStands, normalizedSlice, SliceOfSlice}
 use Rattle.slice.proofs.Lowered.{length-lowered, getD-lowered, part-lowered, lowered-lowered}
 use Rattle.slice.proofs.Cutting.{Cutting, alignments-on, original-found, normalized-own}
 use Rattle.slice.proofs.Judged.{sliced-is, accepted-note, accepted-valid, accepted-cutting}
@@ -185,7 +185,7 @@ module _ (n : Note) (c d : ℕ) (some : c < d) (most : d ≤ length (n .ends)) w
   unfolding sliced
   cleaned-sliced = rw (original-found (n .starts) (n .ends) c d some most, ← expanded-inside (n .starts) (n .ends) c d most, normalized-own (n .starts) (n .ends) c d)
 
-  cleaned-note : cleanedSlice n c d ≡ noteAt n (startAt n c) (endAt n (d - 1)) c d
+  cleaned-note : normalizedSlice n c d ≡ noteAt n (startAt n c) (endAt n (d - 1)) c d
   unfolding sliceNote slicedColumn sliceOf
   cleaned-note = rw cleaned-sliced
 
@@ -235,7 +235,7 @@ module _ (n : Note) (sound : Sound n) (c d e f : ℕ) (some : c < d) (less : e <
       (omega (arith, from)))
 
 pub slice-of-slice : SliceOfSlice
-unfolding valid
+unfolding validRange
 slice-of-slice most n c d e f room ok some less fits =
     let sound : Sound n = accepted-note most n (inNormalized c d) room ok .0 in
     let both = accepted-valid most n (inNormalized c d) room ok in
@@ -243,7 +243,7 @@ slice-of-slice most n c d e f room ok some less fits =
     let in-text : d ≤ length (n .normalized) = boundary-most (n .normalized) d bd in
     let in-ends : d ≤ length (n .ends) = omega (arith, length-ends n sound) in
     let outer : Note = noteAt n (startAt n c) (endAt n (d - 1)) c d in
-    let is : cleanedSlice n c d ≡ outer = cleaned-note n c d some in-ends in
+    let is : normalizedSlice n c d ≡ outer = cleaned-note n c d some in-ends in
     let long : length (outer .ends) ≡ d - c = length-lowered (startAt n c) (part (n .ends) c d) ∙ length-part (n .ends) c d in-ends in
     rw is (
       rw (boundary-of-part (n .normalized) c d e bd (omega arith) (omega arith), boundary-of-part (n .normalized) c d f bd (omega arith) fits),

@@ -11,7 +11,7 @@ use Rattle.convert.specs.declared.Converted.the-variants.{Found}
 use Rattle.convert.specs.Converting.{inNormalized, startOf, endOf, converted}
 use Rattle.slice.specs.declared.NoteSlice.{NoteSlice}
 use Rattle.slice.specs.Slicing.{
-  valid,
+  validRange,
   sliced,
   sliceNote,
   sliceFaults,
@@ -60,15 +60,15 @@ SliceStands =
     → Stands (sliceNote n (sliced n range)) n (originalStart (sliced n range)) (normalizedStart (sliced n range))
 
 -- the cleaned bytes c..d of a note as a note
-abbrev pub cleanedSlice : Note → ℕ → ℕ → Note
-cleanedSlice n c d = sliceNote n (sliced n (inNormalized c d))
+abbrev pub normalizedSlice : Note → ℕ → ℕ → Note
+normalizedSlice n c d = sliceNote n (sliced n (inNormalized c d))
 
--- CLAIM: a cleaned slice of a cleaned slice is the cleaned slice of the note at the added numbers, and as valid, where
+-- CLAIM: a cleaned slice of a cleaned slice is the cleaned slice of the note at the added numbers, and as validRange, where
 -- neither is empty.
 abbrev pub SliceOfSlice : Type 0
 SliceOfSlice =
     (most : ℕ) (n : Note) (c d e f room : ℕ) → verdict (sliceFaults most n (inNormalized c d) room) ≡ Accepted
     → c < d → e < f → f ≤ d - c
-    → (valid (cleanedSlice n c d .original) (cleanedSlice n c d .normalized) (inNormalized e f)
-    ≡ valid (n .original) (n .normalized) (inNormalized (c + e) (c + f)))
-    × (cleanedSlice (cleanedSlice n c d) e f ≡ cleanedSlice n (c + e) (c + f))
+    → (validRange (normalizedSlice n c d .original) (normalizedSlice n c d .normalized) (inNormalized e f)
+    ≡ validRange (n .original) (n .normalized) (inNormalized (c + e) (c + f)))
+    × (normalizedSlice (normalizedSlice n c d) e f ≡ normalizedSlice n (c + e) (c + f))

@@ -18,16 +18,17 @@ use Rattle.note.specs.Faults.{noteFaults, roomFaults}
 use Rattle.convert.specs.declared.Range.{Range}
 use Rattle.convert.specs.declared.Converted.{Converted}
 use Rattle.convert.specs.Converting.{startOf, endOf, startIn, endIn, missing}
-use Rattle.get_range.specs.Reading.{textOf, asOriginal, asNormalized}
+use Rattle.convert.specs.Converting.{asOriginal, asNormalized}
+use Rattle.get_range.specs.Reading.{namedText}
 use Rattle.slice.specs.declared.NoteSlice.{NoteSlice}
 use Rattle.slice.specs.declared.Sliced.{Sliced}
 use Rattle.slice.specs.declared.Sliced.the-variants.{Cut, Refused}
 
 -- RULES 6.1: both ends of the range are boundaries of the text that it names (Rust: `validate_range`)
-unfoldable pub valid : List ℕ → List ℕ → Range → Bool
-valid original normalized range =
-    boundary (textOf original normalized range) (startOf range)
-    && boundary (textOf original normalized range) (endOf range)
+unfoldable pub validRange : List ℕ → List ℕ → Range → Bool
+validRange original normalized range =
+    boundary (namedText original normalized range) (startOf range)
+    && boundary (namedText original normalized range) (endOf range)
 
 -- a slice's numbers
 abbrev pub originalStart : NoteSlice → ℕ
@@ -91,7 +92,7 @@ sliceMissing n range =
 abbrev pub sliceFaults : ℕ → Note → Range → ℕ → Refusal → Bool
 sliceFaults most n range room =
     also (noteFaults most n)
-    (also (meets NotBoundary (not (valid (n .original) (n .normalized) range)) none)
+    (also (meets NotBoundary (not (validRange (n .original) (n .normalized) range)) none)
     (also (meets Missing (sliceMissing n range) none)
     (roomFaults (sliceSize (sliced n range)) room)))
 

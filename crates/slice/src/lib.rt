@@ -6,8 +6,8 @@ use convert::Converted;
 use convert::Range;
 use convert::end_of;
 use convert::start_of;
-use get_range::as_normalized;
-use get_range::as_original;
+use convert::as_normalized;
+use convert::as_original;
 use note::NormalizedByte;
 use note::OriginalByte;
 use note::Refusal;
@@ -19,7 +19,7 @@ ghost use Rattle.buffers.specs.Splice.{splice};
 ghost use Rattle.note.specs.Notes.{lent, limit};
 ghost use Rattle.note.specs.declared.Refusal.the-variants.{Missing};
 ghost use Rattle.slice.specs.declared.Sliced.the-variants.{Cut, Refused};
-ghost use Rattle.slice.specs.Slicing.{Slicing, lowered, sliceOf, unplaced, valid};
+ghost use Rattle.slice.specs.Slicing.{Slicing, lowered, sliceOf, unplaced, validRange};
 ghost use Rattle.slice.specs.Writing.{Lowerable, Shiftable, SliceJudged};
 
 // A slice of a note: which bytes of the transcript and which of the cleaned text it has, and its own shift.
@@ -39,7 +39,7 @@ pub enum Sliced {
 
 // Whether both ends of the range are boundaries of the text that it names.
 pub fn validate_range(original: &[u8], normalized: &[u8], range: Range) -> bool
-    ensures { λ r. ⌜ r ≡ valid (now (original .entry)) (now (normalized .entry)) range ⌝ }
+    ensures { λ r. ⌜ r ≡ validRange (now (original .entry)) (now (normalized .entry)) range ⌝ }
 {
     let from = start_of(range) as usize;
     let to = end_of(range) as usize;

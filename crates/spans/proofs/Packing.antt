@@ -1,4 +1,4 @@
--- Laws of `packed`: its two ends are read back; a column of numbers that is taken apart.
+-- Laws of `packedSpan`: its two ends are read back; a column of numbers that is taken apart.
 use Prim.Native.Nat.{ℕ, _+_, _*_, _/_, _%_, _^_, _≤_, _<_}
 use mathlib.Core.Path.{_≡_, _∙_, ap, refl, sym}
 use mathlib.Core.Bool.{Bool, true, false}
@@ -20,7 +20,7 @@ use Rattle.behaviors.specs.Splits.{splits, isPiece, remaining, pieces}
 use Rattle.behaviors.specs.Joining.{startsOf, endsOf}
 use Rattle.behaviors.specs.Runs.{listPieces, Listed}
 use Rattle.behaviors.proofs.Gathered.{splits-cover}
-use Rattle.spans.specs.Packing.{base, packed, startIn, endIn, packedOf, PackedRoom, PackedLaid, UnpackRoom, Unpacked, SpansRoom, SpansLaid}
+use Rattle.spans.specs.Packing.{base, packedSpan, spanStart, spanEnd, packedOf, PackedRoom, PackedLaid, UnpackRoom, Unpacked, SpansRoom, SpansLaid}
 
 -- a number stored
 pub store-one : (d : List ℕ) (at x : ℕ) → at < length d → set d at x ≡ splice d at (x ∷ [])
@@ -29,15 +29,15 @@ store-one d at x h =
     (rw (splice-nil d at, z) at (store-after d [] at x (omega arith)))
 
 -- the ends of a piece of a text that is not too long
-start-back : (p : Place) → p .start .0 < base → startIn (packed p) ≡ p .start .0
-unfolding startIn packed
+start-back : (p : Place) → p .start .0 < base → spanStart (packedSpan p) ≡ p .start .0
+unfolding spanStart packedSpan
 start-back p h = omega arith
 
-end-back : (p : Place) → p .start .0 < base → endIn (packed p) ≡ p .end .0
-unfolding endIn packed
+end-back : (p : Place) → p .start .0 < base → spanEnd (packedSpan p) ≡ p .end .0
+unfolding spanEnd packedSpan
 end-back p h = omega arith
 
-ends-back : (text : List ℕ) → length text < base → (e : EmptyPieces) (at : ℕ) (qs : List Place) → coversFrom text at qs ≡ true → (map startIn (packedOf (remaining e qs)) ≡ startsOf (remaining e qs)) × (map endIn (packedOf (remaining e qs)) ≡ endsOf (remaining e qs))
+ends-back : (text : List ℕ) → length text < base → (e : EmptyPieces) (at : ℕ) (qs : List Place) → coversFrom text at qs ≡ true → (map spanStart (packedOf (remaining e qs)) ≡ startsOf (remaining e qs)) × (map spanEnd (packedOf (remaining e qs)) ≡ endsOf (remaining e qs))
 unfolding remaining
 ends-back text short e at [] c = (refl, refl)
 ends-back text short e at (p ∷ qs) c =
@@ -48,22 +48,22 @@ ends-back text short e at (p ∷ qs) c =
     (λ t. rw (t, start-back p low, end-back p low, rest .0, rest .1) (refl, refl))
     (λ f. rw f rest)
 
-pub pieces-back : {most : ℕ} {list : List ℕ} → Listed most list → most < base → (b : SplitDelimiterBehavior) (e : EmptyPieces) → (map startIn (packedOf (listPieces b e list)) ≡ startsOf (listPieces b e list)) × (map endIn (packedOf (listPieces b e list)) ≡ endsOf (listPieces b e list))
+pub pieces-back : {most : ℕ} {list : List ℕ} → Listed most list → most < base → (b : SplitDelimiterBehavior) (e : EmptyPieces) → (map spanStart (packedOf (listPieces b e list)) ≡ startsOf (listPieces b e list)) × (map spanEnd (packedOf (listPieces b e list)) ≡ endsOf (listPieces b e list))
 unfolding pieces
 pieces-back {list = list} l low b e = ends-back (l .text) (omega (arith, l .short)) e 0 (splits b _) (splits-cover (l .text) 0 b _ (l .covered))
 
 -- TAKEN APART, number by number
 pub record Unpacking (spans starts₀ ends₀ : List ℕ) (k : ℕ) (starts ends : List ℕ) : Type 0 where
   pub few : k ≤ length spans
-  pub starts-laid : Laying (map startIn spans) (map startIn (drop k spans)) starts₀ k starts
-  pub ends-laid : Laying (map endIn spans) (map endIn (drop k spans)) ends₀ k ends
+  pub starts-laid : Laying (map spanStart spans) (map spanStart (drop k spans)) starts₀ k starts
+  pub ends-laid : Laying (map spanEnd spans) (map spanEnd (drop k spans)) ends₀ k ends
 
 pub none-unpacked : {spans starts ends : List ℕ} → UnpackRoom spans starts ends → Unpacking spans starts ends 0 starts ends
 none-unpacked {spans} r =
     record {
       few = omega arith;
-      starts-laid = none-laid _ _ (rw (length-map spans startIn) (r .starts-room));
-      ends-laid = none-laid _ _ (rw (length-map spans endIn) (r .ends-room));
+      starts-laid = none-laid _ _ (rw (length-map spans spanStart) (r .starts-room));
+      ends-laid = none-laid _ _ (rw (length-map spans spanEnd) (r .ends-room));
     }
 
 -- one column
@@ -76,12 +76,12 @@ module _ {spans starts₀ ends₀ : List ℕ} {k : ℕ} {starts ends : List ℕ}
   pub unpack-room : k < length spans → (k < length starts) × (k < length ends)
   unpack-room h = (omega (arith, r .starts-room, u .starts-laid .same), omega (arith, r .ends-room, u .ends-laid .same))
 
-  pub one-unpacked : k < length spans → {a z : ℕ} → a ≡ startIn (getD spans k 0) → z ≡ endIn (getD spans k 0) → Unpacking spans starts₀ ends₀ (k + 1) (set starts k a) (set ends k z)
+  pub one-unpacked : k < length spans → {a z : ℕ} → a ≡ spanStart (getD spans k 0) → z ≡ spanEnd (getD spans k 0) → Unpacking spans starts₀ ends₀ (k + 1) (set starts k a) (set ends k z)
   one-unpacked h a z =
       record {
         few = omega arith;
-        starts-laid = column-more startIn spans (u .starts-laid) h (unpack-room h .0) a;
-        ends-laid = column-more endIn spans (u .ends-laid) h (unpack-room h .1) z;
+        starts-laid = column-more spanStart spans (u .starts-laid) h (unpack-room h .0) a;
+        ends-laid = column-more spanEnd spans (u .ends-laid) h (unpack-room h .1) z;
       }
 
   pub all-unpacked : length spans ≤ k → Unpacked spans starts₀ ends₀ starts ends
@@ -95,7 +95,7 @@ module _ {spans starts₀ ends₀ : List ℕ} {k : ℕ} {starts ends : List ℕ}
 -- the pieces, from their numbers
 module _ {ps : List Place} {spans₀ spans : List ℕ} {r : ℕ} (l : PackedLaid ps spans₀ r spans) where
   count-is : length (packedOf ps) ≡ r
-  count-is = length-map ps packed ∙ sym (l .reach)
+  count-is = length-map ps packedSpan ∙ sym (l .reach)
 
   pub packed-long : r ≤ length spans
   packed-long = rw (← count-is, l .spans-are) (overlay-long (packedOf ps) spans₀)
@@ -116,12 +116,12 @@ module _ {ps : List Place} {spans₀ spans : List ℕ} {r : ℕ} (l : PackedLaid
       }
 
 -- both ends fit into 16 bits
-pub start-small : (span : ℕ) {a : ℕ} → a ≡ startIn span → a < base
-unfolding startIn
+pub start-small : (span : ℕ) {a : ℕ} → a ≡ spanStart span → a < base
+unfolding spanStart
 start-small span is = omega arith
 
-pub end-small : (span : ℕ) {z : ℕ} → z ≡ endIn span → span < 2 ^ 32 → z < base
-unfolding endIn
+pub end-small : (span : ℕ) {z : ℕ} → z ≡ spanEnd span → span < 2 ^ 32 → z < base
+unfolding spanEnd
 end-small span is low = omega arith
 
 -- the behaviour under which each place is a piece

@@ -11,35 +11,35 @@ use Rattle.pattern.specs.Entries.{whole}
 use Rattle.behaviors.specs.declared.SplitDelimiterBehavior.{SplitDelimiterBehavior}
 use Rattle.behaviors.specs.declared.EmptyPieces.{EmptyPieces}
 use Rattle.behaviors.specs.Joining.{startsOf, endsOf}
-use Rattle.behaviors.specs.Runs.{given, listPieces, Listed}
+use Rattle.behaviors.specs.Runs.{pieceIf, listPieces, Listed}
 
 -- one more than any position of a text within the limit
 abbrev pub base : ℕ
 base = limit + 1
 
 -- the number of a piece, and its two ends in that number
-unfoldable pub packed : Place → ℕ
-packed p = p .start .0 + p .end .0 * base
+unfoldable pub packedSpan : Place → ℕ
+packedSpan p = p .start .0 + p .end .0 * base
 
-unfoldable pub startIn : ℕ → ℕ
-startIn span = span % base
+unfoldable pub spanStart : ℕ → ℕ
+spanStart span = span % base
 
-unfoldable pub endIn : ℕ → ℕ
-endIn span = span / base
+unfoldable pub spanEnd : ℕ → ℕ
+spanEnd span = span / base
 
 abbrev pub packedOf : List Place → List ℕ
-packedOf ps = map packed ps
+packedOf ps = map packedSpan ps
 
 -- a run inside a text, and room for it where it gives a piece
 pub record RunRoom (most : ℕ) (met : Bool) (run : Place) (spans : List ℕ) (at : ℕ) : Type 0 where
   pub onward : run .start .0 ≤ run .end .0
   pub inside : run .end .0 ≤ most
-  pub room : at + length (given met run) ≤ length spans
+  pub room : at + length (pieceIf met run) ≤ length spans
 
 -- what a run gives stands in the column from `at` on
 pub record RunLaid (met : Bool) (run : Place) (spans₀ : List ℕ) (at r : ℕ) (spans : List ℕ) : Type 0 where
-  pub reach : r ≡ at + length (given met run)
-  pub spans-are : spans ≡ splice spans₀ at (packedOf (given met run))
+  pub reach : r ≡ at + length (pieceIf met run)
+  pub spans-are : spans ≡ splice spans₀ at (packedOf (pieceIf met run))
 
 -- a judged list, and room for its pieces
 pub record PackedRoom (most : ℕ) (list : List ℕ) (behavior : SplitDelimiterBehavior) (empty : EmptyPieces)
@@ -52,8 +52,8 @@ pub record PackedRoom (most : ℕ) (list : List ℕ) (behavior : SplitDelimiterB
 pub record PackedLaid (ps : List Place) (spans₀ : List ℕ) (r : ℕ) (spans : List ℕ) : Type 0 where
   pub reach : r ≡ length ps
   pub spans-are : spans ≡ overlay (packedOf ps) spans₀
-  pub starts-in : map startIn (packedOf ps) ≡ startsOf ps
-  pub ends-in : map endIn (packedOf ps) ≡ endsOf ps
+  pub starts-in : map spanStart (packedOf ps) ≡ startsOf ps
+  pub ends-in : map spanEnd (packedOf ps) ≡ endsOf ps
 
 -- numbers that are taken apart
 pub record UnpackRoom (spans starts ends : List ℕ) : Type 0 where
@@ -61,8 +61,8 @@ pub record UnpackRoom (spans starts ends : List ℕ) : Type 0 where
   pub ends-room : length spans ≤ length ends
 
 pub record Unpacked (spans starts₀ ends₀ starts ends : List ℕ) : Type 0 where
-  pub starts-are : starts ≡ overlay (map startIn spans) starts₀
-  pub ends-are : ends ≡ overlay (map endIn spans) ends₀
+  pub starts-are : starts ≡ overlay (map spanStart spans) starts₀
+  pub ends-are : ends ≡ overlay (map spanEnd spans) ends₀
 
 -- room for a list's pieces in three columns
 pub record SpansRoom (most : ℕ) (list : List ℕ) (behavior : SplitDelimiterBehavior) (empty : EmptyPieces)

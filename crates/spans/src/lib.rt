@@ -2,11 +2,11 @@
 // number first, so that a place is read and stored at once. Inner functions: the list and the room were judged before.
 use behaviors::EmptyPieces;
 use behaviors::SplitDelimiterBehavior;
-use behaviors::goes;
+use behaviors::is_dropped;
 use behaviors::join_table;
 use behaviors::joined;
-use behaviors::onward;
-use behaviors::stays;
+use behaviors::extend_run;
+use behaviors::is_kept_run;
 use buffers::Offset;
 use note::LIMIT;
 use pattern::Entry;
@@ -19,21 +19,21 @@ ghost use lib.ListN.{length};
 ghost use Rattle.note.specs.Notes.{limit};
 ghost use Rattle.behaviors.specs.declared.SplitDelimiterBehavior.the-variants.{Isolated};
 ghost use Rattle.behaviors.specs.Runs.{listPieces};
-ghost use Rattle.spans.specs.Packing.{endIn, packed, PackedLaid, PackedRoom, RunLaid, RunRoom};
-ghost use Rattle.spans.specs.Packing.{SpansLaid, SpansRoom, startIn, Unpacked, UnpackRoom};
+ghost use Rattle.spans.specs.Packing.{spanEnd, packedSpan, PackedLaid, PackedRoom, RunLaid, RunRoom};
+ghost use Rattle.spans.specs.Packing.{SpansLaid, SpansRoom, spanStart, Unpacked, UnpackRoom};
 
 // One more than any position of a text within the limit.
 const BASE: u32 = LIMIT as u32 + 1;
 
 // The start of a piece, and its end, in the number that holds both.
 pub fn span_start(span: u32) -> u32
-    ensures { λ r. ⌜ r ≡ startIn span ⌝ }
+    ensures { λ r. ⌜ r ≡ spanStart span ⌝ }
 {
     span % BASE
 }
 
 pub fn span_end(span: u32) -> u32
-    ensures { λ r. ⌜ r ≡ endIn span ⌝ }
+    ensures { λ r. ⌜ r ≡ spanEnd span ⌝ }
 {
     span / BASE
 }
@@ -63,7 +63,7 @@ fn write_places(list: &[u8], empty: EmptyPieces, spans: &mut [u32]) -> usize
     let mut k = 0;
     while k < count {
         let place = place_at(list, k);
-        at = write_run(!goes(empty, place), place, spans, at);
+        at = write_run(!is_dropped(empty, place), place, spans, at);
         k += 1;
     }
     at
@@ -91,14 +91,14 @@ fn write_runs(
         match entry_at(list, i) {
             Entry::At(place, next) => {
                 let joins = joined(&table, run.matched, place.matched);
-                at = write_run(!joins & stays(behavior, empty, run), run, spans, at);
-                run = onward(joins, run, place);
+                at = write_run(!joins & is_kept_run(behavior, empty, run), run, spans, at);
+                run = extend_run(joins, run, place);
                 i = next;
             }
             Entry::Broken => break,
         }
     }
-    write_run(stays(behavior, empty, run), run, spans, at)
+    write_run(is_kept_run(behavior, empty, run), run, spans, at)
 }
 
 // The pieces of a list, in front of a column that has room for them; how many.

@@ -14,7 +14,7 @@ use Rattle.note.proofs.Sound.{length-starts, length-ends, inside-at}
 use Rattle.convert.specs.declared.Converted.the-variants.{Found}
 use Rattle.convert.specs.Converting.{inOriginal, inNormalized}
 use Rattle.convert.proofs.Conversions.{expanded-inside}
-use Rattle.get_range.specs.Reading.{asOriginal}
+use Rattle.convert.specs.Converting.{asOriginal}
 use Rattle.pattern.specs.declared.Place.{Place}
 use Rattle.pattern.specs.Places.{coversFrom}
 use Rattle.pattern.proofs.Places.{Span, covers-span, covers-rest}
@@ -25,15 +25,15 @@ use Rattle.behaviors.specs.declared.SplitDelimiterBehavior.{SplitDelimiterBehav
 use Rattle.behaviors.specs.declared.EmptyPieces.{EmptyPieces}
 use Rattle.behaviors.specs.Splits.{isPiece, remaining, splits, pieces}
 use Rattle.behaviors.specs.Joining.{startsOf, endsOf}
-use Rattle.behaviors.specs.Runs.{bytesOf}
+use Rattle.behaviors.specs.Runs.{totalLength}
 use Rattle.behaviors.proofs.Gathered.{splits-cover}
-use Rattle.split.specs.Splitting.{pieceOf, transcriptLength, cut}
+use Rattle.split.specs.Splitting.{pieceOf, originalLength, cut}
 use Rattle.split.specs.PieceSlices.{bytesBefore}
-use Rattle.split.specs.Writing.{fromStart, toEnd, shiftOf, lengthOf, columnOf, joined, Inside, Spans}
+use Rattle.split.specs.Writing.{fromStart, toEnd, shiftOf, lengthOf, loweredColumn, endToEnd, RangeInside, PieceSpans}
 use Rattle.split.proofs.Joined.{start-empty, start-read, end-empty, end-read}
 
 -- the slice of cleaned bytes a..b
-module _ (n : Note) (sound : Sound n) (a b : ℕ) (i : Inside (length (n .normalized)) a b) where
+module _ (n : Note) (sound : Sound n) (a b : ℕ) (i : RangeInside (length (n .normalized)) a b) where
   pub in-original : asOriginal (n .starts) (n .ends) (inNormalized a b) ≡ Found (inOriginal (fromStart (n .starts) a b) (toEnd (n .ends) a b))
   in-original =
       let past : b ≤ length (n .ends) = omega (arith, i .most, length-ends n sound) in
@@ -69,20 +69,20 @@ module _ (n : Note) (sound : Sound n) (a b : ℕ) (i : Inside (length (n .normal
   ends-above some k from to = omega (arith, starts-above some k from to, inside-at n sound k to .0)
 
 -- pairs of a list of pieces
-pub spans-first : {size a b : ℕ} {from to : List ℕ} → Spans size (a ∷ from) (b ∷ to) → Inside size a b
+pub spans-first : {size a b : ℕ} {from to : List ℕ} → PieceSpans size (a ∷ from) (b ∷ to) → RangeInside size a b
 spans-first s = s .each 0 (omega arith)
 
-pub spans-rest : {size a b : ℕ} {from to : List ℕ} → Spans size (a ∷ from) (b ∷ to) → Spans size from to
+pub spans-rest : {size a b : ℕ} {from to : List ℕ} → PieceSpans size (a ∷ from) (b ∷ to) → PieceSpans size from to
 spans-rest s = record { paired = omega (arith, s .paired); each = λ k h. s .each (suc k) (omega arith) }
 
-spans-cons : {size a b : ℕ} {from to : List ℕ} → Inside size a b → Spans size from to → Spans size (a ∷ from) (b ∷ to)
+spans-cons : {size a b : ℕ} {from to : List ℕ} → RangeInside size a b → PieceSpans size from to → PieceSpans size (a ∷ from) (b ∷ to)
 spans-cons {size} {a} {b} {from} {to} i s = record { paired = omega (arith, s .paired); each = each }
   where
-    each : (k : ℕ) → k < length (a ∷ from) → Inside size (getD (a ∷ from) k 0) (getD (b ∷ to) k 0)
+    each : (k : ℕ) → k < length (a ∷ from) → RangeInside size (getD (a ∷ from) k 0) (getD (b ∷ to) k 0)
     each zero h = i
     each (suc k) h = s .each k (omega arith)
 
-remaining-spans : (text : List ℕ) (at : ℕ) (e : EmptyPieces) (ps : List Place) → coversFrom text at ps ≡ true → Spans (length text) (startsOf (remaining e ps)) (endsOf (remaining e ps))
+remaining-spans : (text : List ℕ) (at : ℕ) (e : EmptyPieces) (ps : List Place) → coversFrom text at ps ≡ true → PieceSpans (length text) (startsOf (remaining e ps)) (endsOf (remaining e ps))
 unfolding remaining
 remaining-spans text at e [] c = record { paired = refl; each = λ k h. absurd (omega arith) }
 remaining-spans text at e (p ∷ ps) c =
@@ -92,13 +92,13 @@ remaining-spans text at e (p ∷ ps) c =
     (λ t. rw t (spans-cons (record { forward = omega (arith, span .from, span .onward); most = span .inside }) more))
     (λ f. rw f more)
 
-pub pieces-spans : (text : List ℕ) (b : SplitDelimiterBehavior) (e : EmptyPieces) (ps : List Place) → coversFrom text 0 ps ≡ true → Spans (length text) (startsOf (pieces b e ps)) (endsOf (pieces b e ps))
+pub pieces-spans : (text : List ℕ) (b : SplitDelimiterBehavior) (e : EmptyPieces) (ps : List Place) → coversFrom text 0 ps ≡ true → PieceSpans (length text) (startsOf (pieces b e ps)) (endsOf (pieces b e ps))
 unfolding pieces
 pieces-spans text b e ps c = remaining-spans text 0 e (splits b ps) (splits-cover text 0 b ps c)
 
 -- pieces have no more bytes than the text
-remaining-short : (text : List ℕ) (at : ℕ) (e : EmptyPieces) (ps : List Place) → coversFrom text at ps ≡ true → at + bytesOf (remaining e ps) ≤ length text
-unfolding remaining bytesOf coversFrom
+remaining-short : (text : List ℕ) (at : ℕ) (e : EmptyPieces) (ps : List Place) → coversFrom text at ps ≡ true → at + totalLength (remaining e ps) ≤ length text
+unfolding remaining totalLength coversFrom
 remaining-short text at e [] c = omega (arith, eqb-true at (length text) c)
 remaining-short text at e (p ∷ ps) c =
     let span : Span text at p = covers-span text at p ps c in
@@ -107,66 +107,66 @@ remaining-short text at e (p ∷ ps) c =
     (λ t. rw t (omega (arith, span .from, span .onward, more)))
     (λ f. rw f (omega (arith, span .from, span .onward, more)))
 
-pub pieces-short : (text : List ℕ) (b : SplitDelimiterBehavior) (e : EmptyPieces) (ps : List Place) → coversFrom text 0 ps ≡ true → bytesOf (pieces b e ps) ≤ length text
+pub pieces-short : (text : List ℕ) (b : SplitDelimiterBehavior) (e : EmptyPieces) (ps : List Place) → coversFrom text 0 ps ≡ true → totalLength (pieces b e ps) ≤ length text
 unfolding pieces
 pieces-short text b e ps c = omega (arith, remaining-short text 0 e (splits b ps) (splits-cover text 0 b ps c))
 
 -- counted by their starts and ends
-pub bytes-counted : (ps : List Place) → bytesBefore (startsOf ps) (endsOf ps) (length ps) ≡ bytesOf ps
-unfolding bytesBefore bytesOf
+pub bytes-counted : (ps : List Place) → bytesBefore (startsOf ps) (endsOf ps) (length ps) ≡ totalLength ps
+unfolding bytesBefore totalLength
 bytes-counted [] = refl
 bytes-counted (p ∷ ps) = ap (_+_ (p .end .0 - p .start .0)) (bytes-counted ps)
 
 -- THE COLUMNS
 module _ (n : Note) (sound : Sound n) where
-  shifts-joined : (ps : List Place) → Spans (length (n .normalized)) (startsOf ps) (endsOf ps) → map (λ p. pieceOf n p .«original_shift») ps ≡ joined (shiftOf (n .starts) (n .original-shift)) (startsOf ps) (endsOf ps)
-  unfolding joined shiftOf pieceOf sliceOf
+  shifts-joined : (ps : List Place) → PieceSpans (length (n .normalized)) (startsOf ps) (endsOf ps) → map (λ p. pieceOf n p .«original_shift») ps ≡ endToEnd (shiftOf (n .starts) (n .original-shift)) (startsOf ps) (endsOf ps)
+  unfolding endToEnd shiftOf pieceOf sliceOf
   shifts-joined [] s = refl
   shifts-joined (p ∷ ps) s = rw (sliced-as n sound (p .start .0) (p .end .0) (spans-first s), shifts-joined ps (spans-rest s))
 
-  lengths-joined : (ps : List Place) → Spans (length (n .normalized)) (startsOf ps) (endsOf ps) → map (λ p. transcriptLength (pieceOf n p)) ps ≡ joined (lengthOf (n .starts) (n .ends)) (startsOf ps) (endsOf ps)
-  unfolding joined lengthOf pieceOf sliceOf transcriptLength
+  lengths-joined : (ps : List Place) → PieceSpans (length (n .normalized)) (startsOf ps) (endsOf ps) → map (λ p. originalLength (pieceOf n p)) ps ≡ endToEnd (lengthOf (n .starts) (n .ends)) (startsOf ps) (endsOf ps)
+  unfolding endToEnd lengthOf pieceOf sliceOf originalLength
   lengths-joined [] s = refl
   lengths-joined (p ∷ ps) s = rw (sliced-as n sound (p .start .0) (p .end .0) (spans-first s), lengths-joined ps (spans-rest s))
 
-  column-joined : (column : List ℕ) (ps : List Place) → Spans (length (n .normalized)) (startsOf ps) (endsOf ps) → flatMap (λ p. slicedColumn (pieceOf n p) column) ps ≡ joined (columnOf (n .starts) column) (startsOf ps) (endsOf ps)
-  unfolding flatMap joined columnOf pieceOf sliceOf slicedColumn
+  column-joined : (column : List ℕ) (ps : List Place) → PieceSpans (length (n .normalized)) (startsOf ps) (endsOf ps) → flatMap (λ p. slicedColumn (pieceOf n p) column) ps ≡ endToEnd (loweredColumn (n .starts) column) (startsOf ps) (endsOf ps)
+  unfolding flatMap endToEnd loweredColumn pieceOf sliceOf slicedColumn
   column-joined column [] s = refl
   column-joined column (p ∷ ps) s = rw (sliced-as n sound (p .start .0) (p .end .0) (spans-first s), column-joined column ps (spans-rest s))
 
   -- as many alignments as the pieces have bytes
-  length-joined : (column : List ℕ) → length column ≡ length (n .normalized) → (ps : List Place) → Spans (length (n .normalized)) (startsOf ps) (endsOf ps) → length (joined (columnOf (n .starts) column) (startsOf ps) (endsOf ps)) ≡ bytesOf ps
-  unfolding joined columnOf bytesOf
+  length-joined : (column : List ℕ) → length column ≡ length (n .normalized) → (ps : List Place) → PieceSpans (length (n .normalized)) (startsOf ps) (endsOf ps) → length (endToEnd (loweredColumn (n .starts) column) (startsOf ps) (endsOf ps)) ≡ totalLength ps
+  unfolding endToEnd loweredColumn totalLength
   length-joined column one [] s = refl
   length-joined column one (p ∷ ps) s =
-      let first = columnOf (n .starts) column (p .start .0) (p .end .0) in
-      length-append first (joined (columnOf (n .starts) column) (startsOf ps) (endsOf ps))
+      let first = loweredColumn (n .starts) column (p .start .0) (p .end .0) in
+      length-append first (endToEnd (loweredColumn (n .starts) column) (startsOf ps) (endsOf ps))
       ∙ omega (arith, length-joined column one ps (spans-rest s), length-lowered (fromStart (n .starts) (p .start .0) (p .end .0)) (part column (p .start .0) (p .end .0)), length-part column (p .start .0) (p .end .0) (omega (arith, spans-first s .most)))
 
-  module _ (ps : List Place) (s : Spans (length (n .normalized)) (startsOf ps) (endsOf ps)) where
-    pub shifts-are : cut n ps .shifts ≡ joined (shiftOf (n .starts) (n .original-shift)) (startsOf ps) (endsOf ps)
+  module _ (ps : List Place) (s : PieceSpans (length (n .normalized)) (startsOf ps) (endsOf ps)) where
+    pub shifts-are : cut n ps .shifts ≡ endToEnd (shiftOf (n .starts) (n .original-shift)) (startsOf ps) (endsOf ps)
     unfolding cut
     shifts-are = shifts-joined ps s
 
-    pub lengths-are : cut n ps .lengths ≡ joined (lengthOf (n .starts) (n .ends)) (startsOf ps) (endsOf ps)
+    pub lengths-are : cut n ps .lengths ≡ endToEnd (lengthOf (n .starts) (n .ends)) (startsOf ps) (endsOf ps)
     unfolding cut
     lengths-are = lengths-joined ps s
 
-    pub alignment-starts-are : cut n ps .alignment-starts ≡ joined (columnOf (n .starts) (n .starts)) (startsOf ps) (endsOf ps)
+    pub alignment-starts-are : cut n ps .alignment-starts ≡ endToEnd (loweredColumn (n .starts) (n .starts)) (startsOf ps) (endsOf ps)
     unfolding cut
     alignment-starts-are = column-joined (n .starts) ps s
 
-    pub alignment-ends-are : cut n ps .alignment-ends ≡ joined (columnOf (n .starts) (n .ends)) (startsOf ps) (endsOf ps)
+    pub alignment-ends-are : cut n ps .alignment-ends ≡ endToEnd (loweredColumn (n .starts) (n .ends)) (startsOf ps) (endsOf ps)
     unfolding cut
     alignment-ends-are = column-joined (n .ends) ps s
 
-    pub starts-long : length (joined (columnOf (n .starts) (n .starts)) (startsOf ps) (endsOf ps)) ≡ bytesOf ps
+    pub starts-long : length (endToEnd (loweredColumn (n .starts) (n .starts)) (startsOf ps) (endsOf ps)) ≡ totalLength ps
     starts-long = length-joined (n .starts) (length-starts n sound) ps s
 
-    pub ends-long : length (joined (columnOf (n .starts) (n .ends)) (startsOf ps) (endsOf ps)) ≡ bytesOf ps
+    pub ends-long : length (endToEnd (loweredColumn (n .starts) (n .ends)) (startsOf ps) (endsOf ps)) ≡ totalLength ps
     ends-long = length-joined (n .ends) (length-ends n sound) ps s
 
-    pub alignments-long : length (cut n ps .alignment-starts) ≡ bytesOf ps
+    pub alignments-long : length (cut n ps .alignment-starts) ≡ totalLength ps
     alignments-long = ap length alignment-starts-are ∙ starts-long
 
 pub starts-are : (n : Note) (ps : List Place) → cut n ps .starts ≡ startsOf ps

@@ -1,4 +1,4 @@
--- Laws of `joined`: what pieces give, one behind the other, and a column that is being written piece by piece.
+-- Laws of `endToEnd`: what pieces give, one behind the other, and a column that is being written piece by piece.
 use Prim.Native.Nat.{ℕ, suc, _+_, _-_, _≤_, _<_}
 use mathlib.Core.Path.{_≡_, _∙_, ap, refl, sym}
 use mathlib.Core.List.{List, [], _∷_, _++_}
@@ -16,7 +16,7 @@ use Rattle.slice.specs.Writing.{Lowerable}
 use Rattle.slice.proofs.Lowered.{length-lowered, part-lowered}
 use Rattle.spans.proofs.Packing.{store-one}
 use Rattle.split.specs.PieceSlices.{bytesBefore}
-use Rattle.split.specs.Writing.{fromStart, toEnd, shiftOf, lengthOf, columnOf, joined, Inside, ShiftsRoom, LengthsRoom, ColumnRoom, ColumnsRoom, ColumnsLaid, BlockRoom, StretchRoom, BothRoom}
+use Rattle.split.specs.Writing.{fromStart, toEnd, shiftOf, lengthOf, loweredColumn, endToEnd, RangeInside, ShiftsRoom, LengthsRoom, PieceColumnRoom, ColumnsRoom, ColumnsLaid, LoweredBlockRoom, LoweredRoom, BothRoom}
 
 -- one range: by the code's test
 module _ (starts : List ℕ) (a b : ℕ) where
@@ -37,46 +37,46 @@ module _ (starts : List ℕ) (a b : ℕ) where
   end-read e = rw (ne-eqb a b e)
 
 -- the next piece, and those behind it
-pub joined-step : (f : ℕ → ℕ → List ℕ) (from to : List ℕ) (k : ℕ) → length from ≡ length to → k < length from → joined f (drop k from) (drop k to) ≡ f (getD from k 0) (getD to k 0) ++ joined f (drop (k + 1) from) (drop (k + 1) to)
-unfolding joined
+pub joined-step : (f : ℕ → ℕ → List ℕ) (from to : List ℕ) (k : ℕ) → length from ≡ length to → k < length from → endToEnd f (drop k from) (drop k to) ≡ f (getD from k 0) (getD to k 0) ++ endToEnd f (drop (k + 1) from) (drop (k + 1) to)
+unfolding endToEnd
 joined-step f from to k e h = rw (drop-cons from k 0 h, drop-cons to k 0 (omega arith), add-one k)
 
-pub joined-none : (f : ℕ → ℕ → List ℕ) (from to : List ℕ) (k : ℕ) → length from ≤ k → joined f (drop k from) (drop k to) ≡ []
-unfolding joined
+pub joined-none : (f : ℕ → ℕ → List ℕ) (from to : List ℕ) (k : ℕ) → length from ≤ k → endToEnd f (drop k from) (drop k to) ≡ []
+unfolding endToEnd
 joined-none f from to k h = rw (drop-of-length-le from h)
 
 -- what the first k pieces give stands in front of a column, up to `at`
 pub record Going (f : ℕ → ℕ → List ℕ) (from to out₀ : List ℕ) (at k : ℕ) (out : List ℕ) : Type 0 where
   pub most : k ≤ length from
-  pub laid : Reaching (joined f from to) (joined f (drop k from) (drop k to)) out₀ at out
+  pub laid : Reaching (endToEnd f from to) (endToEnd f (drop k from) (drop k to)) out₀ at out
 
-pub none-going : (f : ℕ → ℕ → List ℕ) (from to out₀ : List ℕ) → length (joined f from to) ≤ length out₀ → Going f from to out₀ 0 0 out₀
-none-going f from to out₀ h = record { most = omega arith; laid = none-reached (joined f from to) out₀ h }
+pub none-going : (f : ℕ → ℕ → List ℕ) (from to out₀ : List ℕ) → length (endToEnd f from to) ≤ length out₀ → Going f from to out₀ 0 0 out₀
+none-going f from to out₀ h = record { most = omega arith; laid = none-reached (endToEnd f from to) out₀ h }
 
 module _ (f : ℕ → ℕ → List ℕ) {from to out₀ : List ℕ} {at k : ℕ} {out : List ℕ} (g : Going f from to out₀ at k out) where
   module _ (pair : length from ≡ length to) (h : k < length from) where
-    here : Reaching (joined f from to) (f (getD from k 0) (getD to k 0) ++ joined f (drop (k + 1) from) (drop (k + 1) to)) out₀ at out
+    here : Reaching (endToEnd f from to) (f (getD from k 0) (getD to k 0) ++ endToEnd f (drop (k + 1) from) (drop (k + 1) to)) out₀ at out
     here = rw (joined-step f from to k pair h) at (g .laid)
 
     pub going-room : at + length (f (getD from k 0) (getD to k 0)) ≤ length out
-    going-room = omega (arith, here .room, length-append (f (getD from k 0) (getD to k 0)) (joined f (drop (k + 1) from) (drop (k + 1) to)))
+    going-room = omega (arith, here .room, length-append (f (getD from k 0) (getD to k 0)) (endToEnd f (drop (k + 1) from) (drop (k + 1) to)))
 
-    pub going-on : {until at₁ : ℕ} {out₁ : List ℕ} → until ≤ length (joined f from to) → at₁ ≡ at + length (f (getD from k 0) (getD to k 0)) → Over (f (getD from k 0) (getD to k 0)) out at until out₁ → Going f from to out₀ at₁ (k + 1) out₁
+    pub going-on : {until at₁ : ℕ} {out₁ : List ℕ} → until ≤ length (endToEnd f from to) → at₁ ≡ at + length (f (getD from k 0) (getD to k 0)) → Over (f (getD from k 0) (getD to k 0)) out at until out₁ → Going f from to out₀ at₁ (k + 1) out₁
     going-on below reach is =
         record {
           most = omega arith;
-          laid = run-reached (f (getD from k 0) (getD to k 0)) (joined f (drop (k + 1) from) (drop (k + 1) to)) here below reach is;
+          laid = run-reached (f (getD from k 0) (getD to k 0)) (endToEnd f (drop (k + 1) from) (drop (k + 1) to)) here below reach is;
         }
 
-  pub all-gone : length from ≤ k → out ≡ overlay (joined f from to) out₀
+  pub all-gone : length from ≤ k → out ≡ overlay (endToEnd f from to) out₀
   all-gone h = all-reached (rw (joined-none f from to k h) at (g .laid))
 
 -- where each piece gives one number
-ones : (f : ℕ → ℕ → List ℕ) → ((a b : ℕ) → length (f a b) ≡ 1) → (from to : List ℕ) → length from ≡ length to → length (joined f from to) ≡ length from
-unfolding joined
+ones : (f : ℕ → ℕ → List ℕ) → ((a b : ℕ) → length (f a b) ≡ 1) → (from to : List ℕ) → length from ≡ length to → length (endToEnd f from to) ≡ length from
+unfolding endToEnd
 ones f one [] to e = refl
 ones f one (a ∷ from) [] e = absurd (omega arith)
-ones f one (a ∷ from) (b ∷ to) e = length-append (f a b) (joined f from to) ∙ omega (arith, one a b, ones f one from to (omega arith))
+ones f one (a ∷ from) (b ∷ to) e = length-append (f a b) (endToEnd f from to) ∙ omega (arith, one a b, ones f one from to (omega arith))
 
 module _ {most : ℕ} {starts from to : List ℕ} {shift : ℕ} {out₀ : List ℕ} (r : ShiftsRoom most starts from to shift out₀) where
   pub none-shifted : Going (shiftOf starts shift) from to out₀ 0 0 out₀
@@ -101,7 +101,7 @@ module _ {starts ends from to out₀ : List ℕ} (r : LengthsRoom starts ends fr
       going-on (lengthOf starts ends) g (r .spans .paired) h {until = 0} (omega arith) refl (over-exact _ out k 0 (omega arith) (rw (end, start) (store-one out k _ room)))
 
 -- a stretch of a column: its room, for a block too, and what is laid
-module _ {column : List ℕ} {from to base : ℕ} {out : List ℕ} {at until : ℕ} (r : StretchRoom column from to base out at until) where
+module _ {column : List ℕ} {from to base : ℕ} {out : List ℕ} {at until : ℕ} (r : LoweredRoom column from to base out at until) where
   pub stretch-lowerable : Lowerable (part column from to) base out at
   stretch-lowerable =
       let long : length (part column from to) ≡ to - from = length-part column from to (r .source .inside) in
@@ -117,7 +117,7 @@ module _ {column : List ℕ} {from to base : ℕ} {out : List ℕ} {at until : �
       over-exact _ out at until (omega (arith, r .source .room, length-lowered base (part column from to), length-part column from to (r .source .inside))) is
 
   module _ (some : from < to) (inside : 16 ≤ length column - from) (below : at + 16 ≤ until) where
-    pub block-room : BlockRoom column from base out at
+    pub block-room : LoweredBlockRoom column from base out at
     block-room =
         record { inside = omega (arith, r .source .inside); room = omega (arith, r .source .until-room); above = r .above some }
 
@@ -128,7 +128,7 @@ module _ {column : List ℕ} {from to base : ℕ} {out : List ℕ} {at until : �
         rw front at (over-front (to - from) (over-exact _ out at until (omega (arith, block-room .room)) is) (omega arith) (omega (arith, block-room .room)) (omega arith))
 
 -- a block through a local array
-module _ {column : List ℕ} {i base : ℕ} {out : List ℕ} {at : ℕ} (r : BlockRoom column i base out at) where
+module _ {column : List ℕ} {i base : ℕ} {out : List ℕ} {at : ℕ} (r : LoweredBlockRoom column i base out at) where
   block-long : length (part column i (i + 16)) ≡ 16
   block-long = length-part column i (i + 16) (r .inside) ∙ omega arith
 
@@ -145,35 +145,35 @@ module _ {column : List ℕ} {i base : ℕ} {out : List ℕ} {at : ℕ} (r : Blo
   block-through block₀ e local is = through _ out at block₀ (omega (arith, length-lowered base (part column i (i + 16)), block-long)) local is
 
 -- a column, piece by piece
-module _ {starts column from to : List ℕ} {until : ℕ} {out₀ : List ℕ} (r : ColumnRoom starts column from to until out₀) {at k : ℕ} {out : List ℕ} (g : Going (columnOf starts column) from to out₀ at k out) (h : k < length from) {base : ℕ} (is : base ≡ fromStart starts (getD from k 0) (getD to k 0)) where
-  long : length (columnOf starts column (getD from k 0) (getD to k 0)) ≡ getD to k 0 - getD from k 0
-  unfolding columnOf
+module _ {starts column from to : List ℕ} {until : ℕ} {out₀ : List ℕ} (r : PieceColumnRoom starts column from to until out₀) {at k : ℕ} {out : List ℕ} (g : Going (loweredColumn starts column) from to out₀ at k out) (h : k < length from) {base : ℕ} (is : base ≡ fromStart starts (getD from k 0) (getD to k 0)) where
+  long : length (loweredColumn starts column (getD from k 0) (getD to k 0)) ≡ getD to k 0 - getD from k 0
+  unfolding loweredColumn
   long =
       length-lowered (fromStart starts (getD from k 0) (getD to k 0)) (part column (getD from k 0) (getD to k 0))
       ∙ length-part column (getD from k 0) (getD to k 0) (omega (arith, r .spans .each k h .most, r .one-each))
 
-  pub stretch-room : StretchRoom column (getD from k 0) (getD to k 0) base out at until
+  pub stretch-room : LoweredRoom column (getD from k 0) (getD to k 0) base out at until
   stretch-room =
       record {
         source = record {
           onward = r .spans .each k h .forward;
           inside = omega (arith, r .spans .each k h .most, r .one-each);
-          room = omega (arith, long, going-room (columnOf starts column) g (r .spans .paired) h);
+          room = omega (arith, long, going-room (loweredColumn starts column) g (r .spans .paired) h);
           until-room = omega (arith, r .below, r .room, g .laid .same);
         };
         above = λ some j low high. rw is (r .above k j h some low high);
       }
 
-  pub next-stretch : {out₁ : List ℕ} → Over (lowered base (part column (getD from k 0) (getD to k 0))) out at until out₁ → Going (columnOf starts column) from to out₀ (at + (getD to k 0 - getD from k 0)) (k + 1) out₁
-  unfolding columnOf
-  next-stretch w = going-on (columnOf starts column) g (r .spans .paired) h (r .below) (rw long) (rw is at w)
+  pub next-stretch : {out₁ : List ℕ} → Over (lowered base (part column (getD from k 0) (getD to k 0))) out at until out₁ → Going (loweredColumn starts column) from to out₀ (at + (getD to k 0 - getD from k 0)) (k + 1) out₁
+  unfolding loweredColumn
+  next-stretch w = going-on (loweredColumn starts column) g (r .spans .paired) h (r .below) (rw long) (rw is at w)
 
 -- all four
 pub record AllGoing (starts ends from to : List ℕ) (shift : ℕ) (shifts₀ lengths₀ outStarts₀ outEnds₀ : List ℕ) (at k : ℕ) (shifts lengths outStarts outEnds : List ℕ) : Type 0 where
   pub shifts-on : Going (shiftOf starts shift) from to shifts₀ k k shifts
   pub lengths-on : Going (lengthOf starts ends) from to lengths₀ k k lengths
-  pub starts-on : Going (columnOf starts starts) from to outStarts₀ at k outStarts
-  pub ends-on : Going (columnOf starts ends) from to outEnds₀ at k outEnds
+  pub starts-on : Going (loweredColumn starts starts) from to outStarts₀ at k outStarts
+  pub ends-on : Going (loweredColumn starts ends) from to outEnds₀ at k outEnds
 
 module _ {most : ℕ} {starts ends from to : List ℕ} {shift until : ℕ} {shifts₀ lengths₀ outStarts₀ outEnds₀ : List ℕ} (r : ColumnsRoom most starts ends from to shift until shifts₀ lengths₀ outStarts₀ outEnds₀) where
   pub none-gone : AllGoing starts ends from to shift shifts₀ lengths₀ outStarts₀ outEnds₀ 0 0 shifts₀ lengths₀ outStarts₀ outEnds₀
@@ -240,5 +240,5 @@ module _ {from to : List ℕ} {sum k : ℕ} (a : Adding from to sum k) where
       omega arith
 
 -- a range of one column is one of another that is as long
-pub inside-of : {size other a b : ℕ} → Inside size a b → other ≡ size → Inside other a b
+pub inside-of : {size other a b : ℕ} → RangeInside size a b → other ≡ size → RangeInside other a b
 inside-of i e = rw e i

@@ -8,13 +8,14 @@ use lib.ListN.{length, take, length-map}
 use borrow.Author.Tests.{not-true, not-false, le-leb, lt-leb}
 use Rattle.buffers.proofs.Splice.{take-overlay, overlay-long, length-overlay, overlay-overlay}
 use Rattle.note.specs.declared.Refusal.{Refusal}
-use Rattle.note.specs.declared.Refusal.the-variants.{BadMatches, NoRoom}
+use Rattle.note.specs.declared.Refusal.the-variants.{BadMatches, NoRoom, Misaligned}
 use Rattle.note.specs.declared.Verdict.{Verdict}
 use Rattle.note.specs.declared.Verdict.the-variants.{Accepted, Refused as Rejected}
 use Rattle.note.specs.Refusals.{also, verdict}
 use Rattle.note.specs.Notes.{Note, fits, Sound}
 use Rattle.note.specs.Faults.{noteFaults, roomFaults}
-use Rattle.note.proofs.Verdicts.{accepted-first, accepted-second, accepted-meets, refused-then, accepted-then}
+use Rattle.note.specs.Rank.{upTo}
+use Rattle.note.proofs.FirstMet.{accepted-first, accepted-second, accepted-meets, refused-then, accepted-then}
 use Rattle.note.proofs.Faults.{accepted-sound, room-enough}
 use Rattle.note.proofs.Sound.{length-starts, length-ends}
 use Rattle.pattern.specs.declared.Place.{Place}
@@ -26,14 +27,14 @@ use Rattle.behaviors.specs.declared.SplitDelimiterBehavior.{SplitDelimiterBehav
 use Rattle.behaviors.specs.declared.EmptyPieces.{EmptyPieces}
 use Rattle.behaviors.specs.declared.Sizes.{Sizes}
 use Rattle.behaviors.specs.Joining.{startsOf, endsOf}
-use Rattle.behaviors.specs.Runs.{bytesOf, sizesWith, listPieces, Listed}
+use Rattle.behaviors.specs.Runs.{totalLength, sizesWith, listPieces, Listed}
 use Rattle.behaviors.proofs.Runs.{pieces-few}
-use Rattle.spans.specs.Packing.{packed, packedOf, SpansRoom, SpansLaid}
+use Rattle.spans.specs.Packing.{packedSpan, packedOf, SpansRoom, SpansLaid}
 use Rattle.split.specs.declared.Pieces.{Pieces}
 use Rattle.split.specs.declared.Pieces.the-variants.{Cut, Refused}
-use Rattle.split.specs.Splitting.{Columns, cutBy, splitFaults, cutUnlessRefused, pieceRoom, alignmentRoom, Splitting}
+use Rattle.split.specs.Splitting.{PieceColumns, cutBy, splitFaults, cutUnlessRefused, pieceRoom, alignmentRoom, Splitting}
 use Rattle.split.specs.PieceSlices.{bytesBefore}
-use Rattle.split.specs.Writing.{Spans, ColumnsRoom, ColumnsLaid, Countable, CutInto}
+use Rattle.split.specs.Writing.{PieceSpans, ColumnsRoom, ColumnsLaid, Countable, CutInto}
 use Rattle.split.proofs.Cuts.{pieces-spans, pieces-short, bytes-counted, in-order, starts-above, ends-above, shifts-are, lengths-are, alignment-starts-are, alignment-ends-are, starts-long, ends-long, alignments-long, starts-are, ends-are, pieces-long, shifts-long}
 
 -- the list, then the two rooms
@@ -76,11 +77,11 @@ module _ (most : ℕ) (n : Note) (list : List ℕ) (b : SplitDelimiterBehavior) 
   said = verdict (splitFaults most n list b e forPieces forAlignments)
 
   pub note-refused : {k : Refusal} → v ≡ Rejected k → Rejected k ≡ said
-  note-refused is = refused-then 4 (noteFaults most n) listed refl refl noted is
+  note-refused is = refused-then (upTo Misaligned) (noteFaults most n) listed refl refl noted is
 
   module _ (ok : v ≡ Accepted) {t : Bool} (covering : t ≡ covers (n .normalized) list) where
     by-list : (u : Verdict) → u ≡ verdict listed → u ≡ said
-    by-list u w = accepted-then 4 (noteFaults most n) listed refl refl noted ok w
+    by-list u w = accepted-then (upTo Misaligned) (noteFaults most n) listed refl refl noted ok w
 
     pub list-refused : not t ≡ true → Rejected BadMatches ≡ said
     list-refused is = by-list (Rejected BadMatches) (bad-list (n .normalized) list _ _ forPieces forAlignments (sym covering ∙ not-true t is))
@@ -92,7 +93,7 @@ module _ (most : ℕ) (n : Note) (list : List ℕ) (b : SplitDelimiterBehavior) 
       sound : Sound n
       sound = accepted-sound most n (sym noted ∙ ok) .0
 
-      bytes-long : length (cutBy n list b e .alignment-starts) ≡ bytesOf (listPieces b e list)
+      bytes-long : length (cutBy n list b e .alignment-starts) ≡ totalLength (listPieces b e list)
       bytes-long = alignments-long n sound (listPieces b e list) (pieces-spans (n .normalized) b e (placesOf list) (covers-places (n .normalized) list covers-it))
 
       -- as many pieces as places, and no more bytes than the text has
@@ -112,7 +113,7 @@ module _ (most : ℕ) (n : Note) (list : List ℕ) (b : SplitDelimiterBehavior) 
         bytes-are : s .bytes ≡ length (cutBy n list b e .alignment-starts)
         unfolding sizesWith
         bytes-are =
-            let z : s .bytes ≡ 0 + bytesOf (listPieces b e list) = ap (λ (x : Sizes). x .bytes) sizes in
+            let z : s .bytes ≡ 0 + totalLength (listPieces b e list) = ap (λ (x : Sizes). x .bytes) sizes in
             omega (arith, z, bytes-long)
 
         pub no-piece-room : forPieces < s .pieces → Rejected NoRoom ≡ said
@@ -157,31 +158,31 @@ module _ (most : ℕ) (n : Note) (list : List ℕ) (b : SplitDelimiterBehavior) 
   rooms-ok : verdict rooms ≡ Accepted
   rooms-ok = accepted-second (listFaults (n .normalized) list) rooms rest-ok
 
-  pub cut-spans : Spans (length (n .normalized)) (startsOf (listPieces b e list)) (endsOf (listPieces b e list))
+  pub cut-spans : PieceSpans (length (n .normalized)) (startsOf (listPieces b e list)) (endsOf (listPieces b e list))
   cut-spans = pieces-spans (n .normalized) b e (placesOf list) cut-covered
 
   pub pieces-fit : length (listPieces b e list) ≤ forPieces
   pieces-fit =
       omega (arith, pieces-long n (listPieces b e list), room-enough (length (cutBy n list b e .starts)) forPieces (accepted-first (roomFaults (length (cutBy n list b e .starts)) forPieces) (roomFaults (length (cutBy n list b e .alignment-starts)) forAlignments) rooms-ok))
 
-  pub alignments-fit : bytesOf (listPieces b e list) ≤ forAlignments
+  pub alignments-fit : totalLength (listPieces b e list) ≤ forAlignments
   alignments-fit =
       omega (arith, alignments-long n cut-sound (listPieces b e list) cut-spans, room-enough (length (cutBy n list b e .alignment-starts)) forAlignments (accepted-second (roomFaults (length (cutBy n list b e .starts)) forPieces) (roomFaults (length (cutBy n list b e .alignment-starts)) forAlignments) rooms-ok))
 
-module _ (most : ℕ) (n : Note) (list : List ℕ) (b : SplitDelimiterBehavior) (e : EmptyPieces) (c : Columns) (ok : verdict (splitFaults most n list b e (pieceRoom c) (alignmentRoom c)) ≡ Accepted) where
+module _ (most : ℕ) (n : Note) (list : List ℕ) (b : SplitDelimiterBehavior) (e : EmptyPieces) (c : PieceColumns) (ok : verdict (splitFaults most n list b e (pieceRoom c) (alignmentRoom c)) ≡ Accepted) where
   abbrev ps : List Place
   ps = listPieces b e list
 
   fit : length ps ≤ pieceRoom c
   fit = pieces-fit most n list b e (pieceRoom c) (alignmentRoom c) ok
 
-  long : bytesOf ps ≤ alignmentRoom c
+  long : totalLength ps ≤ alignmentRoom c
   long = alignments-fit most n list b e (pieceRoom c) (alignmentRoom c) ok
 
   good : Sound n
   good = cut-sound most n list b e (pieceRoom c) (alignmentRoom c) ok
 
-  inside : Spans (length (n .normalized)) (startsOf ps) (endsOf ps)
+  inside : PieceSpans (length (n .normalized)) (startsOf ps) (endsOf ps)
   inside = cut-spans most n list b e (pieceRoom c) (alignmentRoom c) ok
 
   pub spans-room : SpansRoom most list b e (c .shifts) (c .starts) (c .ends)
@@ -198,7 +199,7 @@ module _ (most : ℕ) (n : Note) (list : List ℕ) (b : SplitDelimiterBehavior) 
 
   module _ {count : ℕ} {packings starts ends : List ℕ} (l : SpansLaid ps (c .shifts) (c .starts) (c .ends) count packings starts ends) where
     packings-long : length packings ≡ length (c .shifts)
-    packings-long = rw (l .spans-are) (length-overlay (packedOf ps) (c .shifts) (rw (length-map ps packed) (omega (arith, fit))))
+    packings-long = rw (l .spans-are) (length-overlay (packedOf ps) (c .shifts) (rw (length-map ps packedSpan) (omega (arith, fit))))
 
     starts-count : length (startsOf ps) ≡ count
     starts-count = length-map ps (λ (p : Place). p .start .0) ∙ sym (l .reach)
@@ -218,7 +219,7 @@ module _ (most : ℕ) (n : Note) (list : List ℕ) (b : SplitDelimiterBehavior) 
     to-is : take count ends ≡ endsOf ps
     to-is = rw (l .ends-are, ← ends-count) (take-overlay (endsOf ps) (c .ends))
 
-    spans-of : Spans (length (n .starts)) (startsOf ps) (endsOf ps)
+    spans-of : PieceSpans (length (n .starts)) (startsOf ps) (endsOf ps)
     spans-of = rw (length-starts n good) inside
 
     pub countable : Countable most (take count starts) (take count ends)
@@ -231,7 +232,7 @@ module _ (most : ℕ) (n : Note) (list : List ℕ) (b : SplitDelimiterBehavior) 
         })
 
     module _ {alignments : ℕ} (total : alignments ≡ bytesBefore (take count starts) (take count ends) (length (take count starts))) where
-      total-is : alignments ≡ bytesOf ps
+      total-is : alignments ≡ totalLength ps
       total-is = total ∙ rw (from-is, to-is, length-map ps (λ (p : Place). p .start .0)) (bytes-counted ps)
 
       pub columns-room : ColumnsRoom most (n .starts) (n .ends) (take count starts) (take count ends) (n .original-shift) alignments packings (c .lengths) (c .alignment-starts) (c .alignment-ends)
@@ -275,21 +276,21 @@ module _ (most : ℕ) (n : Note) (list : List ℕ) (b : SplitDelimiterBehavior) 
             answer = λ i. Cut (counts i) (bytes i);
             starts-are = l .starts-are ∙ rw (starts-are n ps);
             ends-are = l .ends-are ∙ rw (ends-are n ps);
-            shifts-are = w .shifts-are ∙ rw (from-is, to-is, shifts-are n good ps inside, l .spans-are) (overlay-overlay _ (packedOf ps) (c .shifts) (ap length (sym (shifts-are n good ps inside)) ∙ shifts-long n ps packed));
+            shifts-are = w .shifts-are ∙ rw (from-is, to-is, shifts-are n good ps inside, l .spans-are) (overlay-overlay _ (packedOf ps) (c .shifts) (ap length (sym (shifts-are n good ps inside)) ∙ shifts-long n ps packedSpan));
             lengths-are = w .lengths-are ∙ rw (from-is, to-is, lengths-are n good ps inside);
             alignment-starts-are = w .starts-are ∙ rw (from-is, to-is, alignment-starts-are n good ps inside);
             alignment-ends-are = w .ends-are ∙ rw (from-is, to-is, alignment-ends-are n good ps inside);
           }
 
 -- THE CALL
-pub cut-told : (v : Verdict) (c : Columns) {x y : ℕ} → Cut x y ≡ cutUnlessRefused v c → v ≡ Accepted
+pub cut-told : (v : Verdict) (c : PieceColumns) {x y : ℕ} → Cut x y ≡ cutUnlessRefused v c → v ≡ Accepted
 cut-told Accepted c e = refl
 cut-told (Rejected k) c e = let z : _≡_ {A = ℕ} 0 1 = cc in absurd (omega arith)
 
-pub count-told : {v : Verdict} (c : Columns) {x y : ℕ} → v ≡ Accepted → Cut x y ≡ cutUnlessRefused v c → x ≡ length (c .starts)
+pub count-told : {v : Verdict} (c : PieceColumns) {x y : ℕ} → v ≡ Accepted → Cut x y ≡ cutUnlessRefused v c → x ≡ length (c .starts)
 count-told c {x = x} {y = y} a e = let z : Cut x y ≡ Cut (length (c .starts)) (length (c .alignment-starts)) = rw a at e in cc
 
-module _ (most : ℕ) (n : Note) (list : List ℕ) (b : SplitDelimiterBehavior) (e : EmptyPieces) (c : Columns) {v : Verdict} {spans numbers forPieces forAlignments : ℕ}
+module _ (most : ℕ) (n : Note) (list : List ℕ) (b : SplitDelimiterBehavior) (e : EmptyPieces) (c : PieceColumns) {v : Verdict} {spans numbers forPieces forAlignments : ℕ}
     (first : spans ≡ min (length (c .starts)) (length (c .ends))) (second : numbers ≡ min (length (c .shifts)) (length (c .lengths))) (third : forPieces ≡ min spans numbers) (fourth : forAlignments ≡ alignmentRoom c)
     (says : v ≡ verdict (splitFaults most n list b e forPieces forAlignments)) where
   whole : v ≡ verdict (splitFaults most n list b e (pieceRoom c) (alignmentRoom c))
@@ -313,7 +314,7 @@ module _ (most : ℕ) (n : Note) (list : List ℕ) (b : SplitDelimiterBehavior) 
     pub split-accepted : verdict (splitFaults most n list b e (pieceRoom c) (alignmentRoom c)) ≡ Accepted
     split-accepted = sym whole ∙ is
 
-    pub split-cut : {r : Pieces} {c₁ : Columns} → CutInto n list b e c r c₁ → Splitting most n list b e c r c₁
+    pub split-cut : {r : Pieces} {c₁ : PieceColumns} → CutInto n list b e c r c₁ → Splitting most n list b e c r c₁
     split-cut w =
         record {
           says = Accepted;

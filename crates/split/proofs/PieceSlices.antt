@@ -18,7 +18,7 @@ use Rattle.note.specs.declared.Verdict.the-variants.{Accepted}
 use Rattle.note.specs.Refusals.{none, meets, verdict, after}
 use Rattle.note.specs.Notes.{Note, Sound}
 use Rattle.note.specs.Faults.{noteFaults}
-use Rattle.note.proofs.Verdicts.{accepted-first, both-accepted}
+use Rattle.note.proofs.FirstMet.{accepted-first, both-accepted}
 use Rattle.note.proofs.Faults.{enough-room}
 use Rattle.note.proofs.Sound.{length-starts, length-ends, normalized-formed}
 use Rattle.convert.specs.Converting.{inNormalized}
@@ -29,7 +29,7 @@ use Rattle.pattern.proofs.Places.{Span, covers-span, covers-rest}
 use Rattle.slice.specs.declared.NoteSlice.{NoteSlice}
 use Rattle.slice.specs.declared.Sliced.{Sliced}
 use Rattle.slice.specs.declared.Sliced.the-variants.{Cut as Slice}
-use Rattle.slice.specs.Slicing.{valid, sliceOf, sliced, slicedColumn, sliceSize, unplaced, sliceMissing, sliceFaults, slicedUnlessRefused, normalizedStart, normalizedEnd, Slicing}
+use Rattle.slice.specs.Slicing.{validRange, sliceOf, sliced, slicedColumn, sliceSize, unplaced, sliceMissing, sliceFaults, slicedUnlessRefused, normalizedStart, normalizedEnd, Slicing}
 use Rattle.slice.proofs.Lowered.{length-lowered}
 use Rattle.slice.proofs.Cutting.{normalized-own}
 use Rattle.behaviors.specs.declared.SplitDelimiterBehavior.{SplitDelimiterBehavior}
@@ -39,9 +39,9 @@ use Rattle.behaviors.specs.Joining.{startsOf, endsOf}
 use Rattle.behaviors.specs.Runs.{listPieces}
 use Rattle.behaviors.proofs.Gathered.{splits-cover}
 use Rattle.split.specs.declared.Pieces.the-variants.{Cut}
-use Rattle.split.specs.Splitting.{Columns, pieceOf, transcriptLength, cut, cutBy, splitFaults, pieceRoom, alignmentRoom, Splitting}
+use Rattle.split.specs.Splitting.{PieceColumns, pieceOf, originalLength, cut, cutBy, splitFaults, pieceRoom, alignmentRoom, Splitting}
 use Rattle.split.specs.PieceSlices.{bytesBefore, stretchOf, Answers, PieceIsSlice}
-use Rattle.split.specs.Writing.{fromStart, Inside, Spans}
+use Rattle.split.specs.Writing.{fromStart, RangeInside, PieceSpans}
 use Rattle.split.proofs.Cuts.{in-original, sliced-as, spans-first, spans-rest}
 use Rattle.split.proofs.Judged.{cut-told, count-told, cut-sound, cut-covered, cut-spans}
 
@@ -68,9 +68,9 @@ unfolding pieces
 pieces-standing text b e ps c z = remaining-standing text 0 e (splits b ps) (splits-cover text 0 b ps c) z
 
 -- a cleaned range that stands on boundaries is sliced
-module _ (most : ℕ) (n : Note) (noted : verdict (noteFaults most n) ≡ Accepted) (sound : Sound n) (a b : ℕ) (i : Inside (length (n .normalized)) a b) (low : boundary (n .normalized) a ≡ true) (high : boundary (n .normalized) b ≡ true) where
-  valid-range : Accepted ≡ verdict (meets NotBoundary (not (valid (n .original) (n .normalized) (inNormalized a b))) none)
-  unfolding verdict valid
+module _ (most : ℕ) (n : Note) (noted : verdict (noteFaults most n) ≡ Accepted) (sound : Sound n) (a b : ℕ) (i : RangeInside (length (n .normalized)) a b) (low : boundary (n .normalized) a ≡ true) (high : boundary (n .normalized) b ≡ true) where
+  valid-range : Accepted ≡ verdict (meets NotBoundary (not (validRange (n .original) (n .normalized) (inNormalized a b))) none)
+  unfolding verdict validRange
   valid-range = rw (low, high)
 
   placed : Accepted ≡ verdict (meets Missing (sliceMissing n (inNormalized a b)) none)
@@ -85,7 +85,7 @@ module _ (most : ℕ) (n : Note) (noted : verdict (noteFaults most n) ≡ Accept
   range-accepted room h =
       both-accepted _ _ noted (both-accepted _ _ (sym valid-range) (both-accepted _ _ (sym placed) (sym (enough-room {size = sliceSize (sliced n (inNormalized a b))} {room = room} (omega (arith, size))))))
 
-module _ (n : Note) (sound : Sound n) (a b : ℕ) (i : Inside (length (n .normalized)) a b) where
+module _ (n : Note) (sound : Sound n) (a b : ℕ) (i : RangeInside (length (n .normalized)) a b) where
   start-own : normalizedStart (sliced n (inNormalized a b)) ≡ a
   unfolding sliceOf
   start-own = rw (sliced-as n sound a b i)
@@ -105,21 +105,21 @@ module _ (n : Note) (sound : Sound n) where
   shift-at (p ∷ ps) zero h = refl
   shift-at (p ∷ ps) (suc k) h = shift-at ps k (omega arith)
 
-  length-at : (ps : List Place) (k : ℕ) → k < length ps → transcriptLength (sliceAt ps k) ≡ getD (map (λ p. transcriptLength (pieceOf n p)) ps) k 0
+  length-at : (ps : List Place) (k : ℕ) → k < length ps → originalLength (sliceAt ps k) ≡ getD (map (λ p. originalLength (pieceOf n p)) ps) k 0
   unfolding pieceOf
   length-at [] k h = absurd (omega arith)
   length-at (p ∷ ps) zero h = refl
   length-at (p ∷ ps) (suc k) h = length-at ps k (omega arith)
 
   -- how many alignments a piece gives
-  length-first : (column : List ℕ) → length column ≡ length (n .normalized) → (p : Place) → Inside (length (n .normalized)) (p .start .0) (p .end .0) → length (slicedColumn (pieceOf n p) column) ≡ p .end .0 - p .start .0
+  length-first : (column : List ℕ) → length column ≡ length (n .normalized) → (p : Place) → RangeInside (length (n .normalized)) (p .start .0) (p .end .0) → length (slicedColumn (pieceOf n p) column) ≡ p .end .0 - p .start .0
   unfolding pieceOf sliceOf slicedColumn
   length-first column one p i =
       rw (sliced-as n sound (p .start .0) (p .end .0) i)
       (length-lowered (fromStart (n .starts) (p .start .0) (p .end .0)) (part column (p .start .0) (p .end .0)) ∙ length-part column (p .start .0) (p .end .0) (omega (arith, i .most)))
 
   -- its stretch of the column, whatever stands behind all of them
-  stretch-at : (column : List ℕ) → length column ≡ length (n .normalized) → (ps : List Place) → Spans (length (n .normalized)) (startsOf ps) (endsOf ps) → (d : List ℕ) (k : ℕ) → k < length ps
+  stretch-at : (column : List ℕ) → length column ≡ length (n .normalized) → (ps : List Place) → PieceSpans (length (n .normalized)) (startsOf ps) (endsOf ps) → (d : List ℕ) (k : ℕ) → k < length ps
       → part (flatMap (λ p. slicedColumn (pieceOf n p) column) ps ++ d) (bytesBefore (startsOf ps) (endsOf ps) k) (bytesBefore (startsOf ps) (endsOf ps) (suc k)) ≡ slicedColumn (sliceAt ps k) column
   unfolding bytesBefore flatMap pieceOf
   stretch-at column one [] s d k h = absurd (omega arith)
@@ -154,7 +154,7 @@ slice-told a e = e ∙ rw a
 after-told : {v : Verdict} (x d : List ℕ) {y : List ℕ} → v ≡ Accepted → y ≡ after v x d → y ≡ overlay x d
 after-told x d a e = e ∙ rw a
 
-module _ (most : ℕ) (n : Note) (list : List ℕ) (b : SplitDelimiterBehavior) (e : EmptyPieces) (c₀ c : Columns) (count alignments : ℕ) (call : Splitting most n list b e c₀ (Cut count alignments) c) where
+module _ (most : ℕ) (n : Note) (list : List ℕ) (b : SplitDelimiterBehavior) (e : EmptyPieces) (c₀ c : PieceColumns) (count alignments : ℕ) (call : Splitting most n list b e c₀ (Cut count alignments) c) where
   abbrev all : List Place
   all = listPieces b e list
 
@@ -167,7 +167,7 @@ module _ (most : ℕ) (n : Note) (list : List ℕ) (b : SplitDelimiterBehavior) 
   good : Sound n
   good = cut-sound most n list b e (pieceRoom c₀) (alignmentRoom c₀) ok
 
-  spans : Spans (length (n .normalized)) (startsOf all) (endsOf all)
+  spans : PieceSpans (length (n .normalized)) (startsOf all) (endsOf all)
   spans = cut-spans most n list b e (pieceRoom c₀) (alignmentRoom c₀) ok
 
   standing : Standing (n .normalized) all
@@ -188,7 +188,7 @@ module _ (most : ℕ) (n : Note) (list : List ℕ) (b : SplitDelimiterBehavior) 
   unfolding cut
   shifts-now = after-told _ _ accepts (call .shifts-are)
 
-  lengths-now : c .lengths ≡ overlay (map (λ p. transcriptLength (pieceOf n p)) all) (c₀ .lengths)
+  lengths-now : c .lengths ≡ overlay (map (λ p. originalLength (pieceOf n p)) all) (c₀ .lengths)
   unfolding cut
   lengths-now = after-told _ _ accepts (call .lengths-are)
 
@@ -236,7 +236,7 @@ module _ (most : ℕ) (n : Note) (list : List ℕ) (b : SplitDelimiterBehavior) 
         → Slicing most n (inNormalized (getD (c .starts) k 0) (getD (c .ends) k 0)) starts₀ ends₀ r starts ends → Answers c k starts₀ ends₀ r starts ends
     piece-answers starts₀ ends₀ r starts ends rs re w =
         let at : k < length (startsOf all) = omega (arith, counted, length-map all (λ (p : Place). p .start .0)) in
-        let in-text : Inside (length (n .normalized)) (getD (c .starts) k 0) (getD (c .ends) k 0) = rw (start-at, end-at) (spans .each k at) in
+        let in-text : RangeInside (length (n .normalized)) (getD (c .starts) k 0) (getD (c .ends) k 0) = rw (start-at, end-at) (spans .each k at) in
         let stands = standing k (omega (arith, counted)) in
         let taken : w .says ≡ Accepted = w .says-is ∙ range-accepted most n noted good _ _ in-text (rw start-at (stands .0)) (rw end-at (stands .1)) (min (length starts₀) (length ends₀)) (omega arith) in
         let own = sliced-as n good _ _ in-text in
@@ -248,7 +248,7 @@ module _ (most : ℕ) (n : Note) (list : List ℕ) (b : SplitDelimiterBehavior) 
                 start-is = start-own n good _ _ in-text;
                 end-is = end-own n good _ _ in-text;
                 shift-is = ap (λ (s : NoteSlice). s .«original_shift») the-slice ∙ shift-at n good all k (omega (arith, counted)) ∙ sym (ap (λ (xs : List ℕ). getD xs k 0) shifts-now ∙ getD-overlay _ (c₀ .shifts) k (omega (arith, counted, length-map all (λ (p : Place). pieceOf n p .«original_shift»))));
-                length-is = ap transcriptLength the-slice ∙ length-at n good all k (omega (arith, counted)) ∙ sym (ap (λ (xs : List ℕ). getD xs k 0) lengths-now ∙ getD-overlay _ (c₀ .lengths) k (omega (arith, counted, length-map all (λ (p : Place). transcriptLength (pieceOf n p)))));
+                length-is = ap originalLength the-slice ∙ length-at n good all k (omega (arith, counted)) ∙ sym (ap (λ (xs : List ℕ). getD xs k 0) lengths-now ∙ getD-overlay _ (c₀ .lengths) k (omega (arith, counted, length-map all (λ (p : Place). originalLength (pieceOf n p)))));
                 starts-are = after-told _ _ taken (w .starts-are) ∙ ap (λ (x : List ℕ). overlay x starts₀) (ap (λ (s : NoteSlice). slicedColumn s (n .starts)) the-slice ∙ sym stretch-starts);
                 ends-are = after-told _ _ taken (w .ends-are) ∙ ap (λ (x : List ℕ). overlay x ends₀) (ap (λ (s : NoteSlice). slicedColumn s (n .ends)) the-slice ∙ sym stretch-ends);
               };

@@ -13,7 +13,7 @@ use Rattle.slice.specs.Slicing.{normalizedStart, normalizedEnd, Slicing}
 use Rattle.behaviors.specs.declared.SplitDelimiterBehavior.{SplitDelimiterBehavior}
 use Rattle.behaviors.specs.declared.EmptyPieces.{EmptyPieces}
 use Rattle.split.specs.declared.Pieces.the-variants.{Cut}
-use Rattle.split.specs.Splitting.{Columns, transcriptLength, Splitting}
+use Rattle.split.specs.Splitting.{PieceColumns, originalLength, Splitting}
 
 -- how many bytes the first k pieces have together, by their starts and ends; so where the next one's alignments begin
 unfoldable pub bytesBefore : List ℕ → List ℕ → ℕ → ℕ
@@ -23,21 +23,21 @@ bytesBefore (a ∷ from) [] (suc k) = 0
 bytesBefore (a ∷ from) (b ∷ to) (suc k) = (b - a) + bytesBefore from to k
 
 -- the stretch of a column of alignments that the piece at k has
-abbrev pub stretchOf : Columns → ℕ → List ℕ → List ℕ
+abbrev pub stretchOf : PieceColumns → ℕ → List ℕ → List ℕ
 stretchOf c k column =
     part column (bytesBefore (c .starts) (c .ends) k) (bytesBefore (c .starts) (c .ends) (suc k))
 
 -- the slice s, with these alignments in front of the columns that were lent for it, is the piece at k
-pub record IsPiece (c : Columns) (k : ℕ) (starts₀ ends₀ : List ℕ) (s : NoteSlice) (starts ends : List ℕ) : Type 0 where
+pub record IsPiece (c : PieceColumns) (k : ℕ) (starts₀ ends₀ : List ℕ) (s : NoteSlice) (starts ends : List ℕ) : Type 0 where
   pub start-is : normalizedStart s ≡ getD (c .starts) k 0
   pub end-is : normalizedEnd s ≡ getD (c .ends) k 0
   pub shift-is : s .«original_shift» ≡ getD (c .shifts) k 0
-  pub length-is : transcriptLength s ≡ getD (c .lengths) k 0
+  pub length-is : originalLength s ≡ getD (c .lengths) k 0
   pub starts-are : starts ≡ overlay (stretchOf c k (c .alignment-starts)) starts₀
   pub ends-are : ends ≡ overlay (stretchOf c k (c .alignment-ends)) ends₀
 
 -- an answer of `slice` is that slice
-pub record Answers (c : Columns) (k : ℕ) (starts₀ ends₀ : List ℕ) (r : Sliced) (starts ends : List ℕ) : Type 0 where
+pub record Answers (c : PieceColumns) (k : ℕ) (starts₀ ends₀ : List ℕ) (r : Sliced) (starts ends : List ℕ) : Type 0 where
   pub slice : NoteSlice
   pub answer : r ≡ Slice slice
   pub is-piece : IsPiece c k starts₀ ends₀ slice starts ends
@@ -46,7 +46,7 @@ pub record Answers (c : Columns) (k : ℕ) (starts₀ ends₀ : List ℕ) (r : S
 -- cleaned range and columns that have room for it, is accepted, and answers and writes that very piece.
 abbrev pub PieceIsSlice : Type 0
 PieceIsSlice =
-    (most : ℕ) (n : Note) (list : List ℕ) (behavior : SplitDelimiterBehavior) (empty : EmptyPieces) (c₀ c : Columns)
+    (most : ℕ) (n : Note) (list : List ℕ) (behavior : SplitDelimiterBehavior) (empty : EmptyPieces) (c₀ c : PieceColumns)
     (pieces alignments : ℕ) → Splitting most n list behavior empty c₀ (Cut pieces alignments) c
     → (k : ℕ) → k < pieces → (starts₀ ends₀ : List ℕ) (r : Sliced) (starts ends : List ℕ)
     → getD (c .ends) k 0 - getD (c .starts) k 0 ≤ length starts₀

@@ -29,12 +29,12 @@ unfoldable pub pieceOf : Note → Place → NoteSlice
 pieceOf n p = sliced n (Normalized (p .start) (p .end))
 
 -- how many bytes its transcript has
-unfoldable pub transcriptLength : NoteSlice → ℕ
-transcriptLength s = originalEnd s - originalStart s
+unfoldable pub originalLength : NoteSlice → ℕ
+originalLength s = originalEnd s - originalStart s
 
 -- RULES 11.6: the pieces of a note in columns: for each piece its cleaned start and end, its shift and its transcript's
 -- length; and the pieces' alignments, end to end
-pub record Columns : Type 0 where
+pub record PieceColumns : Type 0 where
   pub starts : List ℕ
   pub ends : List ℕ
   pub shifts : List ℕ
@@ -42,19 +42,19 @@ pub record Columns : Type 0 where
   pub alignment-starts : List ℕ
   pub alignment-ends : List ℕ
 
-unfoldable pub cut : Note → List Place → Columns
+unfoldable pub cut : Note → List Place → PieceColumns
 cut n ps =
     record {
       starts = startsOf ps;
       ends = endsOf ps;
       shifts = map (λ p. pieceOf n p .«original_shift») ps;
-      lengths = map (λ p. transcriptLength (pieceOf n p)) ps;
+      lengths = map (λ p. originalLength (pieceOf n p)) ps;
       alignment-starts = flatMap (λ p. slicedColumn (pieceOf n p) (n .starts)) ps;
       alignment-ends = flatMap (λ p. slicedColumn (pieceOf n p) (n .ends)) ps;
     }
 
 -- the note cut by a list under a behaviour
-abbrev pub cutBy : Note → List ℕ → SplitDelimiterBehavior → EmptyPieces → Columns
+abbrev pub cutBy : Note → List ℕ → SplitDelimiterBehavior → EmptyPieces → PieceColumns
 cutBy n list behavior empty = cut n (pieces behavior empty (placesOf list))
 
 -- the refusals: the note's, then the list's, then the rooms' for the pieces and for their alignments
@@ -66,12 +66,12 @@ splitFaults most n list behavior empty forPieces forAlignments =
     (roomFaults (length (cutBy n list behavior empty .alignment-starts)) forAlignments)))
 
 -- the answer: how many pieces there are and how many alignments, or the refusal
-abbrev pub cutUnlessRefused : Verdict → Columns → Pieces
+abbrev pub cutUnlessRefused : Verdict → PieceColumns → Pieces
 cutUnlessRefused Accepted c = Cut (length (c .starts)) (length (c .alignment-starts))
 cutUnlessRefused (Rejected k) c = Refused k
 
 -- six lent columns, by their numbers
-abbrev pub columns : List ℕ → List ℕ → List ℕ → List ℕ → List ℕ → List ℕ → Columns
+abbrev pub columns : List ℕ → List ℕ → List ℕ → List ℕ → List ℕ → List ℕ → PieceColumns
 columns starts ends shifts lengths alignmentStarts alignmentEnds =
     record {
       starts = starts;
@@ -83,16 +83,16 @@ columns starts ends shifts lengths alignmentStarts alignmentEnds =
     }
 
 -- the room that they have for pieces, and the room for alignments
-abbrev pub pieceRoom : Columns → ℕ
+abbrev pub pieceRoom : PieceColumns → ℕ
 pieceRoom c = min (min (length (c .starts)) (length (c .ends))) (min (length (c .shifts)) (length (c .lengths)))
 
-abbrev pub alignmentRoom : Columns → ℕ
+abbrev pub alignmentRoom : PieceColumns → ℕ
 alignmentRoom c = min (length (c .alignment-starts)) (length (c .alignment-ends))
 
 -- THE CALL: limit, note, list, behaviour, what becomes of empty pieces, the lent columns before, the answer, the
 -- columns after
 pub record Splitting (most : ℕ) (n : Note) (list : List ℕ) (behavior : SplitDelimiterBehavior) (empty : EmptyPieces)
-    (c₀ : Columns) (r : Pieces) (c : Columns) : Type 0 where
+    (c₀ : PieceColumns) (r : Pieces) (c : PieceColumns) : Type 0 where
   pub says : Verdict
   pub says-is : says ≡ verdict (splitFaults most n list behavior empty (pieceRoom c₀) (alignmentRoom c₀))
   pub answer : r ≡ cutUnlessRefused says (cutBy n list behavior empty)

@@ -13,7 +13,7 @@ use Rattle.slice.specs.Slicing.{lowered}
 use Rattle.behaviors.specs.declared.SplitDelimiterBehavior.{SplitDelimiterBehavior}
 use Rattle.behaviors.specs.declared.EmptyPieces.{EmptyPieces}
 use Rattle.split.specs.declared.Pieces.{Pieces}
-use Rattle.split.specs.Splitting.{Columns, cutBy, cutUnlessRefused}
+use Rattle.split.specs.Splitting.{PieceColumns, cutBy, cutUnlessRefused}
 use Rattle.split.specs.PieceSlices.{bytesBefore}
 
 -- where the transcript of the cleaned bytes a..b starts and where it ends; an empty range is its own numbers
@@ -30,59 +30,59 @@ shiftOf starts shift a b = (shift + fromStart starts a b) ∷ []
 unfoldable pub lengthOf : List ℕ → List ℕ → ℕ → ℕ → List ℕ
 lengthOf starts ends a b = (toEnd ends a b - fromStart starts a b) ∷ []
 
-unfoldable pub columnOf : List ℕ → List ℕ → ℕ → ℕ → List ℕ
-columnOf starts column a b = lowered (fromStart starts a b) (part column a b)
+unfoldable pub loweredColumn : List ℕ → List ℕ → ℕ → ℕ → List ℕ
+loweredColumn starts column a b = lowered (fromStart starts a b) (part column a b)
 
 -- what all pieces give, one behind the other
-unfoldable pub joined : (ℕ → ℕ → List ℕ) → List ℕ → List ℕ → List ℕ
-joined f [] to = []
-joined f (a ∷ from) [] = []
-joined f (a ∷ from) (b ∷ to) = f a b ++ joined f from to
+unfoldable pub endToEnd : (ℕ → ℕ → List ℕ) → List ℕ → List ℕ → List ℕ
+endToEnd f [] to = []
+endToEnd f (a ∷ from) [] = []
+endToEnd f (a ∷ from) (b ∷ to) = f a b ++ endToEnd f from to
 
 -- a cleaned range inside a text
-pub record Inside (size a b : ℕ) : Type 0 where
+pub record RangeInside (size a b : ℕ) : Type 0 where
   pub forward : a ≤ b
   pub most : b ≤ size
 
 -- as many starts as ends, each pair inside the text
-pub record Spans (size : ℕ) (from to : List ℕ) : Type 0 where
+pub record PieceSpans (size : ℕ) (from to : List ℕ) : Type 0 where
   pub paired : length from ≡ length to
-  pub each : (k : ℕ) → k < length from → Inside size (getD from k 0) (getD to k 0)
+  pub each : (k : ℕ) → k < length from → RangeInside size (getD from k 0) (getD to k 0)
 
 pub record ShiftsRoom (most : ℕ) (starts from to : List ℕ) (shift : ℕ) (out : List ℕ) : Type 0 where
-  pub spans : Spans (length starts) from to
+  pub spans : PieceSpans (length starts) from to
   pub low : shift ≤ most
   pub room : length from ≤ length out
 
 pub record LengthsRoom (starts ends from to out : List ℕ) : Type 0 where
-  pub spans : Spans (length starts) from to
+  pub spans : PieceSpans (length starts) from to
   pub one-end : length ends ≡ length starts
   pub ordered : (k : ℕ) → k < length from
       → fromStart starts (getD from k 0) (getD to k 0) ≤ toEnd ends (getD from k 0) (getD to k 0)
   pub room : length from ≤ length out
 
-pub record ColumnRoom (starts column from to : List ℕ) (until : ℕ) (out : List ℕ) : Type 0 where
-  pub spans : Spans (length starts) from to
+pub record PieceColumnRoom (starts column from to : List ℕ) (until : ℕ) (out : List ℕ) : Type 0 where
+  pub spans : PieceSpans (length starts) from to
   pub one-each : length column ≡ length starts
   pub above : (k i : ℕ) → k < length from → getD from k 0 < getD to k 0 → getD from k 0 ≤ i → i < length column
       → fromStart starts (getD from k 0) (getD to k 0) ≤ getD column i 0
-  pub below : until ≤ length (joined (columnOf starts column) from to)
-  pub room : length (joined (columnOf starts column) from to) ≤ length out
+  pub below : until ≤ length (endToEnd (loweredColumn starts column) from to)
+  pub room : length (endToEnd (loweredColumn starts column) from to) ≤ length out
 
 -- room for all that pieces give beside their starts and ends, and that stands there
 pub record ColumnsRoom (most : ℕ) (starts ends from to : List ℕ) (shift until : ℕ)
     (shifts lengths outStarts outEnds : List ℕ) : Type 0 where
   pub shifts-room : ShiftsRoom most starts from to shift shifts
   pub lengths-room : LengthsRoom starts ends from to lengths
-  pub starts-room : ColumnRoom starts starts from to until outStarts
-  pub ends-room : ColumnRoom starts ends from to until outEnds
+  pub starts-room : PieceColumnRoom starts starts from to until outStarts
+  pub ends-room : PieceColumnRoom starts ends from to until outEnds
 
 pub record ColumnsLaid (starts ends from to : List ℕ) (shift : ℕ) (shifts₀ lengths₀ outStarts₀ outEnds₀ : List ℕ)
     (shifts lengths outStarts outEnds : List ℕ) : Type 0 where
-  pub shifts-are : shifts ≡ overlay (joined (shiftOf starts shift) from to) shifts₀
-  pub lengths-are : lengths ≡ overlay (joined (lengthOf starts ends) from to) lengths₀
-  pub starts-are : outStarts ≡ overlay (joined (columnOf starts starts) from to) outStarts₀
-  pub ends-are : outEnds ≡ overlay (joined (columnOf starts ends) from to) outEnds₀
+  pub shifts-are : shifts ≡ overlay (endToEnd (shiftOf starts shift) from to) shifts₀
+  pub lengths-are : lengths ≡ overlay (endToEnd (lengthOf starts ends) from to) lengths₀
+  pub starts-are : outStarts ≡ overlay (endToEnd (loweredColumn starts starts) from to) outStarts₀
+  pub ends-are : outEnds ≡ overlay (endToEnd (loweredColumn starts ends) from to) outEnds₀
 
 -- pieces whose bytes can be counted
 pub record Countable (most : ℕ) (from to : List ℕ) : Type 0 where
@@ -99,25 +99,25 @@ pub record BlockFits (from to size at until : ℕ) : Type 0 where
   pub below : at + 16 ≤ until
 
 -- room for a block of a column, and no number of it is below `base`
-pub record BlockRoom (column : List ℕ) (i base : ℕ) (out : List ℕ) (at : ℕ) : Type 0 where
+pub record LoweredBlockRoom (column : List ℕ) (i base : ℕ) (out : List ℕ) (at : ℕ) : Type 0 where
   pub inside : i + 16 ≤ length column
   pub room : at + 16 ≤ length out
   pub above : (j : ℕ) → i ≤ j → j < length column → base ≤ getD column j 0
 
 -- room for a stretch of a column; where it has a number, none from there on is below `base`
-pub record StretchRoom (column : List ℕ) (from to base : ℕ) (out : List ℕ) (at until : ℕ) : Type 0 where
+pub record LoweredRoom (column : List ℕ) (from to base : ℕ) (out : List ℕ) (at until : ℕ) : Type 0 where
   pub source : Source column from to out at until
   pub above : from < to → (j : ℕ) → from ≤ j → j < length column → base ≤ getD column j 0
 
 -- room for a stretch of both columns
 pub record BothRoom (starts ends : List ℕ) (from to base : ℕ) (outStarts outEnds : List ℕ) (at until : ℕ) : Type 0 where
   pub one-end : length ends ≡ length starts
-  pub starts-room : StretchRoom starts from to base outStarts at until
-  pub ends-room : StretchRoom ends from to base outEnds at until
+  pub starts-room : LoweredRoom starts from to base outStarts at until
+  pub ends-room : LoweredRoom ends from to base outEnds at until
 
 -- the pieces stand in front of the six columns, and are counted
 pub record CutInto (n : Note) (list : List ℕ) (behavior : SplitDelimiterBehavior) (empty : EmptyPieces)
-    (c₀ : Columns) (r : Pieces) (c : Columns) : Type 0 where
+    (c₀ : PieceColumns) (r : Pieces) (c : PieceColumns) : Type 0 where
   pub answer : r ≡ cutUnlessRefused Accepted (cutBy n list behavior empty)
   pub starts-are : c .starts ≡ overlay (cutBy n list behavior empty .starts) (c₀ .starts)
   pub ends-are : c .ends ≡ overlay (cutBy n list behavior empty .ends) (c₀ .ends)

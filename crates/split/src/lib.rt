@@ -25,8 +25,8 @@ ghost use Rattle.note.specs.Refusals.{verdict};
 ghost use Rattle.slice.specs.Slicing.{lowered};
 ghost use Rattle.split.specs.PieceSlices.{bytesBefore};
 ghost use Rattle.split.specs.Splitting.{alignmentRoom, columns, pieceRoom, splitFaults, Splitting};
-ghost use Rattle.split.specs.Writing.{BlockFits, BlockRoom, BothRoom, ColumnsLaid, ColumnsRoom, Countable};
-ghost use Rattle.split.specs.Writing.{CutInto, fromStart, Inside, toEnd};
+ghost use Rattle.split.specs.Writing.{BlockFits, LoweredBlockRoom, BothRoom, ColumnsLaid, ColumnsRoom, Countable};
+ghost use Rattle.split.specs.Writing.{CutInto, fromStart, RangeInside, toEnd};
 
 // What `split` says: how many pieces there are, and how many alignments they have; or why there are none.
 pub enum Pieces {
@@ -36,7 +36,7 @@ pub enum Pieces {
 
 // Where the transcript of the cleaned bytes from..to starts. An inner function, as the next one: the bytes are there.
 fn original_start(starts: &[Offset], from: Offset, to: Offset) -> Offset
-    requires { ⌜ Inside (length (now starts)) from to ⌝ }
+    requires { ⌜ RangeInside (length (now starts)) from to ⌝ }
     ensures { λ r. ⌜ r ≡ fromStart (now (starts .entry)) from to ⌝ }
 {
     if from == to {
@@ -47,7 +47,7 @@ fn original_start(starts: &[Offset], from: Offset, to: Offset) -> Offset
 
 // Where it ends.
 fn original_end(ends: &[Offset], from: Offset, to: Offset) -> Offset
-    requires { ⌜ Inside (length (now ends)) from to ⌝ }
+    requires { ⌜ RangeInside (length (now ends)) from to ⌝ }
     ensures { λ r. ⌜ r ≡ toEnd (now (ends .entry)) from to ⌝ }
 {
     if from == to {
@@ -73,7 +73,7 @@ fn byte_count(from: &[Offset], to: &[Offset]) -> usize
 // The 16 numbers of `column` from `i` on, each less `base`, stand in `out` from `at` on: through a local array, so that
 // source and destination are not tested for an overlap.
 fn lower_block(column: &[Offset], i: usize, base: Offset, out: &mut [Offset], at: usize)
-    requires { ⌜ BlockRoom (now column) i base (now out) at ⌝ }
+    requires { ⌜ LoweredBlockRoom (now column) i base (now out) at ⌝ }
     ensures { λ _. ⌜ now (out .exit) ≡ splice (now (out .entry)) at
         (lowered base (part (now (column .entry)) i (i + 16))) ⌝ }
 {

@@ -6,10 +6,10 @@ use lib.ListN.{length}
 use Rattle.standard_input.specs.declared.Input.{Input}
 use Rattle.standard_input.specs.declared.Input.the-variants.{Bytes, Unread}
 
-abbrev pub Counted : Input → List ℕ → Type 0
-Counted (Bytes n) buf = n ≤ length buf
-Counted Unread buf = Unit {0}
+abbrev pub ReadCount : Input → List ℕ → Type 0
+ReadCount (Bytes n) buf = n ≤ length buf
+ReadCount Unread buf = Unit {0}
 
 pub record Within (r : Input) (before after : List ℕ) : Type 0 where
-  pub counted : Counted r after
+  pub counted : ReadCount r after
   pub same : length after ≡ length before

@@ -10,16 +10,16 @@ use Rattle.buffers.specs.Same.{same}
 use Rattle.buffers.specs.Splice.{Laid}
 use Rattle.io.specs.Counts.{Counts}
 use Rattle.note.specs.Notes.{limit}
-use Rattle.stored_answers.specs.Framing.{numberOf}
-use Rattle.stored_answers.specs.Differences.{summed, columnOf, offsetsOf, numbersOf}
+use Rattle.stored_answers.specs.Framing.{leadingNumber}
+use Rattle.stored_answers.specs.Differences.{summed, numberColumn, offsetColumn, numbersOf}
 use Rattle.stored_answers.proofs.Splice.{LayingFrom, none-laid, element-laid, all-laid, counted, take-laid}
 
 length-summed : (width n last : ℕ) (s : List ℕ) → length (summed width n last s) ≡ n
 unfolding summed
 length-summed width zero last s = refl
-length-summed width (suc n) last s = ap suc (length-summed width n ((last + numberOf s) % width) (drop 4 s))
+length-summed width (suc n) last s = ap suc (length-summed width n ((last + leadingNumber s) % width) (drop 4 s))
 
-summed-more : (width n last : ℕ) (s : List ℕ) → summed width (suc n) last s ≡ ((last + numberOf s) % width) ∷ summed width n ((last + numberOf s) % width) (drop 4 s)
+summed-more : (width n last : ℕ) (s : List ℕ) → summed width (suc n) last s ≡ ((last + leadingNumber s) % width) ∷ summed width n ((last + leadingNumber s) % width) (drop 4 s)
 unfolding summed
 summed-more width n last s = refl
 
@@ -42,7 +42,7 @@ none-summed width s d n w is =
     record { laying = rw all (none-laid (omega arith)); below = w; most = omega arith; room = omega arith; there = omega arith }
 
 module _ {width : ℕ} {s d₀ : List ℕ} {n : ℕ} {d : List ℕ} {last i : ℕ} (m : Summing width s d₀ n d last i) where
-  pub one-summed : {k x : ℕ} → i < n → k ≡ numberOf (drop (i * 4) s) → x ≡ (last + k) % width → x < width → Summing width s d₀ n (set d i x) x (i + 1)
+  pub one-summed : {k x : ℕ} → i < n → k ≡ leadingNumber (drop (i * 4) s) → x ≡ (last + k) % width → x < width → Summing width s d₀ n (set d i x) x (i + 1)
   one-summed {k} {x} h is now below =
       let step : n - i ≡ suc (n - (i + 1)) = omega arith in
       let next : i * 4 + 4 ≡ (i + 1) * 4 = omega arith in
@@ -51,8 +51,8 @@ module _ {width : ℕ} {s d₀ : List ℕ} {n : ℕ} {d : List ℕ} {last i : �
       let after : LayingFrom (summed width n 0 s) d₀ 0 (summed width (n - (i + 1)) x (drop ((i + 1) * 4) s)) (set d i x) (i + 1) = element-laid (m .laying) x _ more in
       record { laying = after; below = below; most = omega arith; room = omega (arith, m .room, m .laying .same, after .same); there = m .there }
 
-  pub all-summed : {field : List ℕ} → n ≤ i → n ≡ min (length s / 4) (length d₀) → s ≡ field → Counts n d × Laid (columnOf width (length d₀) field) d₀ 0 n d
-  unfolding columnOf
+  pub all-summed : {field : List ℕ} → n ≤ i → n ≡ min (length s / 4) (length d₀) → s ≡ field → Counts n d × Laid (numberColumn width (length d₀) field) d₀ 0 n d
+  unfolding numberColumn
   all-summed h is here =
       let none : n - i ≡ 0 = omega arith in
       let end : i ≡ n = omega (arith, m .most) in
@@ -60,16 +60,16 @@ module _ {width : ℕ} {s d₀ : List ℕ} {n : ℕ} {d : List ℕ} {last i : �
       (counted n d (m .room), rw (← here, ← is) (rw end at all))
 
 -- a buffer that is filled from a field, up to where it is filled
-pub filled : (width room : ℕ) (field : List ℕ) {d₀ d : List ℕ} {end : ℕ} → Laid (columnOf width (length d₀) field) d₀ 0 end d → length d₀ ≡ room → take end d ≡ columnOf width room field
-filled width room field l long = take-laid l ∙ ap (λ k. columnOf width k field) long
+pub filled : (width room : ℕ) (field : List ℕ) {d₀ d : List ℕ} {end : ℕ} → Laid (numberColumn width (length d₀) field) d₀ 0 end d → length d₀ ≡ room → take end d ≡ numberColumn width room field
+filled width room field l long = take-laid l ∙ ap (λ k. numberColumn width k field) long
 
 -- a lent buffer beside the column of a field
-pub same-column : (width room : ℕ) (column field : List ℕ) {d₀ d : List ℕ} {end : ℕ} {r : Bool} → r ≡ same column (take end d) → Laid (columnOf width (length d₀) field) d₀ 0 end d → length d₀ ≡ room → r ≡ same column (columnOf width room field)
+pub same-column : (width room : ℕ) (column field : List ℕ) {d₀ d : List ℕ} {end : ℕ} {r : Bool} → r ≡ same column (take end d) → Laid (numberColumn width (length d₀) field) d₀ 0 end d → length d₀ ≡ room → r ≡ same column (numberColumn width room field)
 same-column width room column field is l long = is ∙ ap (same column) (filled width room field l long)
 
 -- buffers that are filled from a field, up to where they are filled
-pub offsets-filled : (field : List ℕ) {d₀ d : List ℕ} {end : ℕ} → Laid (columnOf (limit + 1) (length d₀) field) d₀ 0 end d → limit + 1 ≡ length d₀ → take end d ≡ offsetsOf limit field
+pub offsets-filled : (field : List ℕ) {d₀ d : List ℕ} {end : ℕ} → Laid (numberColumn (limit + 1) (length d₀) field) d₀ 0 end d → limit + 1 ≡ length d₀ → take end d ≡ offsetColumn limit field
 offsets-filled field l long = filled (limit + 1) (limit + 1) field l (sym long)
 
-pub numbers-filled : (field : List ℕ) {d : List ℕ} {end : ℕ} → Laid (columnOf (256 ^ 4) 256 field) (replicate 256 0) 0 end d → take end d ≡ numbersOf field
+pub numbers-filled : (field : List ℕ) {d : List ℕ} {end : ℕ} → Laid (numberColumn (256 ^ 4) 256 field) (replicate 256 0) 0 end d → take end d ≡ numbersOf field
 numbers-filled field l = take-laid l

@@ -1,4 +1,4 @@
--- Laws of `numberOf` and `fieldOf`: a number at an index, a field more, and the field that is reached.
+-- Laws of `leadingNumber` and `fieldOf`: a number at an index, a field more, and the field that is reached.
 use Prim.Native.Nat.{ℕ, zero, suc, _+_, _-_, _≤_, _<_, min}
 use mathlib.Core.Path.{_≡_, _∙_, ap, refl, sym}
 use mathlib.Core.Bool.{Bool, true, false, _&&_}
@@ -13,14 +13,14 @@ use lib.Seq.{drop-drop, drop-length, take-all}
 use borrow.Author.Tests.{le-leb, lt-leb, ne-eqb, eq-eqb}
 use Rattle.buffers.specs.Splice.{part}
 use Rattle.numbers.specs.LittleEndian.{valueOf}
-use Rattle.stored_answers.specs.Framing.{numberOf, first, rest, fieldOf, isNumber}
+use Rattle.stored_answers.specs.Framing.{leadingNumber, first, afterField, fieldOf, isNumber}
 
-pub number-cut : (s : List ℕ) (at : ℕ) → length s < at + 4 → 0 ≡ numberOf (drop at s)
-unfolding numberOf
+pub number-cut : (s : List ℕ) (at : ℕ) → length s < at + 4 → 0 ≡ leadingNumber (drop at s)
+unfolding leadingNumber
 number-cut s at h = simp (length-drop, lt-leb 4 (length s - at) (omega arith)) refl
 
-pub number-whole : (s : List ℕ) (at : ℕ) {n : ℕ} → n ≡ valueOf (part s at (at + 4)) → at + 4 ≤ length s → n ≡ numberOf (drop at s)
-unfolding numberOf
+pub number-whole : (s : List ℕ) (at : ℕ) {n : ℕ} → n ≡ valueOf (part s at (at + 4)) → at + 4 ≤ length s → n ≡ leadingNumber (drop at s)
+unfolding leadingNumber
 number-whole s at is h =
     let four : at + 4 - at ≡ 4 = omega arith in
     is ∙ rw (four, length-drop, le-leb 4 (length s - at) (omega arith))
@@ -30,7 +30,7 @@ pub no-number : {f : List ℕ} (s : List ℕ) (n : ℕ) → f ≡ s → (length 
 unfolding isNumber
 no-number s n is h = rw (ne-eqb (length s) 4 (λ e. h (ap length is ∙ e)))
 
-pub a-number : {f : List ℕ} {m : ℕ} (s : List ℕ) (n : ℕ) → f ≡ s → length f ≡ 4 → m ≡ numberOf f → eqb m n ≡ isNumber s n
+pub a-number : {f : List ℕ} {m : ℕ} (s : List ℕ) (n : ℕ) → f ≡ s → length f ≡ 4 → m ≡ leadingNumber f → eqb m n ≡ isNumber s n
 unfolding isNumber
 a-number s n is h here = rw (eq-eqb (length s) 4 (sym (ap length is) ∙ h), here, is)
 
@@ -76,18 +76,18 @@ skip-field s at from n to f t =
     ap (λ k. drop k s) t ∙ drop-min s (from + n) ∙ sym (drop-drop n from s) ∙ ap (drop n) (skip-length s at from f)
 
 module _ {s : List ℕ} {index at i : ℕ} (r : Reached s index at i) where
-  pub next-reached : {from n to : ℕ} → i < index → from ≡ min (at + 4) (length s) → n ≡ numberOf (drop at s) → to ≡ min (from + n) (length s) → Reached s index to (i + 1)
-  unfolding fieldOf rest
+  pub next-reached : {from n to : ℕ} → i < index → from ≡ min (at + 4) (length s) → n ≡ leadingNumber (drop at s) → to ≡ min (from + n) (length s) → Reached s index to (i + 1)
+  unfolding fieldOf afterField
   next-reached {from} {n} {to} h f is t =
       let step : index - i ≡ suc (index - (i + 1)) = omega arith in
-      let here : drop (numberOf (drop at s)) (drop 4 (drop at s)) ≡ drop to s = rw (← is) (sym (skip-field s at from n to f t)) in
+      let here : drop (leadingNumber (drop at s)) (drop 4 (drop at s)) ≡ drop to s = rw (← is) (sym (skip-field s at from n to f t)) in
       record {
         same = r .same ∙ rw step (ap (fieldOf (index - (i + 1))) here);
         within = omega arith;
         most = omega arith;
       }
 
-  pub field-reached : {from n to : ℕ} → index ≤ i → from ≡ min (at + 4) (length s) → n ≡ numberOf (drop at s) → to ≡ min (from + n) (length s) → take (to - from) (drop from s) ≡ fieldOf index s
+  pub field-reached : {from n to : ℕ} → index ≤ i → from ≡ min (at + 4) (length s) → n ≡ leadingNumber (drop at s) → to ≡ min (from + n) (length s) → take (to - from) (drop from s) ≡ fieldOf index s
   unfolding fieldOf first
   field-reached {from} {n} {to} h f is t =
       let none : index - i ≡ 0 = omega (arith, r .most) in

@@ -10,8 +10,8 @@ use lib.Seq.{take-all}
 use borrow.Author.Tests.{le-leb, lt-leb}
 use Rattle.buffers.specs.Splice.{splice, Laid}
 use Rattle.buffers.proofs.Splice.{length-splice, laid-length}
-use Rattle.stored_answers.specs.Framing.{numberOf, fieldOf}
-use Rattle.stored_answers.specs.Packing.{times, laid, parts, unpacked}
+use Rattle.stored_answers.specs.Framing.{leadingNumber, fieldOf}
+use Rattle.stored_answers.specs.Packing.{times, partLaid, parts, unpacked}
 use Rattle.stored_answers.proofs.Framing.{drop-min}
 use Rattle.stored_answers.proofs.Splice.{LayingFrom, none-laid, piece-laid, all-laid}
 
@@ -44,17 +44,17 @@ unit-of part from is =
     let long : length (drop from part) ≡ length part - from = length-drop from part in
     take-all (length part - from) (drop from part) (omega arith) ∙ ap (λ k. drop k part) is ∙ drop-min part 4
 
--- k units of a part were laid, or there is no room for one more
+-- k units of a part were partLaid, or there is no room for one more
 pub record Repeating (part d₀ : List ℕ) (at n : ℕ) (unit d : List ℕ) (end k : ℕ) : Type 0 where
-  pub laying : LayingFrom (laid part (length d₀ - at)) d₀ at (times (n - k) unit (length d - end)) d end
+  pub laying : LayingFrom (partLaid part (length d₀ - at)) d₀ at (times (n - k) unit (length d - end)) d end
   pub within : end ≤ length d
   pub most : k ≤ n
 
-pub none-repeated : (part d : List ℕ) (at n from : ℕ) → n ≡ numberOf part → from ≡ min (0 + 4) (length part) → at ≤ length d → Repeating part d at n (take (length part - from) (drop from part)) d at 0
-unfolding laid
+pub none-repeated : (part d : List ℕ) (at n from : ℕ) → n ≡ leadingNumber part → from ≡ min (0 + 4) (length part) → at ≤ length d → Repeating part d at n (take (length part - from) (drop from part)) d at 0
+unfolding partLaid
 none-repeated part d at n from is f h =
-    let all : n - 0 ≡ numberOf part = omega arith in
-    let fits : length (times (numberOf part) (drop 4 part) (length d - at)) ≤ length d - at = times-fits (numberOf part) (drop 4 part) (length d - at) in
+    let all : n - 0 ≡ leadingNumber part = omega arith in
+    let fits : length (times (leadingNumber part) (drop 4 part) (length d - at)) ≤ length d - at = times-fits (leadingNumber part) (drop 4 part) (length d - at) in
     record { laying = rw (all, unit-of part from f) (none-laid (omega arith)); within = h; most = omega arith }
 
 module _ {part d₀ : List ℕ} {at n : ℕ} {unit d : List ℕ} {end k : ℕ} (r : Repeating part d₀ at n unit d end k) where
@@ -67,16 +67,16 @@ module _ {part d₀ : List ℕ} {at n : ℕ} {unit d : List ℕ} {end k : ℕ} (
       rw (step, ← room) (times-more (n - (k + 1)) unit (length d - end) fits) in
       record { laying = piece-laid (r .laying) unit _ d₁ (end + length unit) more is refl; within = omega (arith, r .within); most = omega arith }
 
-  pub no-room : length d - end < length unit → Laid (laid part (length d₀ - at)) d₀ at end d
+  pub no-room : length d - end < length unit → Laid (partLaid part (length d₀ - at)) d₀ at end d
   no-room h = all-laid (r .laying) (times-full (n - k) unit (length d - end) h)
 
-  pub all-repeated : n ≤ k → Laid (laid part (length d₀ - at)) d₀ at end d
+  pub all-repeated : n ≤ k → Laid (partLaid part (length d₀ - at)) d₀ at end d
   all-repeated h =
       let none : n - k ≡ 0 = omega arith in
       all-laid (r .laying) (rw none (times-none unit (length d - end)))
 
 -- a part more
-parts-more : (n k : ℕ) (packed : List ℕ) (room : ℕ) → parts (suc n) k packed room ≡ laid (fieldOf k packed) room ++ parts n (k + 1) packed (room - length (laid (fieldOf k packed) room))
+parts-more : (n k : ℕ) (packed : List ℕ) (room : ℕ) → parts (suc n) k packed room ≡ partLaid (fieldOf k packed) room ++ parts n (k + 1) packed (room - length (partLaid (fieldOf k packed) room))
 unfolding parts
 parts-more n k packed room = refl
 
@@ -84,19 +84,19 @@ parts-none : (k : ℕ) (packed : List ℕ) (room : ℕ) → parts 0 k packed roo
 unfolding parts
 parts-none k packed room = refl
 
-laid-fits : (part : List ℕ) (room : ℕ) → length (laid part room) ≤ room
-unfolding laid
-laid-fits part room = times-fits (numberOf part) (drop 4 part) room
+laid-fits : (part : List ℕ) (room : ℕ) → length (partLaid part room) ≤ room
+unfolding partLaid
+laid-fits part room = times-fits (leadingNumber part) (drop 4 part) room
 
 parts-fit : (n k : ℕ) (packed : List ℕ) (room : ℕ) → length (parts n k packed room) ≤ room
 parts-fit zero k packed room = rw (parts-none k packed room) (omega arith)
 parts-fit (suc n) k packed room =
-    let one : length (laid (fieldOf k packed) room) ≤ room = laid-fits (fieldOf k packed) room in
-    let more : length (parts n (k + 1) packed (room - length (laid (fieldOf k packed) room))) ≤ room - length (laid (fieldOf k packed) room) =
-    parts-fit n (k + 1) packed (room - length (laid (fieldOf k packed) room)) in
-    rw (parts-more n k packed room, length-append (laid (fieldOf k packed) room) (parts n (k + 1) packed (room - length (laid (fieldOf k packed) room)))) (omega arith)
+    let one : length (partLaid (fieldOf k packed) room) ≤ room = laid-fits (fieldOf k packed) room in
+    let more : length (parts n (k + 1) packed (room - length (partLaid (fieldOf k packed) room))) ≤ room - length (partLaid (fieldOf k packed) room) =
+    parts-fit n (k + 1) packed (room - length (partLaid (fieldOf k packed) room)) in
+    rw (parts-more n k packed room, length-append (partLaid (fieldOf k packed) room) (parts n (k + 1) packed (room - length (partLaid (fieldOf k packed) room)))) (omega arith)
 
--- k of n parts were laid
+-- k of n parts were partLaid
 pub record Unpacking (packed d₀ : List ℕ) (n : ℕ) (d : List ℕ) (end k : ℕ) : Type 0 where
   pub laying : LayingFrom (parts n 0 packed (length d₀)) d₀ 0 (parts (n - k) k packed (length d - end)) d end
   pub within : end ≤ length d
@@ -110,15 +110,15 @@ none-unpacked packed d n =
     record { laying = rw (all, room) (none-laid (omega arith)); within = omega arith; most = omega arith }
 
 module _ {packed d₀ : List ℕ} {n : ℕ} {d : List ℕ} {end k : ℕ} (u : Unpacking packed d₀ n d end k) where
-  pub one-unpacked : {part d₁ : List ℕ} {end₁ : ℕ} → k < n → part ≡ fieldOf k packed → Laid (laid part (length d - end)) d end end₁ d₁ → Unpacking packed d₀ n d₁ end₁ (k + 1)
+  pub one-unpacked : {part d₁ : List ℕ} {end₁ : ℕ} → k < n → part ≡ fieldOf k packed → Laid (partLaid part (length d - end)) d end end₁ d₁ → Unpacking packed d₀ n d₁ end₁ (k + 1)
   one-unpacked {part} {d₁} {end₁} h is l =
       let step : n - k ≡ suc (n - (k + 1)) = omega arith in
-      let fits : length (laid part (length d - end)) ≤ length d - end = laid-fits part (length d - end) in
+      let fits : length (partLaid part (length d - end)) ≤ length d - end = laid-fits part (length d - end) in
       let long : length d₁ ≡ length d = laid-length l (omega (arith, u .within)) in
-      let room : length d - end - length (laid part (length d - end)) ≡ length d₁ - end₁ = omega (arith, l .reach) in
-      let more : parts (n - k) k packed (length d - end) ≡ laid part (length d - end) ++ parts (n - (k + 1)) (k + 1) packed (length d₁ - end₁) =
+      let room : length d - end - length (partLaid part (length d - end)) ≡ length d₁ - end₁ = omega (arith, l .reach) in
+      let more : parts (n - k) k packed (length d - end) ≡ partLaid part (length d - end) ++ parts (n - (k + 1)) (k + 1) packed (length d₁ - end₁) =
       rw (step, ← room, is) (parts-more (n - (k + 1)) k packed (length d - end)) in
-      record { laying = piece-laid (u .laying) (laid part (length d - end)) _ d₁ end₁ more (l .holds) (l .reach); within = omega (arith, u .within, l .reach); most = omega arith }
+      record { laying = piece-laid (u .laying) (partLaid part (length d - end)) _ d₁ end₁ more (l .holds) (l .reach); within = omega (arith, u .within, l .reach); most = omega arith }
 
   pub all-unpacked : n ≤ k → n ≡ length packed / 8 → Laid (unpacked packed (length d₀)) d₀ 0 end d
   unfolding unpacked

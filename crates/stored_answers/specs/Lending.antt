@@ -4,11 +4,11 @@ use mathlib.Core.Bool.{Bool}
 use mathlib.Core.List.{List}
 use lib.Dec.{eqb}
 use Rattle.note.specs.Notes.{Note, lent}
-use Rattle.stored_answers.specs.Framing.{numberOf, fieldOf}
+use Rattle.stored_answers.specs.Framing.{leadingNumber, fieldOf}
 
 -- the number at a field
 abbrev pub numberAt : List ℕ → ℕ → ℕ
-numberAt case index = numberOf (fieldOf index case)
+numberAt case index = leadingNumber (fieldOf index case)
 
 -- whether it is 1
 abbrev pub flagAt : List ℕ → ℕ → Bool

@@ -15,7 +15,7 @@ ghost use Rattle.buffers.specs.Splice.{Laid};
 ghost use Rattle.io.specs.Counts.{Counts};
 ghost use Rattle.note.specs.Notes.{limit};
 ghost use Rattle.stored_answers.specs.Framing.{fieldOf};
-ghost use Rattle.stored_answers.specs.Differences.{columnOf, offsetsOf, numbersOf};
+ghost use Rattle.stored_answers.specs.Differences.{numberColumn, offsetColumn, numbersOf};
 
 // The most elements that a call is lent in one buffer.
 pub const ROOM: usize = LIMIT + 1;
@@ -44,7 +44,7 @@ pub fn bytes(case: &[u8], index: usize, dst: &mut [u8]) -> usize
 
 pub fn offsets(case: &[u8], index: usize, dst: &mut [Offset]) -> usize
     ensures { λ r. ⌜ Counts r (now (dst .exit)) ⌝ }
-    ensures { λ r. ⌜ Laid (columnOf (limit + 1) (length (now (dst .entry))) (fieldOf index (now (case .entry))))
+    ensures { λ r. ⌜ Laid (numberColumn (limit + 1) (length (now (dst .entry))) (fieldOf index (now (case .entry))))
         (now (dst .entry)) 0 r (now (dst .exit)) ⌝ }
 {
     let field = field(case, index);
@@ -61,7 +61,7 @@ pub fn offsets(case: &[u8], index: usize, dst: &mut [Offset]) -> usize
 
 pub fn numbers(case: &[u8], index: usize, dst: &mut [u32]) -> usize
     ensures { λ r. ⌜ Counts r (now (dst .exit)) ⌝ }
-    ensures { λ r. ⌜ Laid (columnOf (256 ^ 4) (length (now (dst .entry))) (fieldOf index (now (case .entry))))
+    ensures { λ r. ⌜ Laid (numberColumn (256 ^ 4) (length (now (dst .entry))) (fieldOf index (now (case .entry))))
         (now (dst .entry)) 0 r (now (dst .exit)) ⌝ }
 {
     let field = field(case, index);
@@ -78,7 +78,7 @@ pub fn numbers(case: &[u8], index: usize, dst: &mut [u32]) -> usize
 
 // Whether a column is the one at a field of a case.
 pub fn are_offsets(case: &[u8], index: usize, column: &[Offset]) -> bool
-    ensures { λ r. ⌜ r ≡ same (now (column .entry)) (offsetsOf limit (fieldOf index (now (case .entry)))) ⌝ }
+    ensures { λ r. ⌜ r ≡ same (now (column .entry)) (offsetColumn limit (fieldOf index (now (case .entry)))) ⌝ }
 {
     let mut expected = zeros();
     let n = offsets(case, index, &mut expected);

@@ -7,11 +7,11 @@ ghost use mathlib.Core.Path.{_≡_};
 ghost use Prim.Native.Nat.{_+_, _≤_, min};
 ghost use lib.ListN.{length, drop};
 ghost use Rattle.buffers.specs.Same.{same};
-ghost use Rattle.stored_answers.specs.Framing.{numberOf, fieldOf, isNumber};
+ghost use Rattle.stored_answers.specs.Framing.{leadingNumber, fieldOf, isNumber};
 
 // The number at a byte; 0 where its 4 bytes are not all there.
 pub fn number(list: &[u8], at: usize) -> u32
-    ensures { λ r. ⌜ r ≡ numberOf (drop at (now (list .entry))) ⌝ }
+    ensures { λ r. ⌜ r ≡ leadingNumber (drop at (now (list .entry))) ⌝ }
 {
     if list.len() < 4 {
         return 0;
@@ -50,7 +50,7 @@ pub fn field(list: &[u8], index: usize) -> &[u8]
 
 // The number that a field is.
 pub fn value(list: &[u8], index: usize) -> u32
-    ensures { λ r. ⌜ r ≡ numberOf (fieldOf index (now (list .entry))) ⌝ }
+    ensures { λ r. ⌜ r ≡ leadingNumber (fieldOf index (now (list .entry))) ⌝ }
 {
     number(field(list, index), 0)
 }

@@ -7,13 +7,13 @@ ghost use Prim.Native.Nat.{_-_, _≤_};
 ghost use lib.ListN.{length};
 ghost use Rattle.buffers.specs.Splice.{Laid};
 ghost use Rattle.io.specs.Counts.{Counts};
-ghost use Rattle.stored_answers.specs.Packing.{laid, unpacked};
+ghost use Rattle.stored_answers.specs.Packing.{partLaid, unpacked};
 
 // A part, its times in 4 bytes and then its unit, put into the buffer from `at` on as far as there is room; the byte
 // after it.
 fn lay(part: &[u8], dst: &mut [u8], at: usize) -> usize
     requires { ⌜ at ≤ length (now dst) ⌝ }
-    ensures { λ r. ⌜ Laid (laid (now (part .entry)) (length (now (dst .entry)) - at)) (now (dst .entry)) at r
+    ensures { λ r. ⌜ Laid (partLaid (now (part .entry)) (length (now (dst .entry)) - at)) (now (dst .entry)) at r
         (now (dst .exit)) ⌝ }
 {
     let times = number(part, 0);

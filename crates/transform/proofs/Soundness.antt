@@ -19,9 +19,10 @@ use Rattle.note.proofs.Sound.{length-starts, length-ends, original-formed, norm
 use Rattle.note.proofs.Faults.{accepted-sound}
 use Rattle.note.proofs.Stretch.{Stretch, joined, before-le, carried-stretch, kept-stretch, empty-stretch, stretch-aligned}
 use Rattle.script.specs.declared.Command.{Command}
-use Rattle.script.specs.Scripts.{sizeOf}
-use Rattle.script.proofs.Scripts.{bytes-formed}
-use Rattle.edit_steps.specs.Edits.{starves, moved, starved, carries, characters, carried, given, Edit, placed, begins, relaid, edited, transformed}
+use Rattle.utf8.specs.Scalar.{lenUtf8}
+use Rattle.utf8.proofs.LenUtf8.{bytes-formed}
+use Rattle.utf8.specs.Formed.{charRange}
+use Rattle.edit_steps.specs.Edits.{starves, moved, starved, carriedValue, characters, carriedValues, produced, Edit, firstPosition, relaid, edited, transformed}
 use Rattle.transform.specs.Transforming.{TransformedSound}
 use Rattle.edit_steps.specs.Walking.{Standing}
 use Rattle.edit_steps.proofs.Positions.{feeds, standing-next, standing-skipped, standing-moved, skipped-on, moved-added, moved-replacing}
@@ -69,15 +70,15 @@ module _ (n : Note) (sound : Sound n) where
         let rest = standing-skipped (c .removed) (standing-next at less) .1 in
         omega (arith, here .positive, rest, moved-replacing s b p c u, skipped-on s b (c .removed) p less)
 
-    added-carries : (xs : List ℕ) → c .added ≡ true → carried xs p c ≡ replicate (length (bytesOf (c .character))) (beforeEnd xs p)
-    unfolding carries sizeOf
+    added-carries : (xs : List ℕ) → c .added ≡ true → carriedValues xs p c ≡ replicate (length (bytesOf (c .character))) (beforeEnd xs p)
+    unfolding carriedValue lenUtf8
     added-carries xs t = rw t
 
-    replacing-carries : (xs : List ℕ) → c .added ≡ false → carried xs p c ≡ replicate (length (bytesOf (c .character))) (beforeEnd xs (suc p))
-    unfolding carries sizeOf
+    replacing-carries : (xs : List ℕ) → c .added ≡ false → carriedValues xs p c ≡ replicate (length (bytesOf (c .character))) (beforeEnd xs (suc p))
+    unfolding carriedValue lenUtf8
     replacing-carries xs u = rw (u, before-here xs)
 
-    piece-stretch : Stretch n p (moved (n .normalized) b p c) (characters p c) (carried (n .starts) p c) (carried (n .ends) p c)
+    piece-stretch : Stretch n p (moved (n .normalized) b p c) (characters p c) (carriedValues (n .starts) p c) (carriedValues (n .ends) p c)
     piece-stretch =
         let inside = boundary-most (n .normalized) b (at .ends) in
         let on = standing-moved c at in
@@ -92,8 +93,8 @@ module _ (n : Note) (sound : Sound n) where
         (carried-stretch n sound (bytesOf (c .character)) p (suc p) (bytes-formed (c .character)) (omega arith) (omega arith))
         (omega arith) (omega arith) (onward u) (omega (arith, on .0 .most))))
 
-  stretches : {b p : ℕ} (cs : List Command) → Standing (n .normalized) b p → starved (n .normalized) b p cs ≡ false → Stretch n p b (given characters (n .normalized) b p cs) (given (carried (n .starts)) (n .normalized) b p cs) (given (carried (n .ends)) (n .normalized) b p cs)
-  unfolding given
+  stretches : {b p : ℕ} (cs : List Command) → Standing (n .normalized) b p → starved (n .normalized) b p cs ≡ false → Stretch n p b (produced characters (n .normalized) b p cs) (produced (carriedValues (n .starts)) (n .normalized) b p cs) (produced (carriedValues (n .ends)) (n .normalized) b p cs)
+  unfolding produced
   stretches {b} {p} [] at e = empty-stretch n p b
   stretches {b} {p} (c ∷ cs) at e =
       let both = fed (n .normalized) b p c cs e in
@@ -105,9 +106,9 @@ module _ (n : Note) (sound : Sound n) where
       joined n p q b _ _ _ _ _ _ (piece-stretch c at (both .0)) (stretches cs (on .0) (both .1)) (low .0) (low .1) (high .0) (high .1)
 
   -- what stands before the range, what the commands give, what stands behind
-  whole-stretch : (e : Edit) → placed (n .normalized) (e .from) (e .to) ≡ true → starved (n .normalized) (e .to) (begins (n .normalized) e) (e .commands) ≡ false
-      → Stretch n 0 (length (n .normalized)) (edited characters (n .normalized) e (n .normalized)) (edited (carried (n .starts)) (n .normalized) e (n .starts)) (edited (carried (n .ends)) (n .normalized) e (n .ends))
-  unfolding edited relaid begins
+  whole-stretch : (e : Edit) → charRange (n .normalized) (e .from) (e .to) ≡ true → starved (n .normalized) (e .to) (firstPosition (n .normalized) e) (e .commands) ≡ false
+      → Stretch n 0 (length (n .normalized)) (edited characters (n .normalized) e (n .normalized)) (edited (carriedValues (n .starts)) (n .normalized) e (n .starts)) (edited (carriedValues (n .ends)) (n .normalized) e (n .ends))
+  unfolding edited relaid firstPosition
   whole-stretch e p f =
       let s : List ℕ = n .normalized in
       let formed = normalized-formed n sound in

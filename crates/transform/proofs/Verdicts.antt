@@ -16,13 +16,14 @@ use Rattle.utf8.specs.Formed.{wellFormed, boundary}
 use Rattle.utf8.specs.Lengths.{lengthTable}
 use Rattle.utf8.proofs.Boundaries.{boundary-most}
 use Rattle.note.specs.declared.Refusal.{Refusal}
-use Rattle.note.specs.declared.Refusal.the-variants.{TooLong, NotBoundary, BadScript, Exhausted, NoRoom}
+use Rattle.note.specs.declared.Refusal.the-variants.{TooLong, NotBoundary, BadScript, Exhausted, NoRoom, CountMismatch, Misaligned}
 use Rattle.note.specs.declared.Verdict.{Verdict}
 use Rattle.note.specs.declared.Verdict.the-variants.{Accepted, Refused as Rejected}
 use Rattle.note.specs.Refusals.{order, least, also, verdict}
 use Rattle.note.specs.Notes.{Note, lent, fits, Sound}
 use Rattle.note.specs.Faults.{noteFaults}
-use Rattle.note.proofs.Verdicts.{accepted-meets, unmet, refused-then, accepted-then}
+use Rattle.note.specs.Rank.{upTo}
+use Rattle.note.proofs.FirstMet.{accepted-meets, unmet, refused-then, accepted-then}
 use Rattle.note.proofs.Sound.{length-starts, length-ends, normalized-formed}
 use Rattle.note.proofs.Faults.{accepted-sound}
 use Rattle.convert.specs.declared.Range.{Range}
@@ -30,27 +31,28 @@ use Rattle.convert.specs.declared.Range.the-variants.{Original, Normalized}
 use Rattle.convert.specs.declared.Converted.{Converted}
 use Rattle.convert.specs.declared.Converted.the-variants.{Found, Refused}
 use Rattle.convert.specs.Converting.{startOf, endOf}
-use Rattle.convert.specs.Blocks.{Columns}
+use Rattle.convert.specs.Blocks.{OrderedColumns}
 use Rattle.convert.proofs.Answered.{accepted-columns}
-use Rattle.get_range.specs.Reading.{asNormalized}
+use Rattle.convert.specs.Converting.{asNormalized}
 use Rattle.script.specs.declared.Command.{Command}
 use Rattle.script.specs.Scripts.{commandsFrom, commandsOf, whole, scriptFaults}
 use Rattle.transform.specs.declared.Editing.{Editing}
 use Rattle.transform.specs.declared.Editing.the-variants.{Edited, Refused as Refusing}
 use Rattle.edit_steps.specs.declared.walking.Extent.{Extent}
 use Rattle.edit_steps.specs.declared.walking.Extent.the-variants.{Size, Starved}
-use Rattle.edit_steps.specs.Edits.{skipped, characters, starved, Edit, placed, begins, edited, transformed}
-use Rattle.edit_steps.specs.Walking.{Standing, Tabled, sizes, measured}
+use Rattle.utf8.specs.Formed.{charRange}
+use Rattle.edit_steps.specs.Edits.{skipped, characters, starved, Edit, firstPosition, edited, transformed}
+use Rattle.edit_steps.specs.Walking.{Standing, Tabled, commandsSize, measured}
 use Rattle.edit_steps.specs.Laying.{Editable, EditRoom, EditLaid}
 use Rattle.transform.specs.Transforming.{target, editOf, editFaults, Rewritten}
 use Rattle.edit_steps.proofs.Positions.{standing-skipped}
 use Rattle.edit_steps.proofs.Measured.{measured-starved, measured-size}
 use Rattle.edit_steps.proofs.Given.{characters-wide, length-relaid}
 
--- a range that is placed
-module _ {s : List ℕ} (e : Edit) (formed : wellFormed s ≡ true) (p : placed s (e .from) (e .to) ≡ true) where
+-- a range that is charRange
+module _ {s : List ℕ} (e : Edit) (formed : wellFormed s ≡ true) (p : charRange s (e .from) (e .to) ≡ true) where
   pub placed-from : Standing s (e .to) (e .from)
-  unfolding placed
+  unfolding charRange
   placed-from =
       let two : (leb (e .from) (e .to) && boundary s (e .from)) ≡ true = and-elim-left _ (boundary s (e .to)) p in
       record {
@@ -60,16 +62,16 @@ module _ {s : List ℕ} (e : Edit) (formed : wellFormed s ≡ true) (p : placed 
         most = leb-true _ _ (and-elim-left _ (boundary s (e .from)) two);
       }
 
-  pub placed-standing : Standing s (e .to) (begins s e)
-  unfolding begins
+  pub placed-standing : Standing s (e .to) (firstPosition s e)
+  unfolding firstPosition
   placed-standing = standing-skipped (e .skip) placed-from .0
 
 -- an edit that is accepted
 module _ (most : ℕ) (s : List ℕ) (e : Edit) (room : ℕ) (a : verdict (editFaults most s e room) ≡ Accepted) where
-  pub accepted-placed : placed s (e .from) (e .to) ≡ true
-  accepted-placed = not-false (placed s (e .from) (e .to)) (accepted-meets (editFaults most s e room) a NotBoundary)
+  pub accepted-placed : charRange s (e .from) (e .to) ≡ true
+  accepted-placed = not-false (charRange s (e .from) (e .to)) (accepted-meets (editFaults most s e room) a NotBoundary)
 
-  pub accepted-fed : starved s (e .to) (begins s e) (e .commands) ≡ false
+  pub accepted-fed : starved s (e .to) (firstPosition s e) (e .commands) ≡ false
   accepted-fed = accepted-meets (editFaults most s e room) a Exhausted
 
   pub accepted-size : length (edited characters s e s) ≤ min most room
@@ -77,15 +79,15 @@ module _ (most : ℕ) (s : List ℕ) (e : Edit) (room : ℕ) (a : verdict (editF
 
 -- the edit's part of the verdict, by what the code tests
 module _ (most : ℕ) (s : List ℕ) (e : Edit) (room : ℕ) where
-  pub off-place : placed s (e .from) (e .to) ≡ false → Rejected NotBoundary ≡ verdict (editFaults most s e room)
+  pub off-place : charRange s (e .from) (e .to) ≡ false → Rejected NotBoundary ≡ verdict (editFaults most s e room)
   unfolding verdict
   off-place p = rw p
 
-  pub starving : placed s (e .from) (e .to) ≡ true → starved s (e .to) (begins s e) (e .commands) ≡ true → Rejected Exhausted ≡ verdict (editFaults most s e room)
+  pub starving : charRange s (e .from) (e .to) ≡ true → starved s (e .to) (firstPosition s e) (e .commands) ≡ true → Rejected Exhausted ≡ verdict (editFaults most s e room)
   unfolding verdict
   starving p f = rw (p, f)
 
-  module _ (p : placed s (e .from) (e .to) ≡ true) (f : starved s (e .to) (begins s e) (e .commands) ≡ false) where
+  module _ (p : charRange s (e .from) (e .to) ≡ true) (f : starved s (e .to) (firstPosition s e) (e .commands) ≡ false) where
     pub too-large : min most room < length (edited characters s e s) → Rejected NoRoom ≡ verdict (editFaults most s e room)
     unfolding verdict
     too-large h = rw (p, f, lt-leb _ _ h)
@@ -102,20 +104,6 @@ refused-rewritten {made = made} {out} {starts} {ends} e =
 pub accepted-rewritten : {v : Verdict} {made : Note} {out₀ starts₀ ends₀ : List ℕ} {size : ℕ} {out starts ends : List ℕ} → Accepted ≡ v → size ≡ length (made .normalized) → out ≡ overlay (made .normalized) out₀ → starts ≡ overlay (made .starts) starts₀ → ends ≡ overlay (made .ends) ends₀ → Rewritten v made out₀ starts₀ ends₀ (Edited size) out starts ends
 accepted-rewritten e long o s t = rw (← e) (record { answer = ap Edited long; text-is = o; starts-are = s; ends-are = t })
 
--- the range as the code judges it
-module _ (s : List ℕ) (a b : ℕ) where
-  pub placed-reversed : b < a → false ≡ placed s a b
-  unfolding placed
-  placed-reversed h = sym (and-false-l _ (boundary s b) (and-false-l _ (boundary s a) (lt-leb a b h)))
-
-  pub placed-inside : {t : Bool} → t ≡ boundary s a → not t ≡ true → false ≡ placed s a b
-  unfolding placed
-  placed-inside {t} is u = sym (and-false-l _ (boundary s b) (and-false-r (leb a b) _ (sym is ∙ not-true t u)))
-
-  pub placed-ends : {t r : Bool} → a ≤ b → t ≡ boundary s a → not t ≡ false → r ≡ boundary s b → r ≡ placed s a b
-  unfolding placed
-  placed-ends {t} h is u e = e ∙ rw (le-leb a b h, sym is ∙ not-false t u)
-
 -- the cleaned range that a range names is the one that a reader takes
 pub target-of : (starts ends : List ℕ) (range : Range) → asNormalized starts ends range ≡ target starts ends range
 unfolding asNormalized
@@ -123,7 +111,7 @@ target-of starts ends (Original a b) = refl
 target-of starts ends (Normalized a b) = refl
 
 -- AN EDIT of an accepted note, as the code goes through it
-module _ (most : ℕ) {s starts ends : List ℕ} (ed : Editable s starts ends) (a b skip : ℕ) (cs : List Command) (out₀ starts₀ ends₀ : List ℕ) {t : Bool} (is : t ≡ placed s a b) where
+module _ (most : ℕ) {s starts ends : List ℕ} (ed : Editable s starts ends) (a b skip : ℕ) (cs : List Command) (out₀ starts₀ ends₀ : List ℕ) {t : Bool} (is : t ≡ charRange s a b) where
   e : Edit
   e = record { from = a; to = b; skip = skip; commands = cs }
 
@@ -141,7 +129,7 @@ module _ (most : ℕ) {s starts ends : List ℕ} (ed : Editable s starts ends) (
   not-placed u = refused-rewritten (off-place most s e rooms (sym is ∙ not-true t u))
 
   module _ (u : not t ≡ false) {table : List ℕ} (tab : table ≡ lengthTable) where
-    is-placed : placed s a b ≡ true
+    is-placed : charRange s a b ≡ true
     is-placed = sym is ∙ not-false t u
 
     from-standing : Standing s b a
@@ -160,23 +148,23 @@ module _ (most : ℕ) {s starts ends : List ℕ} (ed : Editable s starts ends) (
 
       module _ {x : Extent} (m : x ≡ measured s b p cs) where
         pub starved-refused : x ≡ Starved → Made (Refusing Exhausted) out₀ starts₀ ends₀
-        unfolding e rooms begins
+        unfolding e rooms firstPosition
         starved-refused st =
             refused-rewritten (starving most s e rooms is-placed (rw (← begun) (measured-starved s b p cs (sym m ∙ st))))
 
         module _ {size : ℕ} (some : x ≡ Size size) {low room : ℕ} (lowest : low ≡ least (length out₀) (length starts₀) (length ends₀)) (r : room ≡ min most low) where
-          told : (starved s b p cs ≡ false) × (size ≡ sizes cs)
+          told : (starved s b p cs ≡ false) × (size ≡ commandsSize cs)
           told = measured-size s b p cs (sym m ∙ some)
 
           inside : b ≤ length s
           inside = boundary-most s b (from-standing .ends)
 
           long : length (edited characters s e s) ≡ a + size + (length s - b)
-          unfolding e edited begins
+          unfolding e edited firstPosition
           long = rw (← begun, told .1) (length-relaid characters characters-wide s b a p cs s (omega (arith, inside, from-standing .most)))
 
-          here-fed : starved s b (begins s e) cs ≡ false
-          unfolding e begins
+          here-fed : starved s b (firstPosition s e) cs ≡ false
+          unfolding e firstPosition
           here-fed = rw (← begun) (told .0)
 
           pub refused-kept : room < a + (length s - b) → Made (Refusing NoRoom) out₀ starts₀ ends₀
@@ -203,14 +191,14 @@ module _ (most : ℕ) {s starts ends : List ℕ} (ed : Editable s starts ends) (
                 }
 
             pub edit-made : {n : ℕ} {out starts₁ ends₁ : List ℕ} → EditLaid s starts ends a b p cs out₀ starts₀ ends₀ n out starts₁ ends₁ → Made (Edited n) out starts₁ ends₁
-            unfolding e rooms transformed edited begins
+            unfolding e rooms transformed edited firstPosition
             edit-made {n} {out} {starts₁} {ends₁} d =
                 let fine = small-enough most s e rooms is-placed here-fed (omega (arith, long, lowest, r)) in
                 let laid : EditLaid s starts ends a b (skipped s b skip a) cs out₀ starts₀ ends₀ n out starts₁ ends₁ = rw begun at d in
                 accepted-rewritten fine (laid .reached) (laid .text-is) (laid .starts-are) (laid .ends-are)
 
 -- an edit behind other inputs, all of whose conditions rank before its own
-module _ (most : ℕ) (n : Note) (inputs : Refusal → Bool) (low : unmet (drop 7 order) inputs ≡ true) (e : Edit) (out₀ starts₀ ends₀ : List ℕ) {v : Verdict} (judged : v ≡ verdict inputs) where
+module _ (most : ℕ) (n : Note) (inputs : Refusal → Bool) (low : unmet (drop (upTo CountMismatch) order) inputs ≡ true) (e : Edit) (out₀ starts₀ ends₀ : List ℕ) {v : Verdict} (judged : v ≡ verdict inputs) where
   rest : Refusal → Bool
   rest = editFaults most (n .normalized) e (least (length out₀) (length starts₀) (length ends₀))
 
@@ -220,18 +208,18 @@ module _ (most : ℕ) (n : Note) (inputs : Refusal → Bool) (low : unmet (drop 
 
   pub inputs-refused : {k : Refusal} → v ≡ Rejected k → Behind (Refusing k) out₀ starts₀ ends₀
   unfolding rest
-  inputs-refused is = refused-rewritten (refused-then 7 inputs rest low refl judged is)
+  inputs-refused is = refused-rewritten (refused-then (upTo CountMismatch) inputs rest low refl judged is)
 
   pub inputs-accepted : v ≡ Accepted → {d : Edit} → d ≡ e → {r : Editing} {out starts ends : List ℕ} → Rewritten (verdict (editFaults most (n .normalized) d (least (length out₀) (length starts₀) (length ends₀)))) (transformed (lent [] (n .normalized) (n .starts) (n .ends) 0) d) out₀ starts₀ ends₀ r out starts ends → Behind r out starts ends
   unfolding rest transformed
   inputs-accepted ok same made =
-      let all : verdict rest ≡ verdict (also inputs rest) = accepted-then 7 inputs rest low refl judged ok refl in
+      let all : verdict rest ≡ verdict (also inputs rest) = accepted-then (upTo CountMismatch) inputs rest low refl judged ok refl in
       let k = rw same at made in
       rw (← all) (record { answer = k .answer; text-is = k .text-is; starts-are = k .starts-are; ends-are = k .ends-are })
 
 -- what an accepted note gives
 module _ (most : ℕ) (n : Note) {v : Verdict} (noted : v ≡ verdict (noteFaults most n)) (ok : v ≡ Accepted) where
-  pub note-columns : Columns most (n .starts) (n .ends)
+  pub note-columns : OrderedColumns most (n .starts) (n .ends)
   note-columns = accepted-columns most n (sym noted ∙ ok)
 
   pub note-editable : Editable (n .normalized) (n .starts) (n .ends)
@@ -242,7 +230,7 @@ module _ (most : ℕ) (n : Note) {v : Verdict} (noted : v ≡ verdict (noteFault
 -- THE CALL, as the code goes through it: note and script
 module _ (most : ℕ) (n : Note) (l : List ℕ) {v : Verdict} (noted : v ≡ verdict (noteFaults most n)) where
   pub note-refused : {k : Refusal} → v ≡ Rejected k → Rejected k ≡ verdict (also (noteFaults most n) (scriptFaults l))
-  note-refused e = refused-then 4 (noteFaults most n) (scriptFaults l) refl refl noted e
+  note-refused e = refused-then (upTo Misaligned) (noteFaults most n) (scriptFaults l) refl refl noted e
 
   module _ (ok : v ≡ Accepted) {t : Bool} (is : t ≡ whole l) where
     script-verdict : verdict (scriptFaults l) ≡ cond t Accepted (Rejected BadScript)
@@ -250,10 +238,10 @@ module _ (most : ℕ) (n : Note) (l : List ℕ) {v : Verdict} (noted : v ≡ ver
     script-verdict = rw (← is) (true-or-false t (λ y. rw y) (λ z. rw z))
 
     pub script-refused : not t ≡ true → Rejected BadScript ≡ verdict (also (noteFaults most n) (scriptFaults l))
-    script-refused u = accepted-then 4 (noteFaults most n) (scriptFaults l) refl refl noted ok (sym (script-verdict ∙ rw (not-true t u)))
+    script-refused u = accepted-then (upTo Misaligned) (noteFaults most n) (scriptFaults l) refl refl noted ok (sym (script-verdict ∙ rw (not-true t u)))
 
     pub script-accepted : not t ≡ false → Accepted ≡ verdict (also (noteFaults most n) (scriptFaults l))
-    script-accepted u = accepted-then 4 (noteFaults most n) (scriptFaults l) refl refl noted ok (sym (script-verdict ∙ rw (not-false t u)))
+    script-accepted u = accepted-then (upTo Misaligned) (noteFaults most n) (scriptFaults l) refl refl noted ok (sym (script-verdict ∙ rw (not-false t u)))
 
 -- the edit that a target asks for
 pub edit-found : {x y : Converted} {r : Range} {a b : ℕ} (skip : ℕ) (cs : List Command) → x ≡ y → x ≡ Found r → a ≡ startOf r → b ≡ endOf r → record { from = a; to = b; skip = skip; commands = cs } ≡ editOf y skip cs

@@ -20,7 +20,8 @@ use Rattle.script.specs.declared.Command.{Command}
 use Rattle.script.specs.Scripts.{commandsOf, scriptFaults}
 use Rattle.transform.specs.declared.Editing.{Editing}
 use Rattle.transform.specs.declared.Editing.the-variants.{Edited, Refused as Refusing}
-use Rattle.edit_steps.specs.Edits.{characters, starved, Edit, placed, begins, edited, transformed, unchanging}
+use Rattle.utf8.specs.Formed.{charRange}
+use Rattle.edit_steps.specs.Edits.{characters, starved, Edit, firstPosition, edited, transformed, unchanging}
 
 -- RULES 7.2: a range of the cleaned text as it is, one of the transcript as it converts; where it converts to nothing,
 -- the note stays as it is
@@ -35,8 +36,8 @@ editOf (Refused k) skip cs = unchanging
 -- the refusals of an edit beside the room that is lent: 5, 7, 9
 abbrev pub editFaults : ℕ → List ℕ → Edit → ℕ → Refusal → Bool
 editFaults most s e room =
-    meets NotBoundary (not (placed s (e .from) (e .to)))
-    (meets Exhausted (starved s (e .to) (begins s e) (e .commands))
+    meets NotBoundary (not (charRange s (e .from) (e .to)))
+    (meets Exhausted (starved s (e .to) (firstPosition s e) (e .commands))
     (roomFaults (length (edited characters s e s)) (min most room)))
 
 -- the answer: how many bytes the cleaned text has then, or the refusal
@@ -63,8 +64,8 @@ transformFaults most n range script skip room =
     (editFaults most (n .normalized) (scriptEdit n range script skip) room)
 
 -- the whole transcript, which `transform` takes
-abbrev pub wholeTranscript : List ℕ → Range
-wholeTranscript original = inOriginal 0 (length original)
+abbrev pub wholeOriginal : List ℕ → Range
+wholeOriginal original = inOriginal 0 (length original)
 
 -- CLAIM: an accepted edit leaves a sound note, and one within the limit.
 abbrev pub TransformedSound : Type 0

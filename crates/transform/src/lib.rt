@@ -5,19 +5,19 @@ use checks::least_of_two;
 use checks::least_room;
 use convert::Converted;
 use convert::Range;
+use convert::as_normalized;
 use convert::end_of;
 use convert::start_of;
 use edit_steps::laying::lay_edit;
 use edit_steps::walking::Extent;
 use edit_steps::walking::measure;
 use edit_steps::walking::skip;
-use get_range::as_normalized;
 use note::LIMIT;
 use note::OriginalByte;
 use note::Refusal;
 use note::Verdict;
 use script::whole;
-use utf8::is_char_boundary;
+use utf8::is_char_range;
 use utf8::lead::lengths;
 ghost use mathlib.Core.Path.{_≡_};
 ghost use mathlib.Core.List.{[]};
@@ -25,28 +25,15 @@ ghost use lib.ListN.{length};
 ghost use Rattle.note.specs.Notes.{lent, limit};
 ghost use Rattle.note.specs.Refusals.{least, verdict};
 ghost use Rattle.script.specs.Scripts.{commandsOf};
-ghost use Rattle.edit_steps.specs.Edits.{placed, transformed};
+ghost use Rattle.edit_steps.specs.Edits.{transformed};
 ghost use Rattle.edit_steps.specs.Laying.{Editable};
 ghost use Rattle.transform.specs.Transforming.{editFaults, Rewritten, scriptEdit};
-ghost use Rattle.transform.specs.Transforming.{transformFaults, wholeTranscript};
+ghost use Rattle.transform.specs.Transforming.{transformFaults, wholeOriginal};
 
 // How many bytes the cleaned text has after an edit; or why nothing is edited.
 pub enum Editing {
     Edited(usize),
     Refused(Refusal),
-}
-
-// Whether a range lies in a text, from a boundary to a boundary.
-pub fn placed(text: &[u8], from: usize, to: usize) -> bool
-    ensures { λ r. ⌜ r ≡ placed (now (text .entry)) from to ⌝ }
-{
-    if to < from {
-        return false;
-    }
-    if !is_char_boundary(text, from) {
-        return false;
-    }
-    is_char_boundary(text, to)
 }
 
 // A range of the cleaned text made anew by a script; an inner function, for an accepted note and a whole script.
@@ -72,7 +59,7 @@ pub fn edit(
         (now (out .entry)) (now («out_starts» .entry)) (now («out_ends» .entry))
         r (now (out .exit)) (now («out_starts» .exit)) (now («out_ends» .exit)) ⌝ }
 {
-    if !placed(text, from, to) {
+    if !is_char_range(text, from, to) {
         return Editing::Refused(Refusal::NotBoundary);
     }
     let table = lengths();
@@ -192,7 +179,7 @@ pub fn transform(
         (verdict (transformFaults limit
         (lent (now (original .entry)) (now (normalized .entry)) (now (starts .entry)) (now (ends .entry))
         «original_shift»)
-        (wholeTranscript (now (original .entry))) (now (script .entry)) «initial_offset»
+        (wholeOriginal (now (original .entry))) (now (script .entry)) «initial_offset»
         (least (length (now (out .entry))) (length (now («out_starts» .entry))) (length (now («out_ends» .entry))))))
         (transformed
         (lent (now (original .entry)) (now (normalized .entry)) (now (starts .entry)) (now (ends .entry))
@@ -200,7 +187,7 @@ pub fn transform(
         (scriptEdit
         (lent (now (original .entry)) (now (normalized .entry)) (now (starts .entry)) (now (ends .entry))
         «original_shift»)
-        (wholeTranscript (now (original .entry))) (now (script .entry)) «initial_offset»))
+        (wholeOriginal (now (original .entry))) (now (script .entry)) «initial_offset»))
         (now (out .entry)) (now («out_starts» .entry)) (now («out_ends» .entry))
         r (now (out .exit)) (now («out_starts» .exit)) (now («out_ends» .exit)) ⌝ }
 {

@@ -1,7 +1,7 @@
 -- Laws of `boundary`: well-formed texts joined there, and cut there; what stands between a boundary and the next one.
 use Prim.Native.Nat.{ℕ, suc, _+_, _-_, _≤_, _<_}
 use mathlib.Core.Path.{_≡_, _∙_, refl, sym}
-use mathlib.Core.Bool.{Bool, true, false, not}
+use mathlib.Core.Bool.{Bool, true, false, not, _&&_}
 use mathlib.Core.List.{List, [], _∷_, _++_}
 use mathlib.Mathlib.Data.Bool.Basic.{and-intro, and-elim-left, and-elim-right}
 use native.Mathlib.Omega.{arith}
@@ -13,7 +13,7 @@ use Rattle.buffers.specs.Splice.{part}
 use Rattle.buffers.proofs.Cases.{le-or-lt}
 use Rattle.buffers.proofs.Booleans.{and-false-l}
 use Rattle.utf8.specs.Table.{within}
-use Rattle.utf8.specs.Formed.{announced, asked, formed, wellFormed, continues, boundary, BoundaryCuts}
+use Rattle.utf8.specs.Formed.{announced, asked, formed, wellFormed, continues, boundary, charRange, BoundaryCuts}
 use Rattle.utf8.specs.Lengths.{CharLen}
 use Rattle.utf8.proofs.Formed.{none, announced-small, length-asked, asked-later, formed-lead, formed-rest, formed-cut, begins-after, asked-inside, asked-continue, asked-end}
 
@@ -125,3 +125,17 @@ char-at s a p e h =
 pub char-len : {s : List ℕ} {i r : ℕ} → wellFormed s ≡ true → boundary s i ≡ true → i < length s → r ≡ announced (getD s i 0) → CharLen s i r
 char-len {s} {i} p e h is =
     let here = char-at s i p e h in record { long = is; inside = rw is (here .inside); ends = rw is (here .ends) }
+
+-- a range from a boundary to a boundary
+pub char-range-reversed : (s : List ℕ) (a e : ℕ) → e < a → false ≡ charRange s a e
+unfolding charRange
+char-range-reversed s a e h = rw (lt-leb a e h)
+
+pub char-range-both : (s : List ℕ) (a e : ℕ) {x y : Bool} → a ≤ e → x ≡ boundary s a → y ≡ boundary s e → (x && y) ≡ charRange s a e
+unfolding charRange
+char-range-both s a e h p q = rw (p, q, le-leb a e h)
+
+pub char-range-inside : (s : List ℕ) (a e : ℕ) → charRange s a e ≡ true → (a ≤ e) × (e ≤ length s)
+unfolding charRange
+char-range-inside s a e r =
+    (leb-true a e (and-elim-left _ (boundary s a) (and-elim-left _ (boundary s e) r)), boundary-most s e (and-elim-right (leb a e && boundary s a) _ r))

@@ -2,6 +2,9 @@
 pub mod Formed
 pub mod Table
 pub mod Boundaries
-pub mod Letters
+pub mod Chars
 pub mod Scalar
 pub mod Lengths
+pub mod CharRanges
+pub mod LenUtf8
+pub mod LeadLen

@@ -3,7 +3,7 @@ use Prim.Native.Nat.{ℕ, _≤_}
 use mathlib.Core.Path.{_≡_}
 use mathlib.Core.List.{List}
 use lib.ListN.{length, take}
-use Rattle.utf8.specs.Letters.{leads}
+use Rattle.utf8.specs.Chars.{leads}
 
 -- a count that has come as far as i
 pub record Counted (s : List ℕ) (n i : ℕ) : Type 0 where

@@ -52,6 +52,10 @@ continues b = within trail b
 unfoldable pub boundary : List ℕ → ℕ → Bool
 boundary s i = leb i (length s) && not (continues (getD s i 0))
 
+-- RULES 3: a range of a text from a boundary to a boundary (Rust: `str::get` has a part there)
+unfoldable pub charRange : List ℕ → ℕ → ℕ → Bool
+charRange s a e = leb a e && boundary s a && boundary s e
+
 -- CLAIM: cut at a boundary, a well-formed text is two of them; and where what stands before a place is well-formed,
 -- the place is a boundary
 abbrev pub BoundaryCuts : Type 0

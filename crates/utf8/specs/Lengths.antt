@@ -1,8 +1,9 @@
 -- The table of what each of the 256 bytes announces as a lead byte, and the length of a character read off it.
 use Prim.Native.Nat.{ℕ, _+_, _≤_, _<_}
 use mathlib.Core.Path.{_≡_}
-use mathlib.Core.Bool.{true}
+use mathlib.Core.Bool.{true, cond}
 use mathlib.Core.List.{List, _++_}
+use lib.Dec.{ltb}
 use lib.ListN.{length, getD, replicate}
 use Rattle.utf8.specs.Formed.{announced, wellFormed, boundary}
 
@@ -32,3 +33,11 @@ pub record CharLen (s : List ℕ) (i r : ℕ) : Type 0 where
   pub long : r ≡ announced (getD s i 0)
   pub inside : i + r ≤ length s
   pub ends : boundary s (i + r) ≡ true
+
+-- how many bytes the character has that b begins in a well-formed text; 1 where b begins none
+unfoldable pub leadLen : ℕ → ℕ
+leadLen b = cond (ltb b 0xC0) 1 (cond (ltb b 0xE0) 2 (cond (ltb b 0xF0) 3 4))
+
+-- CLAIM: a byte that begins a character announces just that
+abbrev pub LeadLenRight : Type 0
+LeadLenRight = (b : ℕ) → 0 < announced b → leadLen b ≡ announced b

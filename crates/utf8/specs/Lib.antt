@@ -2,7 +2,8 @@
 pub mod Table
 pub mod Formed
 pub mod Lengths
+pub mod CharRanges
 pub mod Scalar
 pub mod Encoding
-pub mod Letters
+pub mod Chars
 pub mod Counting

@@ -3,6 +3,7 @@ use Prim.Native.Nat.{ℕ, _+_, _/_, _%_}
 use mathlib.Core.Path.{_≡_}
 use mathlib.Core.Bool.{Bool, true, cond, _&&_, not}
 use mathlib.Core.List.{List, [], _∷_}
+use lib.ListN.{length}
 use lib.Dec.{leb, ltb}
 use Rattle.utf8.specs.Table.{rows, ofSome}
 
@@ -24,6 +25,10 @@ encoded c =
 -- the bytes of a scalar value, and none of any other number
 unfoldable pub bytesOf : ℕ → List ℕ
 bytesOf c = cond (scalar c) (encoded c) []
+
+-- how many bytes a character has (Rust: `char::len_utf8`)
+unfoldable pub lenUtf8 : ℕ → ℕ
+lenUtf8 c = length (bytesOf c)
 
 -- CLAIM: the bytes of a scalar value are one sequence of Table 3-7
 abbrev pub ScalarSequence : Type 0

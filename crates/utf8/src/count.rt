@@ -3,7 +3,7 @@ use crate::continues;
 ghost use mathlib.Core.Path.{_≡_};
 ghost use Prim.Native.Nat.{_≤_};
 ghost use lib.ListN.{length};
-ghost use Rattle.utf8.specs.Letters.{leads};
+ghost use Rattle.utf8.specs.Chars.{leads};
 
 // A block of at most 255 bytes, whose count fits one byte.
 fn block_leads(s: &[u8]) -> u8

@@ -1,8 +1,13 @@
-// The length of a character, by the table of what its lead byte announces.
+// The length of a character: by the table of what its lead byte announces, by the lead byte alone where the text is
+// well-formed, and by its code point.
 // A caller makes the table a local once and lends it down: a constant is built at every use.
+use buffers::lanes::max_u8;
+use buffers::lanes::min_u8;
+use buffers::lanes::saturating_sub_u8;
 ghost use mathlib.Core.Path.{_≡_};
 ghost use Rattle.utf8.specs.Formed.{announced};
-ghost use Rattle.utf8.specs.Lengths.{lengthTable, CharBegins, CharLen};
+ghost use Rattle.utf8.specs.Lengths.{CharBegins, CharLen, leadLen, lengthTable};
+ghost use Rattle.utf8.specs.Scalar.{lenUtf8};
 
 // RULES 3: the number of bytes that a lead byte announces, or 0.
 pub const LENGTHS: [u8; 256] = [
@@ -285,4 +290,46 @@ pub fn char_len(s: &[u8], i: usize, table: &[u8; 256]) -> usize
     ensures { λ r. ⌜ CharLen (now (s .entry)) i r ⌝ }
 {
     announced_length(table, s[i]) as usize
+}
+
+// How many bytes the character has that a byte begins in a well-formed text; 1 where it begins none. By branches: a
+// text's characters are mostly alike, and each step waits for the one before it.
+pub fn lead_len(b: u8) -> usize
+    ensures { λ r. ⌜ r ≡ leadLen b ⌝ }
+{
+    if b < 0xC0 {
+        return 1;
+    }
+    if b < 0xE0 {
+        return 2;
+    }
+    if b < 0xF0 {
+        return 3;
+    }
+    4
+}
+
+// `lead_len` without a branch, so that a loop over it is vectorised. By the byte's first four bits: half the
+// instructions of three comparisons.
+pub fn lead_len_lane(b: u8) -> u8
+    ensures { λ r. ⌜ r ≡ leadLen b ⌝ }
+{
+    let lead = saturating_sub_u8(b / 16, 11);
+    max_u8(lead, min_u8(lead, 1) + 1)
+}
+
+// How many bytes a character has; 0 for a number that is no scalar value (Rust: `char::len_utf8`).
+pub fn len_utf8(character: u32) -> usize
+    ensures { λ r. ⌜ r ≡ lenUtf8 character ⌝ }
+{
+    if 0x10FFFF < character {
+        return 0;
+    }
+    if (0xD800 <= character) & (character <= 0xDFFF) {
+        return 0;
+    }
+    1
+        + (0x80 <= character) as usize
+        + (0x800 <= character) as usize
+        + (0x10000 <= character) as usize
 }

@@ -1,10 +1,11 @@
 // Characters: announced lengths, well-formed UTF-8, boundaries, letter counts, a scalar value's bytes.
 pub mod count;
 pub mod lead;
+pub mod ranges;
 
 ghost use mathlib.Core.Path.{_≡_};
 ghost use Rattle.utf8.specs.Encoding.{EncodedAs};
-ghost use Rattle.utf8.specs.Formed.{boundary, continues};
+ghost use Rattle.utf8.specs.Formed.{boundary, charRange, continues};
 ghost use Rattle.utf8.specs.Scalar.{scalar};
 
 // Whether a byte continues a character (RULES 3).
@@ -22,6 +23,16 @@ pub fn is_char_boundary(s: &[u8], i: usize) -> bool
         return !continues(s[i]);
     }
     i == s.len()
+}
+
+// Whether start..end is a range of the text from a boundary to a boundary.
+pub fn is_char_range(s: &[u8], start: usize, end: usize) -> bool
+    ensures { λ r. ⌜ r ≡ charRange (now (s .entry)) start end ⌝ }
+{
+    if end < start {
+        return false;
+    }
+    is_char_boundary(s, start) & is_char_boundary(s, end)
 }
 
 // Whether a number is a scalar value: up to U+10FFFF, surrogates excepted.

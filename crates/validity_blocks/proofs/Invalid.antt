@@ -13,7 +13,7 @@ use Rattle.buffers.proofs.Booleans.{and-false-r}
 use Rattle.utf8.specs.Table.{bytes, within, trail}
 use Rattle.utf8.specs.Formed.{second}
 use Rattle.utf8.proofs.Formed.{second-trail, second-continues, continues-high}
-use Rattle.validity_blocks.specs.Extremes.{fromLead, Between}
+use Rattle.validity_blocks.specs.Extremes.{fromLead, LeadBetween}
 use Rattle.validity_blocks.specs.Valid.{pending, never, invalid}
 
 module _ (b3 b2 b1 : ℕ) where
@@ -98,12 +98,12 @@ high-low n b =
     (λ low. rw (lt-ltb b (n + 1) low, le-ltb n b (omega arith)))
 
 -- between C0 and E0 there is no byte that counts 21 or more
-plain-high : {n b : ℕ} → Between 0x21 n b → n ≤ 0xF4 → 0xC0 ≤ b → 0xE1 ≤ b
+plain-high : {n b : ℕ} → LeadBetween 0x21 n b → n ≤ 0xF4 → 0xC0 ≤ b → 0xE1 ≤ b
 unfolding fromLead
 plain-high p most h = omega (arith, p .far, p .low)
 
 -- the larger of two plain bytes tells whether a character is pending, and a third byte counted from 30 on
-plain-pending : {n b2 m : ℕ} (b3 b1 : ℕ) → Between 0x21 n b2 → n ≤ 0xF4 → m ≡ max (max b1 b2) (b3 - 0x30) → leb 0xC0 m ≡ pending b3 b2 b1
+plain-pending : {n b2 m : ℕ} (b3 b1 : ℕ) → LeadBetween 0x21 n b2 → n ≤ 0xF4 → m ≡ max (max b1 b2) (b3 - 0x30) → leb 0xC0 m ≡ pending b3 b2 b1
 plain-pending {n} {b2} {m} b3 b1 p most larger =
     le-or-lt 0xC0 b1
     (λ h. le-leb 0xC0 m (omega arith) ∙ sym (pending-1 b3 b2 b1 h))
@@ -117,7 +117,7 @@ never-low : (b : ℕ) → b < 0xC0 → never b ≡ false
 unfolding never
 never-low b h = simp (lt-leb 0xC0 b h, lt-leb 0xF5 b (omega arith))
 
-between-never : {l n b : ℕ} → Between l n b → 2 ≤ l → n ≤ 0xF4 → never b ≡ false
+between-never : {l n b : ℕ} → LeadBetween l n b → 2 ≤ l → n ≤ 0xF4 → never b ≡ false
 unfolding never fromLead
 between-never {b = b} p least most =
     le-or-lt 0xC0 b
@@ -125,11 +125,11 @@ between-never {b = b} p least most =
     (λ low. never-low b low)
 
 -- of the lead bytes from E1 to F3 two ask for a second byte of less than 80..BF
-plain-second : {n b : ℕ} → Between 0x21 n b → n ≤ 0xF4 → eqb b 0xED ≡ false → eqb b 0xF0 ≡ false → second b ≡ trail
+plain-second : {n b : ℕ} → LeadBetween 0x21 n b → n ≤ 0xF4 → eqb b 0xED ≡ false → eqb b 0xF0 ≡ false → second b ≡ trail
 unfolding second fromLead
 plain-second {n} {b} p most d f = rw (ne-eqb b 0xE0 (λ e. omega (arith, p .far)), d, f, ne-eqb b 0xF4 (λ e. omega (arith, p .low)))
 
-pub invalid-plain : {b2 b1 b0 m : ℕ} → Between 0x21 0xED b2 → Between 0x21 0xED b1 → Between 0x21 0xED b0 → m ≡ max b1 b2 → xor (leb 0xC0 m) (within trail b0) ≡ invalid 0 b2 b1 b0
+pub invalid-plain : {b2 b1 b0 m : ℕ} → LeadBetween 0x21 0xED b2 → LeadBetween 0x21 0xED b1 → LeadBetween 0x21 0xED b0 → m ≡ max b1 b2 → xor (leb 0xC0 m) (within trail b0) ≡ invalid 0 b2 b1 b0
 unfolding invalid
 invalid-plain {b2} {b1} {b0} {m} p2 p1 p0 larger =
     let alone : m ≡ max (max b1 b2) (0 - 0x30) = omega arith in
@@ -163,7 +163,7 @@ three-odd : (b1 : ℕ) (low : Bool) → eqb (b1 + cond low 0x0D 0) 0xED ≡ ((eq
 three-odd b1 true = true-or-false (eqb b1 0xE0) (λ e. rw (eqb-true b1 0xE0 e) refl) (λ n. rw n (ne-eqb (b1 + 0x0D) 0xED (λ e. clash (eqb b1 0xE0) (eq-eqb b1 0xE0 (omega (arith, e))) n) ∙ sym (and-false (eqb b1 0xED))))
 three-odd b1 false = rw (add-zero b1, and-false (eqb b1 0xE0)) (sym (and-true (eqb b1 0xED)))
 
-invalid-three : {b1 b0 m : ℕ} (b2 : ℕ) → Between 2 0xF0 b1 → Between 2 0xF0 b0 → m ≡ max b1 (b2 - 0x20) → (xor (leb 0xC0 m) (within trail b0) || ((eqb b1 0xE0 && within (bytes 0x80 0x9F) b0) || (eqb b1 0xED && not (within (bytes 0x80 0x9F) b0)))) ≡ invalid 0 b2 b1 b0
+invalid-three : {b1 b0 m : ℕ} (b2 : ℕ) → LeadBetween 2 0xF0 b1 → LeadBetween 2 0xF0 b0 → m ≡ max b1 (b2 - 0x20) → (xor (leb 0xC0 m) (within trail b0) || ((eqb b1 0xE0 && within (bytes 0x80 0x9F) b0) || (eqb b1 0xED && not (within (bytes 0x80 0x9F) b0)))) ≡ invalid 0 b2 b1 b0
 unfolding invalid xor second
 invalid-three {b1} {b0} b2 p1 p0 larger =
     rw (three-pending b2 b1 larger, between-never p0 (omega arith) (omega arith))
@@ -173,11 +173,11 @@ invalid-three {b1} {b0} b2 p1 p0 larger =
     (λ d. rw (eqb-true b1 0xED d, pending-1 0 b2 0xED (omega arith), below 0x9F b0 (omega arith)) (simp or-false (narrower (within trail b0) (ltb 0x9F b0))))
     (λ d. rw (e, d, ne-eqb b1 0xF0 (λ k. omega (arith, p1 .low)), ne-eqb b1 0xF4 (λ k. omega (arith, p1 .low))) (simp or-false))))
 
-pub invalid-two : {b1 b0 : ℕ} → Between 2 0xE0 b1 → Between 2 0xE0 b0 → xor (leb 0xC0 b1) (within trail b0) ≡ invalid 0 0 b1 b0
+pub invalid-two : {b1 b0 : ℕ} → LeadBetween 2 0xE0 b1 → LeadBetween 2 0xE0 b0 → xor (leb 0xC0 b1) (within trail b0) ≡ invalid 0 0 b1 b0
 invalid-two {b1} {b0} p1 p0 =
     simp (or-false, ne-eqb b1 0xE0 (λ e. omega (arith, p1 .low)), ne-eqb b1 0xED (λ e. omega (arith, p1 .low))) at (invalid-three {m = b1} 0 (record { far = p1 .far; low = omega (arith, p1 .low) }) (record { far = p0 .far; low = omega (arith, p0 .low) }) (omega arith))
 
-pub invalid-plain-four : {b2 b1 b0 m : ℕ} (b3 : ℕ) → Between 0x21 0xF4 b2 → Between 0x21 0xF4 b1 → Between 0x21 0xF4 b0 → m ≡ max (max b1 b2) (b3 - 0x30) → (xor (leb 0xC0 m) (within trail b0) || (eqb b1 0xED && not (within (bytes 0x80 0x9F) b0)) || (eqb b1 0xF0 && within (bytes 0x80 0x8F) b0)) ≡ invalid b3 b2 b1 b0
+pub invalid-plain-four : {b2 b1 b0 m : ℕ} (b3 : ℕ) → LeadBetween 0x21 0xF4 b2 → LeadBetween 0x21 0xF4 b1 → LeadBetween 0x21 0xF4 b0 → m ≡ max (max b1 b2) (b3 - 0x30) → (xor (leb 0xC0 m) (within trail b0) || (eqb b1 0xED && not (within (bytes 0x80 0x9F) b0)) || (eqb b1 0xF0 && within (bytes 0x80 0x8F) b0)) ≡ invalid b3 b2 b1 b0
 unfolding invalid xor second
 invalid-plain-four {b2} {b1} {b0} b3 p2 p1 p0 larger =
     rw (plain-pending b3 b1 p2 (omega arith) larger, between-never p0 (omega arith) (omega arith))
@@ -234,7 +234,7 @@ standing-near {far} lead b0 e small t =
     (λ h. rw (lt-leb 0xC0 lead h) (le-ltb (0xFF - far) 0x80 (omega arith))))
 
 -- the flag of b0 after b2 and b1, and whether E0 and ED are followed by what they do not have for their second byte
-module _ {b1 b0 m t : ℕ} {f : Bool} (b2 : ℕ) (p1 : Between 2 0xF0 b1) (p0 : Between 2 0xF0 b0) (larger : m ≡ max b1 (b2 - 0x20)) (is : f ≡ xor (leb 0xC0 m) (within trail b0)) (added : t ≡ cond (within (bytes 0x80 0x9F) b0) 0x0D 0) where
+module _ {b1 b0 m t : ℕ} {f : Bool} (b2 : ℕ) (p1 : LeadBetween 2 0xF0 b1) (p0 : LeadBetween 2 0xF0 b0) (larger : m ≡ max b1 (b2 - 0x20)) (is : f ≡ xor (leb 0xC0 m) (within trail b0)) (added : t ≡ cond (within (bytes 0x80 0x9F) b0) 0x0D 0) where
   flag-three : (f || eqb (b1 + t) 0xED) ≡ invalid 0 b2 b1 b0
   flag-three = rw (is, added, three-odd b1 (within (bytes 0x80 0x9F) b0)) (invalid-three b2 p1 p0 larger)
 

@@ -13,7 +13,7 @@ use Rattle.buffers.specs.Every.{everyBelow}
 use Rattle.buffers.specs.Splice.{part}
 use Rattle.buffers.proofs.Cases.{le-or-lt}
 use Rattle.buffers.proofs.Every.{every-suc, every-all}
-use Rattle.validity_blocks.specs.Extremes.{largest, leastLead, Between}
+use Rattle.validity_blocks.specs.Extremes.{largest, leastLead, LeadBetween}
 use Rattle.validity_blocks.specs.Valid.{invalid, valid, validFirst}
 use Rattle.validity_blocks.proofs.Largest.{largest-at}
 use Rattle.validity_blocks.proofs.LeastLead.{least-at}
@@ -31,7 +31,7 @@ rest-at s k j = rw (← length-drop k s, take-length (drop k s), getD-drop k s j
 pub rest-below : (s : List ℕ) {n : ℕ} (k j : ℕ) → largest s < n → getD (part s k (length s)) j 0 < n
 rest-below s k j h = rw (rest-at s k j) (omega (arith, largest-at s (j + k)))
 
-pub rest-between : (s : List ℕ) {l n : ℕ} (k j : ℕ) → largest s < n → l ≤ leastLead s → Between l n (getD (part s k (length s)) j 0)
+pub rest-between : (s : List ℕ) {l n : ℕ} (k j : ℕ) → largest s < n → l ≤ leastLead s → LeadBetween l n (getD (part s k (length s)) j 0)
 rest-between s k j low far = record { far = rw (rest-at s k j) (omega (arith, least-at s (j + k))); low = rest-below s k j low }
 
 -- the same, read from a block and what is left of it from 1, 2 and 3 on

@@ -18,6 +18,6 @@ leastLead (b ∷ s) = min (fromLead b) (leastLead s)
 
 -- a byte below `most` that leads nothing or counts `least` or more: 2 is C2, the first that leads a character; 21 is
 -- E1, and up to EC the second byte is then any of 80..BF in Table 3-7
-pub record Between (least most b : ℕ) : Type 0 where
+pub record LeadBetween (least most b : ℕ) : Type 0 where
   pub far : least ≤ fromLead b
   pub low : b < most

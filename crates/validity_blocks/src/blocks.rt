@@ -6,8 +6,8 @@ use crate::bytes::standing_plain;
 use crate::bytes::standing_three;
 use crate::bytes::standing_two;
 use crate::extremes::bounds_of;
-use crate::extremes::max;
-use crate::extremes::min;
+use buffers::lanes::max_u8;
+use buffers::lanes::min_u8;
 ghost use mathlib.Core.Path.{_≡_};
 ghost use Prim.Native.Nat.{_-_, _≤_, _<_};
 ghost use lib.ListN.{length};
@@ -43,7 +43,7 @@ fn valid_three(s: &[u8]) -> bool
     let mut flag: u8 = 0xFF;
     let mut j = 0;
     while j < s0.len() {
-        flag = min(flag, standing_three(s2[j], s1[j], s0[j]));
+        flag = min_u8(flag, standing_three(s2[j], s1[j], s0[j]));
         j += 1;
     }
     0x80 <= flag
@@ -59,7 +59,7 @@ fn valid_two(s: &[u8]) -> bool
     let mut flag: u8 = 0xFF;
     let mut j = 0;
     while j < s0.len() {
-        flag = min(flag, standing_two(s1[j], s0[j]));
+        flag = min_u8(flag, standing_two(s1[j], s0[j]));
         j += 1;
     }
     0x80 <= flag
@@ -76,7 +76,7 @@ fn valid_plain(s: &[u8]) -> bool
     let mut flag: u8 = 0xFF;
     let mut j = 0;
     while j < s0.len() {
-        flag = min(flag, standing_plain(s2[j], s1[j], s0[j]));
+        flag = min_u8(flag, standing_plain(s2[j], s1[j], s0[j]));
         j += 1;
     }
     0x80 <= flag
@@ -106,11 +106,11 @@ pub fn valid_block(s: &[u8]) -> bool
 {
     let front = bounds_of(&s[..3]);
     let back = bounds_of(&s[3..]);
-    let most = max(front.most, back.most);
+    let most = max_u8(front.most, back.most);
     if most < 0x80 {
         return true;
     }
-    let least = min(front.least, back.least);
+    let least = min_u8(front.least, back.least);
     if least < 2 {
         return valid_four(s);
     }

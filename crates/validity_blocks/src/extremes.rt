@@ -1,35 +1,9 @@
 // The largest byte of a text, and its least lead byte: which test a block asks for.
+use buffers::lanes::max_u8;
+use buffers::lanes::min_u8;
+use buffers::lanes::saturating_sub_u8;
 ghost use mathlib.Core.Path.{_≡_};
-ghost use Prim.Native.Nat.{_-_, max, min};
 ghost use Rattle.validity_blocks.specs.Extremes.{largest, leastLead};
-
-pub fn max(a: u8, b: u8) -> u8
-    ensures { λ r. ⌜ r ≡ max a b ⌝ }
-{
-    if a < b {
-        return b;
-    }
-    a
-}
-
-pub fn min(a: u8, b: u8) -> u8
-    ensures { λ r. ⌜ r ≡ min a b ⌝ }
-{
-    if b < a {
-        return b;
-    }
-    a
-}
-
-// How far `a` is above `b`, or 0.
-pub fn over(a: u8, b: u8) -> u8
-    ensures { λ r. ⌜ r ≡ a - b ⌝ }
-{
-    if b < a {
-        return a - b;
-    }
-    0
-}
 
 // The largest byte, or 0.
 pub fn largest(s: &[u8]) -> u8
@@ -38,7 +12,7 @@ pub fn largest(s: &[u8]) -> u8
     let mut most: u8 = 0;
     let mut i = 0;
     while i < s.len() {
-        most = max(most, s[i]);
+        most = max_u8(most, s[i]);
         i += 1;
     }
     most
@@ -59,8 +33,8 @@ pub fn bounds_of(s: &[u8]) -> Bounds
     let mut least: u8 = 0x40;
     let mut i = 0;
     while i < s.len() {
-        most = max(most, s[i]);
-        least = min(least, std::num::wrapping_add_u8(s[i], 0x40));
+        most = max_u8(most, s[i]);
+        least = min_u8(least, std::num::wrapping_add_u8(s[i], 0x40));
         i += 1;
     }
     Bounds { most, least }

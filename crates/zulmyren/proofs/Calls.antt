@@ -24,10 +24,10 @@ use Rattle.behaviors.specs.declared.SplitDelimiterBehavior.{SplitDelimiterBehav
 use Rattle.behaviors.specs.declared.SplitDelimiterBehavior.the-variants.{Removed, Isolated, MergedWithPrevious, MergedWithNext, Contiguous}
 use Rattle.behaviors.specs.declared.EmptyPieces.{EmptyPieces}
 use Rattle.split.specs.declared.Pieces.{Pieces}
-use Rattle.split.specs.Splitting.{Columns, Splitting}
-use Rattle.splits.specs.declared.OffsetType.{OffsetType}
-use Rattle.splits.specs.declared.Splits.{Splits}
-use Rattle.splits.specs.SplitOffsets.{GetSplits}
+use Rattle.split.specs.Splitting.{PieceColumns, Splitting}
+use Rattle.split_offsets.specs.declared.OffsetType.{OffsetType}
+use Rattle.split_offsets.specs.declared.Splits.{Splits}
+use Rattle.split_offsets.specs.SplitOffsets.{GetSplits}
 use Rattle.replace.specs.declared.Publication.{Publication}
 use Rattle.replace.specs.declared.Publication.the-variants.{Published, Refused}
 use Rattle.replace.specs.Replacing.{Replacing}
@@ -107,7 +107,7 @@ module _ {n : ℕ} where
   behavior-other a b c d = rw (ne-eqb n 1 a, ne-eqb n 2 b, ne-eqb n 3 c, ne-eqb n 4 d)
 
 -- the calls that cut a note, through what is asked of them
-pub split-call : {n : Note} {list : List ℕ} (b : ℕ) (d : Bool) {behavior : SplitDelimiterBehavior} {empty : EmptyPieces} {c₀ c : Columns} {v : Pieces} {r : Cut} → behavior ≡ behaviorOf b → empty ≡ emptyOf d → Splitting limit n list behavior empty c₀ v c → r ≡ cutNumbers v → Told cutNumbers (λ w. Splitting limit n list (behaviorOf b) (emptyOf d) c₀ w c) r
+pub split-call : {n : Note} {list : List ℕ} (b : ℕ) (d : Bool) {behavior : SplitDelimiterBehavior} {empty : EmptyPieces} {c₀ c : PieceColumns} {v : Pieces} {r : Cut} → behavior ≡ behaviorOf b → empty ≡ emptyOf d → Splitting limit n list behavior empty c₀ v c → r ≡ cutNumbers v → Told cutNumbers (λ w. Splitting limit n list (behaviorOf b) (emptyOf d) c₀ w c) r
 split-call b d {v = v} p q call t = record { answer = v; told = t; met = rw (p, q) at call }
 
 pub splits-call : {n : Note} {list : List ℕ} (b : ℕ) (o u : Bool) {behavior : SplitDelimiterBehavior} {side : OffsetReferential} {unit : OffsetType} {starts₀ ends₀ : List ℕ} {v : Splits} {starts ends : List ℕ} {r : Listed} → behavior ≡ behaviorOf b → side ≡ sideOf o → unit ≡ unitOf u → GetSplits limit n list behavior side unit starts₀ ends₀ v starts ends → r ≡ splitsNumbers v → Told splitsNumbers (λ w. GetSplits limit n list (behaviorOf b) (sideOf o) (unitOf u) starts₀ ends₀ w starts ends) r

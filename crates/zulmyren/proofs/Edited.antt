@@ -14,7 +14,7 @@ use Rattle.note.specs.declared.Verdict.the-variants.{Accepted, Refused as Rejec
 use Rattle.note.specs.Refusals.{least, also, verdict}
 use Rattle.note.specs.Notes.{Note, limit, fits}
 use Rattle.note.specs.Faults.{noteFaults}
-use Rattle.note.proofs.Verdicts.{accepted-first, accepted-second}
+use Rattle.note.proofs.FirstMet.{accepted-first, accepted-second}
 use Rattle.note.proofs.Faults.{accepted-sound}
 use Rattle.convert.specs.declared.Range.{Range}
 use Rattle.convert.specs.declared.OffsetReferential.{OffsetReferential}

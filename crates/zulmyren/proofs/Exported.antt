@@ -12,8 +12,9 @@ use Rattle.replace.specs.declared.Publication.the-variants.{Published, Refused}
 use Rattle.replace.specs.Replacing.{Replacing}
 use Rattle.replace.proofs.Blanking.{blanking}
 use Rattle.zulmyren.specs.declared.answers.Count.{Count}
-use Rattle.zulmyren.specs.Calls.{Told, publishedOf}
-use Rattle.zulmyren.specs.Exported.{ReplaceCall, ExportedBlanking}
+use Rattle.zulmyren.specs.Calls.{publishedOf}
+use Rattle.zulmyren.specs.Contracts.{ReplaceCall}
+use Rattle.zulmyren.specs.Exported.{ExportedBlanking}
 
 published-answer : (v : Publication) (r : Count) → r ≡ publishedOf v → r .refusal ≡ 0 → v ≡ Published (r .count)
 published-answer (Published n) r e z = ap Published (sym (ap (λ (x : Count). x .count) e))

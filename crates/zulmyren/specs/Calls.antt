@@ -17,8 +17,8 @@ use Rattle.find.specs.declared.Matches.{Matches}
 use Rattle.find.specs.declared.Matches.the-variants.{Written, Refused as Unlisted}
 use Rattle.replace.specs.declared.Publication.{Publication}
 use Rattle.replace.specs.declared.Publication.the-variants.{Published, Refused as Unpublished}
-use Rattle.indistinguishable.specs.declared.Comparison.{Comparison as Answer}
-use Rattle.indistinguishable.specs.declared.Comparison.the-variants.{Compared, Refused as Uncompared}
+use Rattle.published_alike.specs.declared.Comparison.{Comparison as Answer}
+use Rattle.published_alike.specs.declared.Comparison.the-variants.{Compared, Refused as Uncompared}
 use Rattle.slice.specs.declared.Sliced.{Sliced}
 use Rattle.slice.specs.declared.Sliced.the-variants.{Cut, Refused as Uncut}
 use Rattle.slice.specs.Slicing.{originalStart, originalEnd, normalizedStart, normalizedEnd}
@@ -34,10 +34,10 @@ use Rattle.behaviors.specs.declared.EmptyPieces.{EmptyPieces}
 use Rattle.behaviors.specs.declared.EmptyPieces.the-variants.{Kept, Dropped}
 use Rattle.split.specs.declared.Pieces.{Pieces}
 use Rattle.split.specs.declared.Pieces.the-variants.{Cut as Divided, Refused as Undivided}
-use Rattle.splits.specs.declared.OffsetType.{OffsetType}
-use Rattle.splits.specs.declared.OffsetType.the-variants.{Byte, Char}
-use Rattle.splits.specs.declared.Splits.{Splits}
-use Rattle.splits.specs.declared.Splits.the-variants.{Listed as Offered, Refused as Unoffered}
+use Rattle.split_offsets.specs.declared.OffsetType.{OffsetType}
+use Rattle.split_offsets.specs.declared.OffsetType.the-variants.{Byte, Char}
+use Rattle.split_offsets.specs.declared.Splits.{Splits}
+use Rattle.split_offsets.specs.declared.Splits.the-variants.{Listed as Offered, Refused as Unoffered}
 use Rattle.transform.specs.declared.Editing.{Editing}
 use Rattle.transform.specs.declared.Editing.the-variants.{Edited, Refused as Unedited}
 use Rattle.edits.specs.declared.Clearing.{Clearing}

@@ -2,23 +2,14 @@
 use Prim.Native.Nat.{ℕ}
 use mathlib.Core.Path.{_≡_}
 use mathlib.Core.List.{List}
-use Rattle.note.specs.Notes.{Note, limit}
+use Rattle.note.specs.Notes.{Note}
 use Rattle.pattern.specs.Entries.{placesOf}
-use Rattle.replace.specs.Replacing.{Replacing}
 use Rattle.replace.specs.Blanking.{Equal, Agree, published}
 use Rattle.zulmyren.specs.declared.answers.Count.{Count}
-use Rattle.zulmyren.specs.Calls.{Told, publishedOf}
-
--- the contract of `zulmyren_replace`: note, list and content, the lent buffers before, the answer, the lent buffers
--- after
-abbrev pub ReplaceCall :
-    Note → List ℕ → List ℕ → List ℕ → List ℕ → List ℕ → Count → List ℕ → List ℕ → List ℕ → Type 0
-ReplaceCall n list content out₀ starts₀ ends₀ r out starts ends =
-    Told publishedOf (λ v. Replacing limit n list content out₀ starts₀ ends₀ v out starts ends) r
+use Rattle.zulmyren.specs.Contracts.{ReplaceCall}
 
 -- CLAIM: two calls of `zulmyren_replace` with one list and one content, both with refusal 0: the first `count` elements
--- of the three
--- buffers are the same exactly when the notes agree.
+-- of the three buffers are equal exactly when the notes agree.
 abbrev pub ExportedBlanking : Type 0
 ExportedBlanking =
     (n m : Note) (list content : List ℕ) (a b : Count)

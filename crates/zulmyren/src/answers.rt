@@ -6,11 +6,11 @@ use convert::end_of;
 use convert::start_of;
 use edits::Clearing;
 use find::Matches;
-use note::answers::number;
+use note::verdicts::number;
 use replace::Publication;
 use slice::Sliced;
 use split::Pieces;
-use splits::Splits;
+use split_offsets::Splits;
 use transform::Editing;
 ghost use mathlib.Core.Path.{_≡_};
 ghost use Rattle.zulmyren.specs.Calls.{ClearingShort, EditingShort, PublishedShort, charsOf, clearedOf};
@@ -74,7 +74,7 @@ pub struct Lengths {
 }
 
 // An inner function: what is left is within the limit.
-pub fn edited_told(answer: Editing) -> Count
+pub fn edited_to_c(answer: Editing) -> Count
     requires { ⌜ EditingShort answer ⌝ }
     ensures { λ r. ⌜ r ≡ editedOf answer ⌝ }
 {
@@ -91,7 +91,7 @@ pub fn edited_told(answer: Editing) -> Count
 }
 
 // An inner function: both lengths are within the limit.
-pub fn cleared_told(answer: Clearing) -> Lengths
+pub fn cleared_to_c(answer: Clearing) -> Lengths
     requires { ⌜ ClearingShort answer ⌝ }
     ensures { λ r. ⌜ r ≡ clearedOf answer ⌝ }
 {
@@ -109,7 +109,7 @@ pub fn cleared_told(answer: Clearing) -> Lengths
     }
 }
 
-pub fn letters_told(answer: LetterCount) -> Count
+pub fn letters_to_c(answer: LetterCount) -> Count
     ensures { λ r. ⌜ r ≡ lettersOf answer ⌝ }
 {
     match answer {
@@ -122,7 +122,7 @@ pub fn letters_told(answer: LetterCount) -> Count
 }
 
 // An inner function: what is published is within the limit.
-pub fn published_told(answer: Publication) -> Count
+pub fn published_to_c(answer: Publication) -> Count
     requires { ⌜ PublishedShort answer ⌝ }
     ensures { λ r. ⌜ r ≡ publishedOf answer ⌝ }
 {
@@ -138,7 +138,7 @@ pub fn published_told(answer: Publication) -> Count
     }
 }
 
-pub fn chars_told(answer: CharOffsets) -> Offsets
+pub fn chars_to_c(answer: CharOffsets) -> Offsets
     ensures { λ r. ⌜ r ≡ charsOf answer ⌝ }
 {
     match answer {
@@ -155,7 +155,7 @@ pub fn chars_told(answer: CharOffsets) -> Offsets
     }
 }
 
-pub fn range_told(answer: Converted) -> Offsets
+pub fn range_to_c(answer: Converted) -> Offsets
     ensures { λ r. ⌜ r ≡ offsetsOf answer ⌝ }
 {
     match answer {
@@ -172,7 +172,7 @@ pub fn range_told(answer: Converted) -> Offsets
     }
 }
 
-pub fn list_told(answer: Matches) -> Listed
+pub fn list_to_c(answer: Matches) -> Listed
     ensures { λ r. ⌜ r ≡ listedOf answer ⌝ }
 {
     match answer {
@@ -184,19 +184,19 @@ pub fn list_told(answer: Matches) -> Listed
     }
 }
 
-pub fn comparison_told(answer: indistinguishable::Comparison) -> Comparison
+pub fn comparison_to_c(answer: published_alike::Comparison) -> Comparison
     ensures { λ r. ⌜ r ≡ comparedOf answer ⌝ }
 {
     match answer {
-        indistinguishable::Comparison::Compared(alike) => Comparison { refusal: 0, alike },
-        indistinguishable::Comparison::Refused(k) => Comparison {
+        published_alike::Comparison::Compared(alike) => Comparison { refusal: 0, alike },
+        published_alike::Comparison::Refused(k) => Comparison {
             refusal: number(k),
             alike: false,
         },
     }
 }
 
-pub fn slice_told(answer: Sliced) -> Slice
+pub fn slice_to_c(answer: Sliced) -> Slice
     ensures { λ r. ⌜ r ≡ sliceNumbers answer ⌝ }
 {
     match answer {
@@ -225,7 +225,7 @@ pub fn slice_told(answer: Sliced) -> Slice
     }
 }
 
-pub fn cut_told(answer: Pieces) -> Cut
+pub fn cut_to_c(answer: Pieces) -> Cut
     ensures { λ r. ⌜ r ≡ cutNumbers answer ⌝ }
 {
     match answer {
@@ -242,7 +242,7 @@ pub fn cut_told(answer: Pieces) -> Cut
     }
 }
 
-pub fn splits_told(answer: Splits) -> Listed
+pub fn splits_to_c(answer: Splits) -> Listed
     ensures { λ r. ⌜ r ≡ splitsNumbers answer ⌝ }
 {
     match answer {

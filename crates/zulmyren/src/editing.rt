@@ -1,14 +1,14 @@
 // Editing: scripts, and the edits of a whole note.
 use crate::answers::Count;
 use crate::answers::Lengths;
-use crate::answers::cleared_told;
-use crate::answers::edited_told;
+use crate::answers::cleared_to_c;
+use crate::answers::edited_to_c;
 use crate::ranges::side_of;
 use buffers::Offset;
 use convert::range_of;
 ghost use Rattle.note.specs.Notes.{lent};
 ghost use Rattle.convert.specs.Converting.{rangeOf};
-ghost use Rattle.transform.specs.Transforming.{wholeTranscript};
+ghost use Rattle.transform.specs.Transforming.{wholeOriginal};
 ghost use Rattle.zulmyren.specs.Calls.{sideOf};
 ghost use Rattle.zulmyren.specs.Edits.{AppendTold, ClearTold, FilterTold, MapTold, PrependTold, TransformTold};
 
@@ -36,7 +36,7 @@ pub extern "C" fn zulmyren_transform_range(
         r (now (out .exit)) (now («out_starts» .exit)) (now («out_ends» .exit)) ⌝ }
 {
     let range = range_of(side_of(of_original), start, end);
-    edited_told(transform::transform_range(
+    edited_to_c(transform::transform_range(
         original,
         normalized,
         starts,
@@ -67,11 +67,11 @@ pub extern "C" fn zulmyren_transform(
     ensures { λ r. ⌜ TransformTold
         (lent (now (original .entry)) (now (normalized .entry)) (now (starts .entry)) (now (ends .entry))
         «original_shift»)
-        (wholeTranscript (now (original .entry))) (now (script .entry)) «initial_offset»
+        (wholeOriginal (now (original .entry))) (now (script .entry)) «initial_offset»
         (now (out .entry)) (now («out_starts» .entry)) (now («out_ends» .entry))
         r (now (out .exit)) (now («out_starts» .exit)) (now («out_ends» .exit)) ⌝ }
 {
-    edited_told(transform::transform(
+    edited_to_c(transform::transform(
         original,
         normalized,
         starts,
@@ -103,7 +103,7 @@ pub extern "C" fn zulmyren_map(
         (now (out .entry)) (now («out_starts» .entry)) (now («out_ends» .entry))
         r (now (out .exit)) (now («out_starts» .exit)) (now («out_ends» .exit)) ⌝ }
 {
-    edited_told(edits::mapping::map(
+    edited_to_c(edits::mapping::map(
         original,
         normalized,
         starts,
@@ -134,7 +134,7 @@ pub extern "C" fn zulmyren_filter(
         (now (out .entry)) (now («out_starts» .entry)) (now («out_ends» .entry))
         r (now (out .exit)) (now («out_starts» .exit)) (now («out_ends» .exit)) ⌝ }
 {
-    edited_told(filters::filter(
+    edited_to_c(filters::filter(
         original,
         normalized,
         starts,
@@ -165,7 +165,7 @@ pub extern "C" fn zulmyren_append(
         (now (out .entry)) (now («out_starts» .entry)) (now («out_ends» .entry))
         r (now (out .exit)) (now («out_starts» .exit)) (now («out_ends» .exit)) ⌝ }
 {
-    edited_told(joins::append(
+    edited_to_c(append_prepend::append(
         original,
         normalized,
         starts,
@@ -196,7 +196,7 @@ pub extern "C" fn zulmyren_prepend(
         (now (out .entry)) (now («out_starts» .entry)) (now («out_ends» .entry))
         r (now (out .exit)) (now («out_starts» .exit)) (now («out_ends» .exit)) ⌝ }
 {
-    edited_told(joins::prepend(
+    edited_to_c(append_prepend::prepend(
         original,
         normalized,
         starts,
@@ -226,7 +226,7 @@ pub extern "C" fn zulmyren_clear(
         (now (out .entry)) (now («out_starts» .entry)) (now («out_ends» .entry))
         r (now (out .exit)) (now («out_starts» .exit)) (now («out_ends» .exit)) ⌝ }
 {
-    cleared_told(edits::clear(
+    cleared_to_c(edits::clear(
         original,
         normalized,
         starts,

@@ -2,24 +2,23 @@
 use crate::answers::Comparison;
 use crate::answers::Count;
 use crate::answers::Listed;
-use crate::answers::comparison_told;
-use crate::answers::list_told;
-use crate::answers::published_told;
+use crate::answers::comparison_to_c;
+use crate::answers::list_to_c;
+use crate::answers::published_to_c;
 use buffers::Offset;
 ghost use mathlib.Core.Path.{_≡_};
 ghost use Rattle.note.specs.Notes.{lent, limit};
 ghost use Rattle.find.specs.Finding.{Finding};
-ghost use Rattle.replace.specs.Replacing.{Replacing};
-ghost use Rattle.indistinguishable.specs.Alike.{says};
-ghost use Rattle.redact.specs.Redacting.{Redacted};
-ghost use Rattle.zulmyren.specs.Calls.{Told, comparedOf, listedOf, publishedOf};
+ghost use Rattle.published_alike.specs.Alike.{alikeAnswer};
+ghost use Rattle.zulmyren.specs.Calls.{Told, comparedOf, listedOf};
+ghost use Rattle.zulmyren.specs.Contracts.{RedactCall, ReplaceCall};
 
 #[no_mangle]
 pub extern "C" fn zulmyren_find_matches(text: &[u8], literal: &[u8], out: &mut [u8]) -> Listed
     ensures { λ r. ⌜ Told listedOf (λ v. Finding limit (now (text .entry)) (now (literal .entry)) (now (out .entry))
         v (now (out .exit))) r ⌝ }
 {
-    list_told(find::find_matches(text, literal, out))
+    list_to_c(find::find_matches(text, literal, out))
 }
 
 #[no_mangle]
@@ -35,14 +34,14 @@ pub extern "C" fn zulmyren_replace(
     out_starts: &mut [Offset],
     out_ends: &mut [Offset],
 ) -> Count
-    ensures { λ r. ⌜ Told publishedOf (λ v. Replacing limit
+    ensures { λ r. ⌜ ReplaceCall
         (lent (now (original .entry)) (now (normalized .entry))
         (now (starts .entry)) (now (ends .entry)) «original_shift»)
         (now (list .entry)) (now (content .entry))
         (now (out .entry)) (now («out_starts» .entry)) (now («out_ends» .entry))
-        v (now (out .exit)) (now («out_starts» .exit)) (now («out_ends» .exit))) r ⌝ }
+        r (now (out .exit)) (now («out_starts» .exit)) (now («out_ends» .exit)) ⌝ }
 {
-    published_told(replace::replace(
+    published_to_c(replace::replace(
         original,
         normalized,
         starts,
@@ -71,14 +70,14 @@ pub extern "C" fn zulmyren_published_alike(
     list: &[u8],
     content: &[u8],
 ) -> Comparison
-    ensures { λ r. ⌜ r ≡ comparedOf (says limit
+    ensures { λ r. ⌜ r ≡ comparedOf (alikeAnswer limit
         (lent (now (original .entry)) (now (normalized .entry))
         (now (starts .entry)) (now (ends .entry)) «original_shift»)
         (lent (now («other_original» .entry)) (now (other .entry))
         (now («other_starts» .entry)) (now («other_ends» .entry)) «other_shift»)
         (now (list .entry)) (now (content .entry))) ⌝ }
 {
-    comparison_told(indistinguishable::published_alike(
+    comparison_to_c(published_alike::published_alike(
         original,
         normalized,
         starts,
@@ -103,10 +102,9 @@ pub extern "C" fn zulmyren_redact(
     out_starts: &mut [Offset],
     out_ends: &mut [Offset],
 ) -> Count
-    ensures { λ r. ⌜ Told publishedOf (λ v. Redacted limit
-        (now (text .entry)) (now (literal .entry)) (now (content .entry))
+    ensures { λ r. ⌜ RedactCall (now (text .entry)) (now (literal .entry)) (now (content .entry))
         (now (out .entry)) (now («out_starts» .entry)) (now («out_ends» .entry))
-        v (now (out .exit)) (now («out_starts» .exit)) (now («out_ends» .exit))) r ⌝ }
+        r (now (out .exit)) (now («out_starts» .exit)) (now («out_ends» .exit)) ⌝ }
 {
-    published_told(redact::redact(text, literal, content, out, out_starts, out_ends))
+    published_to_c(redact::redact(text, literal, content, out, out_starts, out_ends))
 }

@@ -19,7 +19,7 @@ pub extern "C" fn zulmyren_check_note(
         (lent (now (original .entry)) (now (normalized .entry))
         (now (starts .entry)) (now (ends .entry)) «original_shift»))) ⌝ }
 {
-    note::answers::answer(checks::check_note(original, normalized, starts, ends, original_shift))
+    note::verdicts::answer(checks::check_note(original, normalized, starts, ends, original_shift))
 }
 
 #[no_mangle]
@@ -27,5 +27,5 @@ pub extern "C" fn zulmyren_from_text(text: &[u8], starts: &mut [Offset], ends: &
     ensures { λ r. ⌜ Told answerOf (λ v. Started limit (now (text .entry)) (now (starts .entry)) (now (ends .entry))
         v (now (starts .exit)) (now (ends .exit))) r ⌝ }
 {
-    note::answers::answer(from_text::from_text(text, starts, ends))
+    note::verdicts::answer(from_text::from_text(text, starts, ends))
 }

@@ -1,6 +1,6 @@
 // Ranges of one text in the other, and reading.
 use crate::answers::Offsets;
-use crate::answers::range_told;
+use crate::answers::range_to_c;
 use buffers::Offset;
 use convert::OffsetReferential;
 use convert::range_of;
@@ -9,8 +9,8 @@ ghost use Rattle.note.specs.Notes.{lent, limit};
 ghost use Rattle.note.specs.Refusals.{answerOf, verdict};
 ghost use Rattle.convert.specs.Converting.{convertOffsets, rangeOf};
 ghost use Rattle.get_range.specs.Reading.{getRange, getRangeOriginal, partFaults};
-ghost use Rattle.convert_list.specs.ConvertList.{ConvertedList};
-ghost use Rattle.zulmyren.specs.Calls.{Told, offsetsOf, sideOf};
+ghost use Rattle.zulmyren.specs.Calls.{offsetsOf, sideOf};
+ghost use Rattle.zulmyren.specs.Contracts.{ConvertAllCall};
 
 // The text that a range is in.
 pub fn side_of(original: bool) -> OffsetReferential
@@ -39,7 +39,7 @@ pub extern "C" fn zulmyren_convert_offsets(
         (rangeOf (sideOf «of_original») start end)) ⌝ }
 {
     let range = range_of(side_of(of_original), start, end);
-    range_told(convert::convert_offsets(original, normalized, starts, ends, original_shift, range))
+    range_to_c(convert::convert_offsets(original, normalized, starts, ends, original_shift, range))
 }
 
 #[no_mangle]
@@ -59,7 +59,7 @@ pub extern "C" fn zulmyren_get_range(
         (rangeOf (sideOf «of_original») start end)) ⌝ }
 {
     let range = range_of(side_of(of_original), start, end);
-    range_told(get_range::get_range(original, normalized, starts, ends, original_shift, range))
+    range_to_c(get_range::get_range(original, normalized, starts, ends, original_shift, range))
 }
 
 #[no_mangle]
@@ -79,7 +79,7 @@ pub extern "C" fn zulmyren_get_range_original(
         (rangeOf (sideOf «of_original») start end)) ⌝ }
 {
     let range = range_of(side_of(of_original), start, end);
-    range_told(get_range::get_range_original(
+    range_to_c(get_range::get_range_original(
         original,
         normalized,
         starts,
@@ -101,7 +101,7 @@ pub extern "C" fn zulmyren_part_verdict<'a>(
         (rangeOf (sideOf «of_original») start end))) ⌝ }
 {
     let range = range_of(side_of(of_original), start, end);
-    note::answers::answer(get_range::part_verdict(original, normalized, range))
+    note::verdicts::answer(get_range::part_verdict(original, normalized, range))
 }
 
 #[no_mangle]
@@ -118,15 +118,15 @@ pub extern "C" fn zulmyren_convert_all(
     out_starts: &mut [u32],
     out_ends: &mut [u32],
 ) -> u32
-    ensures { λ r. ⌜ Told answerOf (λ v. ConvertedList limit
+    ensures { λ r. ⌜ ConvertAllCall
         (lent (now (original .entry)) (now (normalized .entry))
         (now (starts .entry)) (now (ends .entry)) «original_shift»)
         (sideOf «of_original») (now (from .entry)) (now (to .entry))
         (now (numbers .entry)) (now («out_starts» .entry)) (now («out_ends» .entry))
-        v (now (numbers .exit)) (now («out_starts» .exit)) (now («out_ends» .exit))) r ⌝ }
+        r (now (numbers .exit)) (now («out_starts» .exit)) (now («out_ends» .exit)) ⌝ }
 {
     let side = side_of(of_original);
-    note::answers::answer(convert_list::convert_list(
+    note::verdicts::answer(convert_list::convert_list(
         original,
         normalized,
         starts,

@@ -2,23 +2,21 @@
 use crate::answers::Cut;
 use crate::answers::Listed;
 use crate::answers::Slice;
-use crate::answers::cut_told;
-use crate::answers::slice_told;
-use crate::answers::splits_told;
+use crate::answers::cut_to_c;
+use crate::answers::slice_to_c;
+use crate::answers::splits_to_c;
 use crate::ranges::side_of;
 use behaviors::EmptyPieces;
 use behaviors::SplitDelimiterBehavior;
 use buffers::Offset;
 use convert::range_of;
-use splits::OffsetType;
+use split_offsets::OffsetType;
 ghost use mathlib.Core.Path.{_≡_};
-ghost use Rattle.note.specs.Notes.{lent, limit};
+ghost use Rattle.note.specs.Notes.{lent};
 ghost use Rattle.convert.specs.Converting.{rangeOf};
-ghost use Rattle.slice.specs.Slicing.{Slicing};
-ghost use Rattle.split.specs.Splitting.{Splitting, columns};
-ghost use Rattle.splits.specs.SplitOffsets.{GetSplits};
-ghost use Rattle.zulmyren.specs.Calls.{Told, behaviorOf, cutNumbers, emptyOf, sideOf, sliceNumbers};
-ghost use Rattle.zulmyren.specs.Calls.{splitsNumbers, unitOf};
+ghost use Rattle.split.specs.Splitting.{columns};
+ghost use Rattle.zulmyren.specs.Calls.{behaviorOf, emptyOf, sideOf, unitOf};
+ghost use Rattle.zulmyren.specs.Contracts.{GetSplitsCall, SliceCall, SplitCall};
 
 // A behaviour by its number: 1 to 4, and Contiguous by any other.
 fn behavior_of(number: u32) -> SplitDelimiterBehavior
@@ -66,15 +64,15 @@ pub extern "C" fn zulmyren_slice(
     out_starts: &mut [Offset],
     out_ends: &mut [Offset],
 ) -> Slice
-    ensures { λ r. ⌜ Told sliceNumbers (λ v. Slicing limit
+    ensures { λ r. ⌜ SliceCall
         (lent (now (original .entry)) (now (normalized .entry))
         (now (starts .entry)) (now (ends .entry)) «original_shift»)
         (rangeOf (sideOf «of_original») start end)
         (now («out_starts» .entry)) (now («out_ends» .entry))
-        v (now («out_starts» .exit)) (now («out_ends» .exit))) r ⌝ }
+        r (now («out_starts» .exit)) (now («out_ends» .exit)) ⌝ }
 {
     let range = range_of(side_of(of_original), start, end);
-    slice_told(slice::slice(
+    slice_to_c(slice::slice(
         original,
         normalized,
         starts,
@@ -103,17 +101,17 @@ pub extern "C" fn zulmyren_split(
     out_starts: &mut [Offset],
     out_ends: &mut [Offset],
 ) -> Cut
-    ensures { λ r. ⌜ Told cutNumbers (λ v. Splitting limit
+    ensures { λ r. ⌜ SplitCall
         (lent (now (original .entry)) (now (normalized .entry))
         (now (starts .entry)) (now (ends .entry)) «original_shift») (now (list .entry))
         (behaviorOf behavior) (emptyOf «drop_empty»)
         (columns (now («piece_starts» .entry)) (now («piece_ends» .entry)) (now («piece_shifts» .entry))
         (now («piece_lengths» .entry)) (now («out_starts» .entry)) (now («out_ends» .entry)))
-        v
+        r
         (columns (now («piece_starts» .exit)) (now («piece_ends» .exit)) (now («piece_shifts» .exit))
-        (now («piece_lengths» .exit)) (now («out_starts» .exit)) (now («out_ends» .exit)))) r ⌝ }
+        (now («piece_lengths» .exit)) (now («out_starts» .exit)) (now («out_ends» .exit))) ⌝ }
 {
-    cut_told(split::split(
+    cut_to_c(split::split(
         original,
         normalized,
         starts,
@@ -145,14 +143,14 @@ pub extern "C" fn zulmyren_get_splits(
     out_starts: &mut [u32],
     out_ends: &mut [u32],
 ) -> Listed
-    ensures { λ r. ⌜ Told splitsNumbers (λ v. GetSplits limit
+    ensures { λ r. ⌜ GetSplitsCall
         (lent (now (original .entry)) (now (normalized .entry))
         (now (starts .entry)) (now (ends .entry)) «original_shift») (now (list .entry))
         (behaviorOf behavior) (sideOf «of_original») (unitOf «in_chars»)
         (now («out_starts» .entry)) (now («out_ends» .entry))
-        v (now («out_starts» .exit)) (now («out_ends» .exit))) r ⌝ }
+        r (now («out_starts» .exit)) (now («out_ends» .exit)) ⌝ }
 {
-    splits_told(splits::get_splits(
+    splits_to_c(split_offsets::get_splits(
         original,
         normalized,
         starts,

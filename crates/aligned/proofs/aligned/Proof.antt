@@ -8,15 +8,15 @@ use Rattle.aligned.proofs.Unedited.{untouched-aligned}
 use Rattle.aligned.proofs.aligned.Statement.{statement}
 use Rattle.aligned.proofs.aligned.Tie as tie
 
-untouched-requires : tie.Need-untouched-requires
-untouched-requires c κs =
+is-starting-requires : tie.Need-is-starting-requires
+is-starting-requires c κs =
     let known = c .before .before .before .before .before .pre in
     (known .kind ∙ ap ascii (known .alike (c .if1 .taken)), (known .normalized-short, (known .starts-paired, known .ends-paired)))
 
 returns : tie.Need-returns
 returns c =
     let known = c .before .before .before .before .before .before .before .pre in
-    untouched-aligned _ _ _ _ _ (known .formed) (known .starts-paired) (known .ends-paired) (known .alike (c .before .before .if1 .taken)) (c .before .untouched .ensures) (c .if2 .taken)
+    untouched-aligned _ _ _ _ _ (known .formed) (known .starts-paired) (known .ends-paired) (known .alike (c .before .before .if1 .taken)) (c .before .is-starting .ensures) (c .if2 .taken)
 
 returns-4 : tie.Need-returns-4
 returns-4 c =
@@ -33,7 +33,7 @@ pub aligned-spec : {M : Type 1} → statement M
 aligned-spec =
     tie.close
     (tie.spec
-    untouched-requires
+    is-starting-requires
     returns
     (λ c. search needs)
     (λ c κs. search needs)

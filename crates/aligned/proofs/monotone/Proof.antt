@@ -5,14 +5,14 @@ use lib.Dec.{eqb}
 use lib.ListN.{length}
 use Rattle.boundaries.specs.Monotone.{monotone}
 use Rattle.boundaries.proofs.Monotone.{monotone-none, at-end}
-use Rattle.aligned.specs.Straying.{noneStrays}
+use Rattle.aligned.specs.MisalignedBits.{noneMisaligned}
 use Rattle.aligned.proofs.Straying.{first-calm, next-calm, calm-is-monotone}
 use native.Mathlib.Omega.{arith}
 use Rattle.aligned.proofs.monotone.Statement.{statement}
 use Rattle.aligned.proofs.monotone.Tie as tie
 
 abbrev Inv-loop : tie.InvT-loop
-Inv-loop text starts ends size found₀ i₀ found i = (1 ≤ i) × ((i ≤ length text) × (eqb found 0 ≡ noneStrays text starts ends i))
+Inv-loop text starts ends size found₀ i₀ found i = (1 ≤ i) × ((i ≤ length text) × (eqb found 0 ≡ noneMisaligned text starts ends i))
 
 abbrev μ-loop : tie.MeasureT-loop
 μ-loop text starts ends size found₀ i₀ found i = length text - i
@@ -21,16 +21,16 @@ returns : tie.Need-returns Inv-loop μ-loop
 returns c = at-end (monotone _ _ _ _) 0 _ _ (omega arith) (omega arith) (monotone-none _ _ _ _)
 
 loop-holds : tie.Need-loop-holds Inv-loop μ-loop
-loop-holds c = (omega arith, (omega arith, first-calm _ _ _ (c .over .ensures)))
+loop-holds c = (omega arith, (omega arith, first-calm _ _ _ (c .saturating-sub-offset .ensures)))
 
 loop-again : tie.Need-loop-again Inv-loop μ-loop
-loop-again c = (omega arith, (omega (arith, c .before .before .before .before .before .before .loop-test .taken), next-calm _ _ _ _ (c .before .before .before .before .before .before .before .loop .found) (c .before .before .before .before .before .before .before .loop .inv .0) (c .before .before .before .before .before .before .before .loop .inv .1 .1) (c .strays .ensures)))
+loop-again c = (omega arith, (omega (arith, c .before .before .before .before .before .before .loop-test .taken), next-calm _ _ _ _ (c .before .before .before .before .before .before .before .loop .found) (c .before .before .before .before .before .before .before .loop .inv .0) (c .before .before .before .before .before .before .before .loop .inv .1 .1) (c .misaligned-bits .ensures)))
 
 returns-2 : tie.Need-returns-2 Inv-loop μ-loop
 returns-2 c =
     let head = c .before .before .before in
     calm-is-monotone _ _ _ _ _ (head .loop .found) (omega arith)
-    (at-end (noneStrays _ _ _) _ _ _ (head .loop .inv .1 .0) (c .before .before .loop-test .left) (head .loop .inv .1 .1)) (c .over2 .ensures)
+    (at-end (noneMisaligned _ _ _) _ _ _ (head .loop .inv .1 .0) (c .before .before .loop-test .left) (head .loop .inv .1 .1)) (c .saturating-sub-offset2 .ensures)
 
 pub monotone-spec : {M : Type 1} → statement M
 monotone-spec =

@@ -31,12 +31,12 @@ loop-again c =
     let there = c .before .before .before .before .before .before in
     let joins = joined-by _ _ _ (there .before .before .before .before .before .join-table .ensures) (c .before .before .before .joined .ensures) in
     next-counted (there .before .before .before .before .loop .inv) (there .before .before .entry-at2 .ensures) (there .place .given .1)
-    (over-by _ _ _ _ joins (c .before .before .stays .ensures)) (c .before .counted .ensures) (onward-by _ _ _ joins (c .onward .ensures))
+    (over-by _ _ _ _ joins (c .before .before .is-kept-run .ensures)) (c .before .counted .ensures) (onward-by _ _ _ joins (c .extend-run .ensures))
 
 returns-2 : tie.Need-returns-2 Inv-loop μ-loop
 returns-2 c =
     let done = ⊎-elim (λ w. done-past _ (w .left)) (λ w. done-broken _ (w .0 .taken) (w .1 .ensures) (w .3 .given .1)) (c .before .before .loop-test .came) in
-    all-counted (c .before .before .before .loop .inv) done (c .before .stays2 .ensures) (c .counted2 .ensures)
+    all-counted (c .before .before .before .loop .inv) done (c .before .is-kept-run2 .ensures) (c .counted2 .ensures)
 
 pub measure-spec : {M : Type 1} → statement M
 measure-spec =

@@ -11,6 +11,6 @@ block-uncut-spec =
     tie.close
     (tie.spec
     (λ c κs. search needs)
-    (λ c. sym (c .before .one-each .ensures (c .if1 .taken)))
+    (λ c. sym (c .before .whole-chars .ensures (c .if1 .taken)))
     (λ c κs. omega arith)
     (λ c. c .all-uncut .ensures ∙ ap (uncutBelow _ _ _) (c .before .before .before .before .before .before .before .pre .0 .0)))

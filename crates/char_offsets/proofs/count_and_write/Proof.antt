@@ -11,7 +11,7 @@ write-pairs-requires c κs =
       record {
         short = entry .pre .0;
         marks-are = low .before .before .before .before .write-marks .ensures;
-        long = omega (arith, low .write-lows .ensures .same, entry .pre .0, low .before .before .blank-lows .ensures);
+        long = omega (arith, low .write-lows .ensures .same, entry .pre .0, low .before .before .zeroed-lows .ensures);
         lows-are = low .write-lows .ensures .lows;
       },
       entry .pre .1,

@@ -12,8 +12,8 @@ Inv-loop codes out₀ from until words at₀ i₀ out at i = Words codes out₀ 
 abbrev μ-loop : tie.MeasureT-loop
 μ-loop codes out₀ from until words at₀ i₀ out at i = 64 - i
 
-put-word-requires : tie.Need-put-word-requires Inv-loop μ-loop
-put-word-requires c κs = let head = c .before .before in
+put-u32-le-requires : tie.Need-put-u32-le-requires Inv-loop μ-loop
+put-u32-le-requires c κs = let head = c .before .before in
     let entry = head .before .before .before .before .before .before in
     word-room (entry .pre .0) (entry .pre .1) (head .loop .inv) (c .before .loop-test .taken)
 
@@ -31,7 +31,7 @@ add-at c = let head = c .before .before .before .before .before in
 loop-again : tie.Need-loop-again Inv-loop μ-loop
 loop-again c = let head = c .before .before .before .before .before in
     let entry = head .before .before .before .before .before .before in
-    one-word (entry .pre .0) (entry .pre .1) (head .loop .inv) (c .before .before .before .before .loop-test .taken) (head .before .before .pack .ensures) (c .before .before .put-word .ensures)
+    one-word (entry .pre .0) (entry .pre .1) (head .loop .inv) (c .before .before .before .before .loop-test .taken) (head .before .before .pack .ensures) (c .before .before .put-u32-le .ensures)
 
 returns : tie.Need-returns Inv-loop μ-loop
 returns c = all-words (c .before .before .before .before .before .before .before .pre .0) (c .before .loop .inv) (c .loop-test .left)
@@ -47,7 +47,7 @@ lay-text-block-spec =
     (λ c. no-word)
     (λ c. omega arith)
     (λ c. omega arith)
-    put-word-requires
+    put-u32-le-requires
     cast-at
     add-at
     (λ c. omega arith)

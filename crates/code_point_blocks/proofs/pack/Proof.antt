@@ -5,12 +5,12 @@ use Prim.Native.Nat.{_-_, _≤_}
 use lib.ListN.{length, getD}
 use Rattle.buffers.specs.Columns.{Filled}
 use Rattle.buffers.proofs.Columns.{none-filled, filled-up, filled-at}
-use Rattle.code_point_blocks.specs.Laying.{packed}
+use Rattle.code_point_blocks.specs.Laying.{packedCode}
 use Rattle.code_point_blocks.proofs.pack.Statement.{statement}
 use Rattle.code_point_blocks.proofs.pack.Tie as tie
 
 abbrev Inv-loop : tie.InvT-loop
-Inv-loop codes words₀ i₀ words i = (i ≤ length words₀) × Filled (λ k. packed (getD codes k 0)) words₀ 0 i words
+Inv-loop codes words₀ i₀ words i = (i ≤ length words₀) × Filled (λ k. packedCode (getD codes k 0)) words₀ 0 i words
 
 abbrev μ-loop : tie.MeasureT-loop
 μ-loop codes words₀ i₀ words i = length words₀ - i

@@ -3,7 +3,7 @@ use Prim.Native.Nat.{_-_}
 use lib.ListN.{length, getD}
 use native.Mathlib.Omega.{arith}
 use borrow.Author.Needs.{needs}
-use Rattle.script.proofs.Scripts.{size-most}
+use Rattle.utf8.proofs.LenUtf8.{size-most}
 use Rattle.code_points.proofs.Judging.{Judging, none-judged, one-judged, all-judged}
 use Rattle.code_points.proofs.judge_block.Statement.{statement}
 use Rattle.code_points.proofs.judge_block.Tie as tie
@@ -15,13 +15,13 @@ abbrev μ-loop : tie.MeasureT-loop
 μ-loop codes scalar₀ size₀ i₀ scalar size i = length codes - i
 
 more-few : tie.Need-cast-more Inv-loop μ-loop
-more-few c = omega (arith, c .size-of .ensures, size-most (getD (c .before .before .before .before .before .args .codes .now) (c .before .before .before .loop .i) 0))
+more-few c = omega (arith, c .len-utf8 .ensures, size-most (getD (c .before .before .before .before .before .args .codes .now) (c .before .before .before .loop .i) 0))
 
 add-size : tie.Need-add-size Inv-loop μ-loop
 add-size c =
     let head = c .before .before .before in
     let entry = head .before .before in
-    omega (arith, entry .pre, c .before .before .loop-test .taken, head .loop .inv .small, c .size-of .ensures, size-most (getD (entry .args .codes .now) (head .loop .i) 0))
+    omega (arith, entry .pre, c .before .before .loop-test .taken, head .loop .inv .small, c .len-utf8 .ensures, size-most (getD (entry .args .codes .now) (head .loop .i) 0))
 
 pub judge-block-spec : {M : Type 1} → statement M
 judge-block-spec =
@@ -37,6 +37,6 @@ judge-block-spec =
     add-size
     (λ c. omega arith)
     (λ c. omega arith)
-    (λ c. one-judged (c .before .before .before .loop .inv) (c .before .before .loop-test .taken) (c .size-of .ensures))
+    (λ c. one-judged (c .before .before .before .loop .inv) (c .before .before .loop-test .taken) (c .len-utf8 .ensures))
     (λ c. search needs)
     (λ c. all-judged (c .before .loop .inv) (c .loop-test .left)))

@@ -5,16 +5,16 @@ use native.Mathlib.Omega.{arith}
 use borrow.Author.Needs.{needs}
 use Rattle.note.specs.Notes.{limit}
 use Rattle.transform.proofs.Verdicts.{not-placed, range-inside, skip-ready, starved-refused, refused-kept, refused-size, edit-room, edit-made}
-use Rattle.filters.specs.Flags.{skips, kept}
+use Rattle.filters.specs.Flags.{skips, flagCommands}
 use Rattle.filters.proofs.Counted.{begun-skipped}
 use Rattle.filters.proofs.edit_flags.Statement.{statement}
 use Rattle.filters.proofs.edit_flags.Tie as tie
 
 -- the places that others are told by: the entry, where the range is placed, where the result is measured, where its room is known, and where it is laid
-abbrev entry : tie.After-placed → tie.Start
+abbrev entry : tie.After-is-char-range → tie.Start
 entry c = c .before .before .before .before .before .before .before .before
 
-abbrev placed : tie.After-measure-flags → tie.After-placed
+abbrev placed : tie.After-measure-flags → tie.After-is-char-range
 placed c = c .before .before .before .before
 
 abbrev measured : tie.After-least-of-two → tie.After-measure-flags
@@ -26,23 +26,23 @@ bounded c = c .before .before .before .before .before .before .before
 returns : tie.Need-returns
 returns c =
     let entry = entry (c .before) in
-    not-placed limit (entry .pre .0) (entry .args .from) (entry .args .to) (skips (entry .args .flags .now)) (kept (entry .args .text .now) (entry .args .flags .now)) (entry .args .out .now) (entry .args .out-starts .now) (entry .args .out-ends .now) (c .before .placed .ensures) (c .if1 .taken)
+    not-placed limit (entry .pre .0) (entry .args .from) (entry .args .to) (skips (entry .args .flags .now)) (flagCommands (entry .args .text .now) (entry .args .flags .now)) (entry .args .out .now) (entry .args .out-starts .now) (entry .args .out-ends .now) (c .before .is-char-range .ensures) (c .if1 .taken)
 
 measure-flags-requires : tie.Need-measure-flags-requires
 measure-flags-requires c κs =
     let entry = entry (c .before .before .before) in
-    record { tabled = skip-ready limit (entry .pre .0) (entry .args .from) (entry .args .to) (skips (entry .args .flags .now)) (kept (entry .args .text .now) (entry .args .flags .now)) (entry .args .out .now) (entry .args .out-starts .now) (entry .args .out-ends .now) (c .before .before .before .placed .ensures) (c .before .before .if1 .left) (c .before .lengths .ensures); counted = entry .pre .1 }
+    record { tabled = skip-ready limit (entry .pre .0) (entry .args .from) (entry .args .to) (skips (entry .args .flags .now)) (flagCommands (entry .args .text .now) (entry .args .flags .now)) (entry .args .out .now) (entry .args .out-starts .now) (entry .args .out-ends .now) (c .before .before .before .is-char-range .ensures) (c .before .before .if1 .left) (c .before .lengths .ensures); counted = entry .pre .1 }
 
 sub-kept : tie.Need-sub-kept
 sub-kept c =
     let measured = measured c in
     let entry = entry (placed measured) in
-    range-inside limit (entry .pre .0) (entry .args .from) (entry .args .to) (skips (entry .args .flags .now)) (kept (entry .args .text .now) (entry .args .flags .now)) (entry .args .out .now) (entry .args .out-starts .now) (entry .args .out-ends .now) (placed measured .placed .ensures) (measured .before .before .before .if1 .left) (measured .before .before .lengths .ensures) .1
+    range-inside limit (entry .pre .0) (entry .args .from) (entry .args .to) (skips (entry .args .flags .now)) (flagCommands (entry .args .text .now) (entry .args .flags .now)) (entry .args .out .now) (entry .args .out-starts .now) (entry .args .out-ends .now) (placed measured .is-char-range .ensures) (measured .before .before .before .if1 .left) (measured .before .before .lengths .ensures) .1
 
 add-kept : tie.Need-add-kept
 add-kept c =
     let entry = entry (placed (measured c)) in
-    let range = range-inside limit (entry .pre .0) (entry .args .from) (entry .args .to) (skips (entry .args .flags .now)) (kept (entry .args .text .now) (entry .args .flags .now)) (entry .args .out .now) (entry .args .out-starts .now) (entry .args .out-ends .now) (placed (measured c) .placed .ensures) (measured c .before .before .before .if1 .left) (measured c .before .before .lengths .ensures) in
+    let range = range-inside limit (entry .pre .0) (entry .args .from) (entry .args .to) (skips (entry .args .flags .now)) (flagCommands (entry .args .text .now) (entry .args .flags .now)) (entry .args .out .now) (entry .args .out-starts .now) (entry .args .out-ends .now) (placed (measured c) .is-char-range .ensures) (measured c .before .before .before .if1 .left) (measured c .before .before .lengths .ensures) in
     let long : length (entry .args .text .now) < 2 ^ 64 = entry .good .0 .0 in
     omega (arith, long, range .0, range .1)
 
@@ -50,14 +50,14 @@ returns-2 : tie.Need-returns-2
 returns-2 c =
     let measured = measured (c .before) in
     let entry = entry (placed measured) in
-    refused-kept limit (entry .pre .0) (entry .args .from) (entry .args .to) (skips (entry .args .flags .now)) (kept (entry .args .text .now) (entry .args .flags .now)) (entry .args .out .now) (entry .args .out-starts .now) (entry .args .out-ends .now) (placed measured .placed .ensures) (measured .before .before .before .if1 .left) (measured .before .before .lengths .ensures) (begun-skipped (entry .args .text .now) (entry .args .to) (entry .args .from) (entry .args .flags .now)) (measured .measure-flags .ensures) (c .before .before .before .before .size .given .1) (c .before .before .least-room .ensures) (c .before .least-of-two .ensures) (c .if2 .taken)
+    refused-kept limit (entry .pre .0) (entry .args .from) (entry .args .to) (skips (entry .args .flags .now)) (flagCommands (entry .args .text .now) (entry .args .flags .now)) (entry .args .out .now) (entry .args .out-starts .now) (entry .args .out-ends .now) (placed measured .is-char-range .ensures) (measured .before .before .before .if1 .left) (measured .before .before .lengths .ensures) (begun-skipped (entry .args .text .now) (entry .args .to) (entry .args .from) (entry .args .flags .now)) (measured .measure-flags .ensures) (c .before .before .before .before .size .given .1) (c .before .before .least-room .ensures) (c .before .least-of-two .ensures) (c .if2 .taken)
 
 returns-3 : tie.Need-returns-3
 returns-3 c =
     let bounded = c .before .before in
     let measured = measured bounded in
     let entry = entry (placed measured) in
-    refused-size limit (entry .pre .0) (entry .args .from) (entry .args .to) (skips (entry .args .flags .now)) (kept (entry .args .text .now) (entry .args .flags .now)) (entry .args .out .now) (entry .args .out-starts .now) (entry .args .out-ends .now) (placed measured .placed .ensures) (measured .before .before .before .if1 .left) (measured .before .before .lengths .ensures) (begun-skipped (entry .args .text .now) (entry .args .to) (entry .args .from) (entry .args .flags .now)) (measured .measure-flags .ensures) (bounded .before .before .before .size .given .1) (bounded .before .least-room .ensures) (bounded .least-of-two .ensures) (c .before .if2 .left) (c .if3 .taken)
+    refused-size limit (entry .pre .0) (entry .args .from) (entry .args .to) (skips (entry .args .flags .now)) (flagCommands (entry .args .text .now) (entry .args .flags .now)) (entry .args .out .now) (entry .args .out-starts .now) (entry .args .out-ends .now) (placed measured .is-char-range .ensures) (measured .before .before .before .if1 .left) (measured .before .before .lengths .ensures) (begun-skipped (entry .args .text .now) (entry .args .to) (entry .args .from) (entry .args .flags .now)) (measured .measure-flags .ensures) (bounded .before .before .before .size .given .1) (bounded .before .least-room .ensures) (bounded .least-of-two .ensures) (c .before .if2 .left) (c .if3 .taken)
 
 lay-filtered-requires : tie.Need-lay-filtered-requires
 lay-filtered-requires c κs =
@@ -65,22 +65,22 @@ lay-filtered-requires c κs =
     let measured = measured bounded in
     let entry = entry (placed measured) in
     record {
-      ready = record { tabled = skip-ready limit (entry .pre .0) (entry .args .from) (entry .args .to) (skips (entry .args .flags .now)) (kept (entry .args .text .now) (entry .args .flags .now)) (entry .args .out .now) (entry .args .out-starts .now) (entry .args .out-ends .now) (placed measured .placed .ensures) (measured .before .before .before .if1 .left) (measured .before .before .lengths .ensures); counted = entry .pre .1 };
-      rooms = edit-room limit (entry .pre .0) (entry .args .from) (entry .args .to) (skips (entry .args .flags .now)) (kept (entry .args .text .now) (entry .args .flags .now)) (entry .args .out .now) (entry .args .out-starts .now) (entry .args .out-ends .now) (placed measured .placed .ensures) (measured .before .before .before .if1 .left) (measured .before .before .lengths .ensures) (begun-skipped (entry .args .text .now) (entry .args .to) (entry .args .from) (entry .args .flags .now)) (measured .measure-flags .ensures) (bounded .before .before .before .size .given .1) (bounded .before .least-room .ensures) (bounded .least-of-two .ensures) (c .before .before .before .before .before .if2 .left) (c .before .before .before .before .if3 .left);
+      ready = record { tabled = skip-ready limit (entry .pre .0) (entry .args .from) (entry .args .to) (skips (entry .args .flags .now)) (flagCommands (entry .args .text .now) (entry .args .flags .now)) (entry .args .out .now) (entry .args .out-starts .now) (entry .args .out-ends .now) (placed measured .is-char-range .ensures) (measured .before .before .before .if1 .left) (measured .before .before .lengths .ensures); counted = entry .pre .1 };
+      rooms = edit-room limit (entry .pre .0) (entry .args .from) (entry .args .to) (skips (entry .args .flags .now)) (flagCommands (entry .args .text .now) (entry .args .flags .now)) (entry .args .out .now) (entry .args .out-starts .now) (entry .args .out-ends .now) (placed measured .is-char-range .ensures) (measured .before .before .before .if1 .left) (measured .before .before .lengths .ensures) (begun-skipped (entry .args .text .now) (entry .args .to) (entry .args .from) (entry .args .flags .now)) (measured .measure-flags .ensures) (bounded .before .before .before .size .given .1) (bounded .before .least-room .ensures) (bounded .least-of-two .ensures) (c .before .before .before .before .before .if2 .left) (c .before .before .before .before .if3 .left);
     }
 
 returns-4 : tie.Need-returns-4
 returns-4 c =
     let measured = c .before .before in
     let entry = entry (placed measured) in
-    starved-refused limit (entry .pre .0) (entry .args .from) (entry .args .to) (skips (entry .args .flags .now)) (kept (entry .args .text .now) (entry .args .flags .now)) (entry .args .out .now) (entry .args .out-starts .now) (entry .args .out-ends .now) (placed measured .placed .ensures) (measured .before .before .before .if1 .left) (measured .before .before .lengths .ensures) (begun-skipped (entry .args .text .now) (entry .args .to) (entry .args .from) (entry .args .flags .now)) (measured .measure-flags .ensures) (c .enum-told .given .1)
+    starved-refused limit (entry .pre .0) (entry .args .from) (entry .args .to) (skips (entry .args .flags .now)) (flagCommands (entry .args .text .now) (entry .args .flags .now)) (entry .args .out .now) (entry .args .out-starts .now) (entry .args .out-ends .now) (placed measured .is-char-range .ensures) (measured .before .before .before .if1 .left) (measured .before .before .lengths .ensures) (begun-skipped (entry .args .text .now) (entry .args .to) (entry .args .from) (entry .args .flags .now)) (measured .measure-flags .ensures) (c .enum-told .given .1)
 
 returns-5 : tie.Need-returns-5
 returns-5 c =
     let laid = c .before .before .before .before .before .before in
     let measured = measured (bounded laid) in
     let entry = entry (placed measured) in
-    edit-made limit (entry .pre .0) (entry .args .from) (entry .args .to) (skips (entry .args .flags .now)) (kept (entry .args .text .now) (entry .args .flags .now)) (entry .args .out .now) (entry .args .out-starts .now) (entry .args .out-ends .now) (placed measured .placed .ensures) (measured .before .before .before .if1 .left) (measured .before .before .lengths .ensures) (begun-skipped (entry .args .text .now) (entry .args .to) (entry .args .from) (entry .args .flags .now)) (measured .measure-flags .ensures) (bounded laid .before .before .before .size .given .1) (bounded laid .before .least-room .ensures) (bounded laid .least-of-two .ensures) (laid .before .before .before .before .before .before .if2 .left) (laid .before .before .before .before .before .if3 .left) (laid .lay-filtered .ensures)
+    edit-made limit (entry .pre .0) (entry .args .from) (entry .args .to) (skips (entry .args .flags .now)) (flagCommands (entry .args .text .now) (entry .args .flags .now)) (entry .args .out .now) (entry .args .out-starts .now) (entry .args .out-ends .now) (placed measured .is-char-range .ensures) (measured .before .before .before .if1 .left) (measured .before .before .lengths .ensures) (begun-skipped (entry .args .text .now) (entry .args .to) (entry .args .from) (entry .args .flags .now)) (measured .measure-flags .ensures) (bounded laid .before .before .before .size .given .1) (bounded laid .before .least-room .ensures) (bounded laid .least-of-two .ensures) (laid .before .before .before .before .before .before .if2 .left) (laid .before .before .before .before .before .if3 .left) (laid .lay-filtered .ensures)
 
 pub edit-flags-spec : {M : Type 1} → statement M
 edit-flags-spec =

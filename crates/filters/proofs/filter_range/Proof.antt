@@ -6,13 +6,13 @@ use Rattle.filters.proofs.filter_range.Statement.{statement}
 use Rattle.filters.proofs.filter_range.Tie as tie
 
 -- the places that others are told by: the entry, where it is known what the range spans, where all of it is kept, and where the end of what is kept is known
-abbrev entry : tie.After-spans → tie.Start
+abbrev entry : tie.After-is-whole → tie.Start
 entry c = c .before .before .before .before .before .before .before .before .before
 
 abbrev whole : tie.After-keep → tie.Then2
 whole c = c .before .before .before .before
 
-abbrev ended : tie.After-lay-chosen → tie.After-kept-end
+abbrev ended : tie.After-lay-kept → tie.After-kept-end
 ended c = c .before .before .before .before
 
 keep-requires : tie.Need-keep-requires
@@ -20,29 +20,29 @@ keep-requires c κs =
     let whole = c .before .before .before in
     let told = whole .before .before .before in
     let entry = entry told in
-    copied-room (entry .pre) limit (entry .args .from) (entry .args .to) (entry .args .out .now) (entry .args .out-starts .now) (entry .args .out-ends .now) (told .before .least-room .ensures) (told .spans .ensures) (whole .before .before .if1 .taken)
+    copied-room (entry .pre) limit (entry .args .from) (entry .args .to) (entry .args .out .now) (entry .args .out-starts .now) (entry .args .out-ends .now) (told .before .least-room .ensures) (told .is-whole .ensures) (whole .before .before .if1 .taken)
 
 returns : tie.Need-returns
 returns c =
     let laid = c .before .before .before .before .before .before in
     let told = whole laid .before .before .before in
     let entry = entry told in
-    spanned-made (entry .pre) limit (entry .args .from) (entry .args .to) (entry .args .out .now) (entry .args .out-starts .now) (entry .args .out-ends .now) (told .before .least-room .ensures) (told .spans .ensures) (whole laid .before .before .if1 .taken)
+    spanned-made (entry .pre) limit (entry .args .from) (entry .args .to) (entry .args .out .now) (entry .args .out-starts .now) (entry .args .out-ends .now) (told .before .least-room .ensures) (told .is-whole .ensures) (whole laid .before .before .if1 .taken)
     (all-copied (flag-each (entry .pre)) (whole laid .before .all-kept .ensures (whole laid .if2 .taken)) (entry .pre .editable .one-start) (entry .pre .editable .one-end) (laid .keep .ensures))
 
-lay-chosen-requires : tie.Need-lay-chosen-requires
-lay-chosen-requires c κs =
+lay-kept-requires : tie.Need-lay-kept-requires
+lay-kept-requires c κs =
     let ended = c .before .before .before in
     let told = ended .before .before .before .before in
     let entry = entry told in
-    spanned-room (entry .pre) limit (entry .args .from) (entry .args .to) (entry .args .out .now) (entry .args .out-starts .now) (entry .args .out-ends .now) (told .before .least-room .ensures) (told .spans .ensures) (ended .before .before .before .if1 .taken) (ended .kept-end .ensures)
+    spanned-room (entry .pre) limit (entry .args .from) (entry .args .to) (entry .args .out .now) (entry .args .out-starts .now) (entry .args .out-ends .now) (told .before .least-room .ensures) (told .is-whole .ensures) (ended .before .before .before .if1 .taken) (ended .kept-end .ensures)
 
 returns-2 : tie.Need-returns-2
 returns-2 c =
     let chosen = c .before .before .before .before .before .before in
     let told = ended chosen .before .before .before .before in
     let entry = entry told in
-    spanned-made (entry .pre) limit (entry .args .from) (entry .args .to) (entry .args .out .now) (entry .args .out-starts .now) (entry .args .out-ends .now) (told .before .least-room .ensures) (told .spans .ensures) (ended chosen .before .before .before .if1 .taken) (chosen .lay-chosen .ensures)
+    spanned-made (entry .pre) limit (entry .args .from) (entry .args .to) (entry .args .out .now) (entry .args .out-starts .now) (entry .args .out-ends .now) (told .before .least-room .ensures) (told .is-whole .ensures) (ended chosen .before .before .before .if1 .taken) (chosen .lay-kept .ensures)
 
 pub filter-range-spec : {M : Type 1} → statement M
 filter-range-spec =
@@ -57,7 +57,7 @@ filter-range-spec =
     (λ c. search needs)
     returns
     (λ c κs. search needs)
-    lay-chosen-requires
+    lay-kept-requires
     (λ c. search needs)
     (λ c. search needs)
     (λ c. search needs)

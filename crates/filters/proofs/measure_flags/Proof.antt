@@ -21,7 +21,7 @@ add-written : tie.Need-add-written Inv-loop μ-loop
 add-written c =
     let turn = c .before .before .before .before .before .before .before in
     let long : length (entry turn .args .text .now) < 2 ^ 64 = entry turn .good .0 .0 in
-    omega (arith, long, counts-most _ _ (c .counts .ensures), c .before .before .before .before .before .char-len .ensures .inside, turn .loop .inv .small)
+    omega (arith, long, counts-most _ _ (c .flag-len .ensures), c .before .before .before .before .before .char-len .ensures .inside, turn .loop .inv .small)
 
 add-q : tie.Need-add-q Inv-loop μ-loop
 add-q c =
@@ -39,7 +39,7 @@ measure-flags-spec =
     (λ c κs. char-there (c .before .loop .inv .beside) (c .loop-test .taken) (entry (c .before) .pre .tabled))
     (λ c. search needs)
     (λ c κs. search needs)
-    (λ c. flag-starves (c .before .before .before .before .before .loop .inv) (c .before .before .before .before .loop-test .taken) (c .before .before .before .char-len .ensures) (c .before .wants .ensures) (c .if1 .taken))
+    (λ c. flag-starves (c .before .before .before .before .before .loop .inv) (c .before .before .before .before .loop-test .taken) (c .before .before .before .char-len .ensures) (c .before .flag-starves .ensures) (c .if1 .taken))
     (λ c. search needs)
     (λ c κs. search needs)
     add-written
@@ -47,5 +47,5 @@ measure-flags-spec =
     add-q
     (λ c. omega arith)
     (λ c. omega arith)
-    (λ c. next-filtered (c .before .before .before .before .before .before .before .before .loop .inv) (c .before .before .before .before .before .before .before .loop-test .taken) (c .before .before .before .before .before .before .char-len .ensures) (c .before .before .before .before .wants .ensures) (c .before .before .before .if1 .left) (c .before .counts .ensures) (c .skip .ensures))
+    (λ c. next-filtered (c .before .before .before .before .before .before .before .before .loop .inv) (c .before .before .before .before .before .before .before .loop-test .taken) (c .before .before .before .before .before .before .char-len .ensures) (c .before .before .before .before .flag-starves .ensures) (c .before .before .before .if1 .left) (c .before .flag-len .ensures) (c .skip .ensures))
     (λ c. all-filtered (c .before .loop .inv) (c .loop-test .left)))

@@ -5,7 +5,7 @@ use borrow.Author.Tests.{leb-true, not-false}
 use Rattle.note.specs.Refusals.{also, verdict}
 use Rattle.note.specs.Notes.{limit}
 use Rattle.note.specs.Faults.{textFaults, stringFaults}
-use Rattle.note.proofs.Verdicts.{earlier-of, accepted-first}
+use Rattle.note.proofs.FirstMet.{earlier-of, accepted-first}
 use Rattle.note.proofs.Faults.{text-short}
 use Rattle.find.proofs.Found.{input-refused, room-refused, list-written}
 use Rattle.find.proofs.find_matches.Statement.{statement}

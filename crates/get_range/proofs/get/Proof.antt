@@ -7,12 +7,12 @@ use Rattle.get_range.proofs.get.Tie as tie
 returns : tie.Need-returns
 returns c =
     let at = c .before .before .before .before .before in
-    got-found _ (at .answer .given .1) (c .before .before .before .start-of .ensures) (c .before .before .end-of .ensures) (c .before .readable .ensures) (c .if1 .taken)
+    got-found _ (at .answer .given .1) (c .before .before .before .start-of .ensures) (c .before .before .end-of .ensures) (c .before .is-char-range .ensures) (c .if1 .taken)
 
 returns-2 : tie.Need-returns-2
 returns-2 c =
     let at = c .before .before .before .before .before in
-    got-unread _ (at .answer .given .1) (c .before .before .before .start-of .ensures) (c .before .before .end-of .ensures) (c .before .readable .ensures) (c .if1 .left)
+    got-unread _ (at .answer .given .1) (c .before .before .before .start-of .ensures) (c .before .before .end-of .ensures) (c .before .is-char-range .ensures) (c .if1 .left)
 
 pub get-spec : {M : Type 1} → statement M
 get-spec =
@@ -20,7 +20,9 @@ get-spec =
     (tie.spec
     (λ c. search needs)
     (λ c κs. search needs)
+    (λ c. search needs)
     (λ c κs. search needs)
+    (λ c. search needs)
     (λ c κs. search needs)
     (λ c. search needs)
     returns

@@ -15,7 +15,7 @@ returns-2 c =
     let texts = told .before .before in
     part-judged _ _ _ _ (texts .before .before .check-text .ensures) (texts .before .check-text2 .ensures) (texts .earlier .ensures)
     (told .enum-told .given .1) (c .before .before .before .before .text-of .ensures) (c .before .before .before .start-of .ensures)
-    (c .before .before .end-of .ensures) (c .before .readable .ensures) (c .refused-if .ensures)
+    (c .before .before .end-of .ensures) (c .before .is-char-range .ensures) (c .refused-if .ensures)
 
 pub part-verdict-spec : {M : Type 1} → statement M
 part-verdict-spec =
@@ -29,7 +29,9 @@ part-verdict-spec =
     (λ c. search needs)
     (λ c κs. search needs)
     (λ c κs. search needs)
+    (λ c. search needs)
     (λ c κs. search needs)
+    (λ c. search needs)
     (λ c κs. search needs)
     (λ c κs. search needs)
     returns-2)

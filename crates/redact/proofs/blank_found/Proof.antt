@@ -9,13 +9,13 @@ use Rattle.redact.proofs.blank_found.Tie as tie
 abbrev entry : tie.After-slice-known3 → tie.Start
 entry c = c .before .before .before .before .before .before
 
-abbrev partial : tie.After-bound-of → tie.Else1
+abbrev partial : tie.After-block-limit → tie.Else1
 partial c = c .before .before .before .before
 
-abbrev bound : tie.After-copy-bytes → tie.After-bound-of
+abbrev bound : tie.After-copy-bytes → tie.After-block-limit
 bound c = c .before .before .before
 
-abbrev bound-alone : tie.After-blank → tie.After-bound-of
+abbrev bound-alone : tie.After-blank → tie.After-block-limit
 bound-alone c = c .before .before .before .before .before
 
 abbrev copied : tie.After-blank2 → tie.After-copy-bytes
@@ -26,14 +26,14 @@ blank-requires c κs =
     let bound = c .before .before .before .before in
     let f = entry (partial bound .before) .pre in
     let met = partial bound .if1 .left in
-    (blankable f met, bounded-alone f met (bound .before .before .before .most-of .ensures) (bound .before .before .share-of .ensures) (bound .before .margin-of .ensures) (bound .bound-of .ensures))
+    (blankable f met, bounded-alone f met (bound .before .before .before .max-byte .ensures) (bound .before .before .safe-margin .ensures) (bound .before .margin-of .ensures) (bound .block-limit .ensures))
 
 blank-requires-2 : tie.Need-blank-requires-2
 blank-requires-2 c κs =
     let copied = c .before .before .before .before .before in
     let f = entry (partial (bound copied) .before) .pre in
     let met = partial (bound copied) .if1 .left in
-    (blankable f met, bounded-padded f met (bound copied .before .before .before .most-of .ensures) (bound copied .before .before .share-of .ensures) (bound copied .before .margin-of .ensures) (bound copied .bound-of .ensures) _ (omega arith) (copied .copy-bytes .ensures))
+    (blankable f met, bounded-padded f met (bound copied .before .before .before .max-byte .ensures) (bound copied .before .before .safe-margin .ensures) (bound copied .before .margin-of .ensures) (bound copied .block-limit .ensures) _ (omega arith) (copied .copy-bytes .ensures))
 
 pub blank-found-spec : {M : Type 1} → statement M
 blank-found-spec =

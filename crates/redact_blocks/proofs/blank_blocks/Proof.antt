@@ -9,11 +9,11 @@ use Rattle.redact_blocks.proofs.blank_blocks.Statement.{statement}
 use Rattle.redact_blocks.proofs.blank_blocks.Tie as tie
 
 abbrev Inv-loop : tie.InvT-loop
-Inv-loop text most literal front content filler margin until from base out₀ out-starts₀ out-ends₀ first last wide i₀ gap₀ out out-starts out-ends i gap =
+Inv-loop text most literal front content padded margin until from base out₀ out-starts₀ out-ends₀ first last wide i₀ gap₀ out out-starts out-ends i gap =
     (length text ≤ i + gap) × Blanked text literal content from base out₀ out-starts₀ out-ends₀ i (i + gap - length text) out out-starts out-ends
 
 abbrev μ-loop : tie.MeasureT-loop
-μ-loop text most literal front content filler margin until from base out₀ out-starts₀ out-ends₀ first last wide i₀ gap₀ out out-starts out-ends i gap = length text - i
+μ-loop text most literal front content padded margin until from base out₀ out-starts₀ out-ends₀ first last wide i₀ gap₀ out out-starts out-ends i gap = length text - i
 
 -- the places that others are told by: the entry, the turn's beginning, where its block is laid, and where it is known whether the literal stands there
 abbrev entry : tie.At-loop Inv-loop μ-loop → tie.Start Inv-loop μ-loop
@@ -56,7 +56,7 @@ fill-requires c κs =
     let turn = turn (ahead judged) in
     let on = turned (entry turn .pre .0) (turn .loop .inv .1) (entry turn .pre .1) (ahead judged .before .before .before .before .before .loop-test .taken) (ahead judged .before .before .before .before .if1 .left) (ahead judged .lay-ahead .ensures) in
     let fits = block-within (entry turn .pre .0) (turn .loop .inv .1) (entry turn .pre .1) (ahead judged .before .before .before .before .before .loop-test .taken) (ahead judged .before .before .before .before .if1 .left) in
-    match-room (entry turn .pre .0) on (sym (judged .begins .ensures) ∙ c .before .before .before .if3 .taken) (entry turn .pre .1 .filler-long) (omega (arith, fits, ahead judged .lay-ahead .ensures .most))
+    match-room (entry turn .pre .0) on (sym (judged .begins .ensures) ∙ c .before .before .before .if3 .taken) (entry turn .pre .1 .padded-long) (omega (arith, fits, ahead judged .lay-ahead .ensures .most))
 
 add-gap-2 : tie.Need-add-gap-2 Inv-loop μ-loop
 add-gap-2 c =
@@ -73,7 +73,7 @@ loop-again c =
     let on = turned (entry turn .pre .0) (turn .loop .inv .1) (entry turn .pre .1) (ahead .before .before .before .before .before .loop-test .taken) (ahead .before .before .before .before .if1 .left) (ahead .lay-ahead .ensures) in
     let fits = block-within (entry turn .pre .0) (turn .loop .inv .1) (entry turn .pre .1) (ahead .before .before .before .before .before .loop-test .taken) (ahead .before .before .before .before .if1 .left) in (
       omega (arith, turn .loop .inv .0, entry turn .pre .1 .window, ahead .before .before .before .before .before .loop-test .taken),
-      more-match (entry turn .pre .0) on (sym (matched filled .before .begins .ensures) ∙ matched filled .if3 .taken) (entry turn .pre .1 .filler-is) (omega (arith, fits, ahead .lay-ahead .ensures .most)) (filled .fill .ensures) refl (omega (arith, turn .loop .inv .0, entry turn .pre .1 .window, ahead .before .before .before .before .before .loop-test .taken)),
+      more-match (entry turn .pre .0) on (sym (matched filled .before .begins .ensures) ∙ matched filled .if3 .taken) (entry turn .pre .1 .padded-is) (omega (arith, fits, ahead .lay-ahead .ensures .most)) (filled .fill .ensures) refl (omega (arith, turn .loop .inv .0, entry turn .pre .1 .window, ahead .before .before .before .before .before .loop-test .taken)),
     )
 
 lay-byte-requires : tie.Need-lay-byte-requires Inv-loop μ-loop

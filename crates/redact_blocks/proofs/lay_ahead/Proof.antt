@@ -12,10 +12,10 @@ use Rattle.redact_blocks.proofs.lay_ahead.Statement.{statement}
 use Rattle.redact_blocks.proofs.lay_ahead.Tie as tie
 
 -- the places that others are told by: the entry, where the candidate is found, and where the block is laid
-abbrev entry : tie.After-candidate → tie.Start
+abbrev entry : tie.After-first-candidate → tie.Start
 entry c = c .before .before .before .before .before .before .before .before
 
-abbrev found : tie.After-lay-block → tie.After-candidate
+abbrev found : tie.After-lay-block → tie.After-first-candidate
 found c = c .before .before .before .before .before
 
 -- a candidate by the literal's ends
@@ -26,7 +26,7 @@ returns-2 : tie.Need-returns-2
 returns-2 c =
     let laid = c .before .before .before .before .before .before in
     let r = entry (found laid) .pre in
-    let found = found laid .candidate .ensures in
+    let found = found laid .first-candidate .ensures in
     record {
       most = found .most;
       away = absent-block _ _ _ (r .some) refl refl _ (absent-none (omega (arith, r .high))) (by-ends (r .first-is) (r .last-is) found) (found .most) (omega arith) (omega (arith, r .high, found .most));

@@ -10,7 +10,7 @@ use Rattle.redact_note.proofs.blank.Tie as tie
 lay-out-requires : tie.Need-lay-out-requires
 lay-out-requires c κs =
     let listed = c .before .before .before .before .before .before .before .before in
-    (list-ready _ _ _ (listed .write-list .ensures) (listed .before .before .before .before .before .before .before .before .before .before .before .pre .ready), omega (arith, c .before .before .before .before .measure .ensures))
+    (list-ready _ _ _ (listed .write-list .ensures) (listed .before .before .before .before .before .before .before .before .before .before .before .pre .ready), omega (arith, c .before .before .before .before .result-len .ensures))
 
 returns : tie.Need-returns
 returns c =

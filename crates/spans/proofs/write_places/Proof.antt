@@ -23,14 +23,14 @@ write-run-requires c κs =
     let head = c .before .before .before .before in
     let entry = head .before .before .before .before in
     place-room (entry .pre) (head .loop .inv) (c .before .before .place-at .ensures)
-    (omega (arith, head .before .most-places .ensures .1 (entry .pre .unbroken))) (c .before .goes .ensures)
+    (omega (arith, head .before .most-places .ensures .1 (entry .pre .unbroken))) (c .before .is-dropped .ensures)
 
 loop-again : tie.Need-loop-again Inv-loop μ-loop
 loop-again c =
     let head = c .before .before .before .before .before .before .before in
     let entry = head .before .before .before .before in
     one-listed (entry .pre) (head .loop .inv) (c .before .before .before .before .before .place-at .ensures)
-    (omega (arith, head .before .most-places .ensures .1 (entry .pre .unbroken))) (c .before .before .before .before .goes .ensures) (c .before .before .write-run .ensures)
+    (omega (arith, head .before .most-places .ensures .1 (entry .pre .unbroken))) (c .before .before .before .before .is-dropped .ensures) (c .before .before .write-run .ensures)
 
 returns : tie.Need-returns Inv-loop μ-loop
 returns c =

@@ -33,7 +33,7 @@ write-run-requires : tie.Need-write-run-requires Inv-loop μ-loop
 write-run-requires c κs =
     let there = c .before .before .before .before .before in
     let joins = joined-by _ _ _ (turn there .before .join-table .ensures) (c .before .before .joined .ensures) in
-    next-room (turn there .loop .inv) (there .before .before .entry-at2 .ensures) (there .place .given .1) (over-by _ _ _ _ joins (c .before .stays .ensures))
+    next-room (turn there .loop .inv) (there .before .before .entry-at2 .ensures) (there .place .given .1) (over-by _ _ _ _ joins (c .before .is-kept-run .ensures))
 
 loop-less : tie.Need-loop-less Inv-loop μ-loop
 loop-less c =
@@ -45,17 +45,17 @@ loop-again c =
     let run = c .before .before .before in
     let joins = joined-by _ _ _ (turn (there run) .before .join-table .ensures) (run .before .before .before .joined .ensures) in
     next-placed (turn (there run) .loop .inv) (there run .before .before .entry-at2 .ensures) (there run .place .given .1)
-    (over-by _ _ _ _ joins (run .before .before .stays .ensures)) (run .write-run .ensures) (onward-by _ _ _ joins (c .onward .ensures))
+    (over-by _ _ _ _ joins (run .before .before .is-kept-run .ensures)) (run .write-run .ensures) (onward-by _ _ _ joins (c .extend-run .ensures))
 
 write-run-requires-2 : tie.Need-write-run-requires-2 Inv-loop μ-loop
 write-run-requires-2 c κs =
     let done = ⊎-elim (λ w. done-past _ (w .left)) (λ w. done-broken _ (w .0 .taken) (w .1 .ensures) (w .3 .given .1)) (c .before .before .loop-test .came) in
-    last-room (c .before .before .before .loop .inv) done (c .before .stays2 .ensures)
+    last-room (c .before .before .before .loop .inv) done (c .before .is-kept-run2 .ensures)
 
 returns-2 : tie.Need-returns-2 Inv-loop μ-loop
 returns-2 c =
     let done = ⊎-elim (λ w. done-past _ (w .left)) (λ w. done-broken _ (w .0 .taken) (w .1 .ensures) (w .3 .given .1)) (c .before .before .before .before .before .loop-test .came) in
-    all-placed (c .before .before .before .before .before .before .loop .inv) done (c .before .before .before .before .stays2 .ensures) (entry (c .before .before .before .before .before .before) .pre) (omega arith) (c .before .before .write-run2 .ensures)
+    all-placed (c .before .before .before .before .before .before .loop .inv) done (c .before .before .before .before .is-kept-run2 .ensures) (entry (c .before .before .before .before .before .before) .pre) (omega arith) (c .before .before .write-run2 .ensures)
 
 pub write-runs-spec : {M : Type 1} → statement M
 write-runs-spec =

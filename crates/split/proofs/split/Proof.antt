@@ -1,7 +1,7 @@
 -- A refusal comes before the first store; past it there is room for every piece and every alignment.
 use borrow.Author.Needs.{needs}
 use Rattle.note.specs.Notes.{limit}
-use Rattle.split.specs.Splitting.{Columns, columns}
+use Rattle.split.specs.Splitting.{PieceColumns, columns}
 use Rattle.split.proofs.Judged.{split-refused, split-accepted, split-cut}
 use Rattle.split.proofs.split.Statement.{statement}
 use Rattle.split.proofs.split.Tie as tie
@@ -10,7 +10,7 @@ use Rattle.split.proofs.split.Tie as tie
 abbrev entry : tie.After-least-of-two → tie.Start
 entry c = c .before .before .before .before .before .before .before .before .before .before .before .before
 
-abbrev buffers : tie.Start → Columns
+abbrev buffers : tie.Start → PieceColumns
 buffers c = columns (c .args .piece-starts .now) (c .args .piece-ends .now) (c .args .piece-shifts .now) (c .args .piece-lengths .now) (c .args .out-starts .now) (c .args .out-ends .now)
 
 abbrev least : tie.After-check-split → tie.After-least-of-two

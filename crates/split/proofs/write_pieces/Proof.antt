@@ -3,7 +3,7 @@ use mathlib.Core.Path.{sym}
 use lib.Seq.{length-take-le}
 use borrow.Author.Needs.{needs}
 use Rattle.note.specs.Notes.{limit}
-use Rattle.split.specs.Splitting.{Columns, columns}
+use Rattle.split.specs.Splitting.{PieceColumns, columns}
 use Rattle.split.proofs.Judged.{spans-room, from-long, to-long, countable, columns-room, all-cut}
 use Rattle.split.proofs.write_pieces.Statement.{statement}
 use Rattle.split.proofs.write_pieces.Tie as tie
@@ -12,7 +12,7 @@ use Rattle.split.proofs.write_pieces.Tie as tie
 abbrev entry : tie.After-write-spans-arg3 → tie.Start
 entry c = c .before .before .before .before .before .before .before .before .before .before .before .before .before .before
 
-abbrev buffers : tie.Start → Columns
+abbrev buffers : tie.Start → PieceColumns
 buffers c = columns (c .args .piece-starts .now) (c .args .piece-ends .now) (c .args .piece-shifts .now) (c .args .piece-lengths .now) (c .args .out-starts .now) (c .args .out-ends .now)
 
 abbrev spans : tie.After-byte-count → tie.After-write-spans

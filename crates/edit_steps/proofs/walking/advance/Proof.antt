@@ -43,7 +43,7 @@ use Rattle.script.specs.declared.Command.{Command}
 use Rattle.script.proofs.Command as K
 use Rattle.script.proofs.Command.Laws as K′
 use Rattle.edit_steps.specs.declared.walking.Progress.{Progress}
-use Rattle.edit_steps.specs.Walking.{Counting, stepped}
+use Rattle.edit_steps.specs.Walking.{Counting, progressAfter}
 use Rattle.edit_steps.proofs.walking.Progress as T
 use Rattle.edit_steps.proofs.walking.Progress.Laws as T′
 use Rattle.edit_steps.proofs.walking.step as step
@@ -114,10 +114,10 @@ module _ {M : Type 1} (𝓤 : URA M) (H : Heap 𝓤) (A : Atoms 𝓤) (W : Given
       qed W ((‵ (flft κ₁ q₁) ⊛ ‵ (flft κ₂ q₂) ⊛ ‵ ftrue) ∷ ‵ (owns (ShrSlice (named 0) κ₁ u8 ∷ usize ∷ P ∷ K.the-row ∷ ShrRef (named 1) κ₂ Arr ∷ []) (text, (n, (g, (c, (tab, tt))))) (tv ∷ [], (vint w64 n ∷ [], (gv ∷ [], (cv ∷ [], (bv ∷ [], tt)))))) ∷ []) ∵
       says ! need $ frame ! $ done !
 
-  said : (r : Progress) → ent 𝓤 (ensured 𝓤 H A step.ended (step.clauses 𝓤 H A at-mem run) (κ₁, (κ₂, tt)) (text, (n, (g, (c, (tab, tt))))) tt r) (fact 𝓤 (r ≡ stepped (text .now) n g c))
-  said r = exE 𝓤 _ (λ ws. snd∗ 𝓤 (sem 𝓤 H A (lasts step.ended (κ₁, (κ₂, tt)) (text, (n, (g, (c, (tab, tt))))) ws)) (fact 𝓤 (r ≡ stepped (text .now) n g c)))
+  said : (r : Progress) → ent 𝓤 (ensured 𝓤 H A step.ended (step.clauses 𝓤 H A at-mem run) (κ₁, (κ₂, tt)) (text, (n, (g, (c, (tab, tt))))) tt r) (fact 𝓤 (r ≡ progressAfter (text .now) n g c))
+  said r = exE 𝓤 _ (λ ws. snd∗ 𝓤 (sem 𝓤 H A (lasts step.ended (κ₁, (κ₂, tt)) (text, (n, (g, (c, (tab, tt))))) ws)) (fact 𝓤 (r ≡ progressAfter (text .now) n g c)))
 
-  exits : (r : Progress) → r ≡ stepped (text .now) n g c → ent 𝓤 (⋆ 𝓤 H A (‵ (fobs γ (P .coded .code r)) ∷ ‵ (fbor κ₀ (Body (mem P) b o γ)) ∷ ‵ (flft κ₀ q₀) ∷ (‵ (flft κ₁ q₁) ⊛ ‵ (flft κ₂ q₂) ⊛ ‵ ftrue) ∷ ‵ B ∷ ‵ S ∷ [])) (Post vunit)
+  exits : (r : Progress) → r ≡ progressAfter (text .now) n g c → ent 𝓤 (⋆ 𝓤 H A (‵ (fobs γ (P .coded .code r)) ∷ ‵ (fbor κ₀ (Body (mem P) b o γ)) ∷ ‵ (flft κ₀ q₀) ∷ (‵ (flft κ₁ q₁) ⊛ ‵ (flft κ₂ q₂) ⊛ ‵ ftrue) ∷ ‵ B ∷ ‵ S ∷ [])) (Post vunit)
   exits r e =
       qed W (‵ (fobs γ (P .coded .code r)) ∷ ‵ (fbor κ₀ (Body (mem P) b o γ)) ∷ ‵ (flft κ₀ q₀) ∷ (‵ (flft κ₁ q₁) ⊛ ‵ (flft κ₂ q₂) ⊛ ‵ ftrue) ∷ ‵ B ∷ ‵ S ∷ []) ∵
       suffices ! _ (ends-at 𝓤 H A f.ended stayed (f.clauses 𝓤 H A at-mem run) W bound vunit tt (r, (tt, (tt, (tt, (tt, tt))))) (tt, (tt, (tt, (tt, (tt, tt)))))) $ says ! e $
@@ -149,7 +149,7 @@ module _ {M : Type 1} (𝓤 : URA M) (H : Heap 𝓤) (A : Atoms 𝓤) (W : Given
         calls-at ! fm (Step 𝓤 H A at-mem run) known to-step
         (and-then ! (load ! (from ! (stop !)) (look ! 17 refl)) (and-then ! (load ! (from ! (stop !)) (look ! 15 refl)) (and-then ! (load ! (from ! (stop !)) (look ! 7 refl)) (and-then ! (load ! (from ! (stop !)) (look ! 13 refl)) (and-then ! (load ! (from ! (stop !)) (look ! 11 refl)) (no-more !)))))) (λ w.
         use1 W (later (some (λ (r : Progress). ((‵ (flft κ₁ q₁) ⊛ ‵ (flft κ₂ q₂) ⊛ ‵ ftrue) ⊛ ‵ (P .own r (w ∷ []))) ⊛ raw (ensured 𝓤 H A step.ended (step.clauses 𝓤 H A at-mem run) (κ₁, (κ₂, tt)) (text, (n, (g, (c, (tab, tt))))) tt r)))) (id⊢ 𝓤 _) $ await ! tt $ pick ! (λ r.
-        split ! $ move ! (1 ∷ []) $ use1 W (raw (fact 𝓤 (r ≡ stepped (text .now) n g c))) (said r) $ heard ! (r ≡ stepped (text .now) n g c) (λ e. split ! $ move ! (1 ∷ []) $
+        split ! $ move ! (1 ∷ []) $ use1 W (raw (fact 𝓤 (r ≡ progressAfter (text .now) n g c))) (said r) $ heard ! (r ≡ progressAfter (text .now) n g c) (λ e. split ! $ move ! (1 ∷ []) $
         -- [what the result owns; the other tokens; the cell; the open borrow; obs; auth; B; S; _7; …; _6; …; _5; …; _4; …; _3; …; _2; …; _1; …; room for _0; …]
         peeks ! P (Is P) (shows 𝓤 H A P) r (w ∷ []) (λ is′. land ! (from ! (stop !)) (init ! 10 refl (LL.lawful T.the-type T′.the-laws 𝓤 H A W .typed r _ is′ .0)) $
         assigns ! (of-opd ! (load ! (from ! (stop !)) (look ! 10 refl))) (from ! (hop ! (look ! 20 refl) (stop !))) (store-raw ! 2 refl (LL.lawful T.the-type T′.the-laws 𝓤 H A W .typed r _ is′ .0)) $

@@ -46,7 +46,7 @@ use Rattle.script.specs.declared.Command.{Command}
 use Rattle.script.proofs.Command as K
 use Rattle.script.proofs.Command.Laws as K′
 use Rattle.edit_steps.specs.declared.walking.Progress.{Progress}
-use Rattle.edit_steps.specs.Walking.{Counting, stepped}
+use Rattle.edit_steps.specs.Walking.{Counting, progressAfter}
 use Rattle.edit_steps.proofs.walking.Progress as T
 use Rattle.edit_steps.proofs.walking.Progress.Laws as T′
 use Rattle.edit_steps.proofs.walking.advance as advance
@@ -146,7 +146,7 @@ module _ {M : Type 1} (𝓤 : URA M) (H : Heap 𝓤) (A : Atoms 𝓤) (W : Given
       qed W ((‵ (flft (ν ∷ []) fullShare) ⊛ ‵ (flft κ₁ q₁) ⊛ ‵ (flft κ₂ q₂) ⊛ ‵ ftrue) ∷ ‵ (owns (MutRef (named 0) (ν ∷ []) P ∷ ShrSlice (named 1) κ₁ u8 ∷ usize ∷ K.the-row ∷ ShrRef (named 2) κ₂ Arr ∷ []) (lent l δ) (passed l)) ∷ []) ∵
       says ! need $ frame ! $ done !
 
-  exits : (r : Progress) → Is P r (T′.lowered r ∷ []) → r ≡ stepped (text .now) n g c → ent 𝓤 (⋆ 𝓤 H A ((‵ (flft κ₁ q₁) ⊛ ‵ (flft κ₂ q₂) ⊛ ‵ ftrue) ∷ ‵ B ∷ ‵ S ∷ [])) (Post (T′.lowered r))
+  exits : (r : Progress) → Is P r (T′.lowered r ∷ []) → r ≡ progressAfter (text .now) n g c → ent 𝓤 (⋆ 𝓤 H A ((‵ (flft κ₁ q₁) ⊛ ‵ (flft κ₂ q₂) ⊛ ‵ ftrue) ∷ ‵ B ∷ ‵ S ∷ [])) (Post (T′.lowered r))
   exits r is e =
       qed W ((‵ (flft κ₁ q₁) ⊛ ‵ (flft κ₂ q₂) ⊛ ‵ ftrue) ∷ ‵ B ∷ ‵ S ∷ []) ∵
       suffices ! _ (ends-at 𝓤 H A f.ended stayed (f.clauses 𝓤 H A at-mem run) W bound (T′.lowered r) r (tt, (tt, (tt, (tt, (tt, tt))))) (tt, (tt, (tt, (tt, (tt, tt)))))) $ says ! e $
@@ -177,8 +177,8 @@ module _ {M : Type 1} (𝓤 : URA M) (H : Heap 𝓤) (A : Atoms 𝓤) (W : Given
         calls-at ! fm (Advance 𝓤 H A at-mem run) known (to-advance ν l₆ δ)
         (and-then ! (load ! (from ! (stop !)) (look ! 4 refl)) (and-then ! (load ! (from ! (stop !)) (look ! 17 refl)) (and-then ! (load ! (from ! (stop !)) (look ! 15 refl)) (and-then ! (load ! (from ! (stop !)) (look ! 11 refl)) (and-then ! (load ! (from ! (stop !)) (look ! 9 refl)) (no-more !)))))) (λ v.
         use1 W (later (some (λ (u : Unit {0}). ((‵ (flft (ν ∷ []) fullShare) ⊛ ‵ (flft κ₁ q₁) ⊛ ‵ (flft κ₂ q₂) ⊛ ‵ ftrue) ⊛ ‵ (Nothing .own u (v ∷ []))) ⊛ raw (ensured 𝓤 H A advance.ended (advance.clauses 𝓤 H A at-mem run) (ν ∷ [], (κ₁, (κ₂, tt))) (lent l₆ δ) tt u)))) (id⊢ 𝓤 _) $ await ! tt $ pick ! (λ u.
-        split ! $ move ! (1 ∷ []) $ use1 W (some (λ (ws : Progress × (Unit {0} × (Unit {0} × (Unit {0} × (Unit {0} × Unit {0}))))). ‵ (lasts advance.ended (ν ∷ [], (κ₁, (κ₂, tt))) (lent l₆ δ) ws) ⊛ raw (fact 𝓤 (ws .0 ≡ stepped (text .now) n g c)))) (id⊢ 𝓤 _) $ pick ! (λ ws.
-        split ! $ move ! (1 ∷ []) $ heard ! (ws .0 ≡ stepped (text .now) n g c) (λ e. fsplit ! $ move ! (2 ∷ []) $ split ! $ move ! (1 ∷ []) $ feqL ! (λ none.
+        split ! $ move ! (1 ∷ []) $ use1 W (some (λ (ws : Progress × (Unit {0} × (Unit {0} × (Unit {0} × (Unit {0} × Unit {0}))))). ‵ (lasts advance.ended (ν ∷ [], (κ₁, (κ₂, tt))) (lent l₆ δ) ws) ⊛ raw (fact 𝓤 (ws .0 ≡ progressAfter (text .now) n g c)))) (id⊢ 𝓤 _) $ pick ! (λ ws.
+        split ! $ move ! (1 ∷ []) $ heard ! (ws .0 ≡ progressAfter (text .now) n g c) (λ e. fsplit ! $ move ! (2 ∷ []) $ split ! $ move ! (1 ∷ []) $ feqL ! (λ none.
         -- [the tokens; the last value; …; the lender's part; B; S; _8; …; _7; …; …; _5; …; _4; …; _3; …; _2; …; _1; …; room for _0; …]
         land ! (from ! (stop !)) (init ! 8 refl (subst (λ (y : Val). Holds (hasTy tyUnit y) × WT y) (sym (ap only none)) (tt, tt))) $
         -- the lifetime is ended, and the local comes back at its last value

@@ -14,21 +14,21 @@ Inv-loop text literal from width first last i₀ i = Absent text literal from i
 abbrev μ-loop : tie.MeasureT-loop
 μ-loop text literal from width first last i₀ i = length text - i
 
-candidate-requires : tie.Need-candidate-requires Inv-loop μ-loop
-candidate-requires c κs = (simp (length-take, length-drop) (omega arith), simp (length-take, length-drop) (omega arith))
+first-candidate-requires : tie.Need-first-candidate-requires Inv-loop μ-loop
+first-candidate-requires c κs = (simp (length-take, length-drop) (omega arith), simp (length-take, length-drop) (omega arith))
 
 returns : tie.Need-returns Inv-loop μ-loop
 returns c =
     let head = c .before .before .before .before .before in
-    absent-block _ _ _ (head .before .before .before .before .before .pre .0) refl refl _ (head .loop .inv) (c .before .candidate .ensures) (omega arith) (omega arith) (omega arith)
+    absent-block _ _ _ (head .before .before .before .before .before .pre .0) refl refl _ (head .loop .inv) (c .before .first-candidate .ensures) (omega arith) (omega arith) (omega arith)
 
 loop-again : tie.Need-loop-again Inv-loop μ-loop
 loop-again c =
     let test = c .before .before in
     let head = test .before .before .before .before in
     absent-on
-    (absent-block _ _ _ (head .before .before .before .before .before .pre .0) refl refl _ (head .loop .inv) (test .candidate .ensures) (omega arith) (omega arith) (omega arith))
-    (c .pass-blocks .ensures)
+    (absent-block _ _ _ (head .before .before .before .before .before .pre .0) refl refl _ (head .loop .inv) (test .first-candidate .ensures) (omega arith) (omega arith) (omega arith))
+    (c .skip-blocks .ensures)
 
 pub next-candidate-spec : {M : Type 1} → statement M
 next-candidate-spec =
@@ -51,11 +51,11 @@ next-candidate-spec =
     (λ c. omega arith)
     (λ c. omega arith)
     (λ c. omega arith)
-    candidate-requires
+    first-candidate-requires
     (λ c. omega arith)
     returns
     (λ c. omega arith)
     (λ c κs. (omega arith, omega arith))
-    (λ c. omega (arith, c .pass-blocks .ensures .onward, c .pass-blocks .ensures .most))
+    (λ c. omega (arith, c .skip-blocks .ensures .onward, c .skip-blocks .ensures .most))
     loop-again
     (λ c. c .before .loop .inv))

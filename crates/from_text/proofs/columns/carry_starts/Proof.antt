@@ -6,8 +6,9 @@ use native.Mathlib.Omega.{arith}
 use borrow.Author.Tests.{not-true, not-false}
 use borrow.Author.Needs.{needs}
 use Rattle.buffers.proofs.Columns.{filled-at}
-use Rattle.note.proofs.Starting.{charStart-begins}
-use Rattle.from_text.proofs.CharRanges.{StartsTo, no-starts, start-carried, one-start}
+use Rattle.utf8.proofs.CharRanges.{charStart-begins}
+use Rattle.utf8.proofs.CharRanges.{start-carried}
+use Rattle.from_text.proofs.CharRanges.{StartsTo, no-starts, one-start}
 use Rattle.from_text.proofs.columns.carry_starts.Statement.{statement}
 use Rattle.from_text.proofs.columns.carry_starts.Tie as tie
 

@@ -5,7 +5,7 @@ use native.Mathlib.Omega.{arith}
 use lib.ListN.{length}
 use Rattle.buffers.specs.Columns.{Filled}
 use Rattle.buffers.proofs.Columns.{none-filled, filled-after}
-use Rattle.note.specs.Starting.{charEnd}
+use Rattle.utf8.specs.CharRanges.{charEnd}
 use Rattle.from_text.proofs.CharRanges.{block-here, all-ends}
 use Rattle.from_text.proofs.columns.write_ends.Statement.{statement}
 use Rattle.from_text.proofs.columns.write_ends.Tie as tie

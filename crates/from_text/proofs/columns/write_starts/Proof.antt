@@ -4,7 +4,7 @@ use native.Mathlib.Omega.{arith}
 use lib.ListN.{length}
 use Rattle.buffers.specs.Columns.{Filled}
 use Rattle.buffers.proofs.Columns.{none-filled, filled-at, filled-before}
-use Rattle.note.specs.Starting.{charStart}
+use Rattle.utf8.specs.CharRanges.{charStart}
 use Rattle.from_text.proofs.CharRanges.{block-here, all-starts}
 use Rattle.from_text.proofs.columns.write_starts.Statement.{statement}
 use Rattle.from_text.proofs.columns.write_starts.Tie as tie

@@ -4,23 +4,23 @@ use mathlib.Core.Path.{_≡_}
 use native.Mathlib.Omega.{arith}
 use borrow.Author.Needs.{needs}
 use Rattle.buffers.specs.Every.{everyBelow}
-use Rattle.pattern.specs.Placed.{placed}
+use Rattle.pattern.specs.Placed.{placedByte}
 use Rattle.pattern.proofs.Placed.{every-none, every-more, every-end}
 use Rattle.pattern.proofs.blocks.all_placed.Statement.{statement}
 use Rattle.pattern.proofs.blocks.all_placed.Tie as tie
 
 abbrev Inv-loop : tie.InvT-loop
-Inv-loop list i before ok₀ j₀ ok j = (j ≤ 80) × (ok ≡ everyBelow j (placed list i))
+Inv-loop list i before ok₀ j₀ ok j = (j ≤ 80) × (ok ≡ everyBelow j (placedByte list i))
 
 abbrev μ-loop : tie.MeasureT-loop
 μ-loop list i before ok₀ j₀ ok j = 80 - j
 
 loop-again : tie.Need-loop-again Inv-loop μ-loop
-unfolding placed
+unfolding placedByte
 loop-again c =
     let head = c .before .before .before .before .before .before .before in
     let given = head .before .before .args in
-    (omega arith, every-more (placed (given .list .now) (given .i)) (head .loop .inv .1) (c .placed-at .ensures))
+    (omega arith, every-more (placedByte (given .list .now) (given .i)) (head .loop .inv .1) (c .placed-at .ensures))
 
 pub all-placed-spec : {M : Type 1} → statement M
 all-placed-spec =

@@ -1,7 +1,7 @@
 -- The content, and beside it the range of the byte before the end.
 use native.Mathlib.Omega.{arith}
 use borrow.Author.Needs.{needs}
-use Rattle.redact_blocks.proofs.Keeping.{filler-laid, filler-first, filler-small}
+use Rattle.redact_blocks.proofs.Keeping.{padded-laid, padded-first, padded-small}
 use Rattle.redact_blocks.proofs.stretches.fill.Statement.{statement}
 use Rattle.redact_blocks.proofs.stretches.fill.Tie as tie
 
@@ -9,10 +9,10 @@ use Rattle.redact_blocks.proofs.stretches.fill.Tie as tie
 abbrev entry : tie.After-char-end → tie.Start
 entry c = c .before .before .before .before .before .before .before
 
-abbrev told : tie.After-lay-content → tie.After-char-end
+abbrev told : tie.After-copy-front-over → tie.After-char-end
 told c = c .before .before
 
-abbrev laid : tie.After-fill-offsets-over → tie.After-lay-content
+abbrev laid : tie.After-fill-offsets-over → tie.After-copy-front-over
 laid c = c .before .before .before .before
 
 pub fill-spec : {M : Type 1} → statement M
@@ -21,17 +21,17 @@ fill-spec =
     (tie.spec
     (λ c. search needs)
     (λ c κs. search needs)
-    (λ c. omega (arith, filler-first (c .before .before .before .before .before .before .pre) (c .char-start .ensures)))
+    (λ c. omega (arith, padded-first (c .before .before .before .before .before .before .pre) (c .char-start .ensures)))
     (λ c. search needs)
     (λ c κs. search needs)
-    (λ c. let small = filler-small (entry c .pre) (c .before .char-start .ensures) (c .char-end .ensures) in omega (arith, small))
-    (λ c. search needs)
-    (λ c κs. search needs)
+    (λ c. let small = padded-small (entry c .pre) (c .before .char-start .ensures) (c .char-end .ensures) in omega (arith, small))
     (λ c. search needs)
     (λ c κs. search needs)
     (λ c. search needs)
     (λ c κs. search needs)
     (λ c. search needs)
+    (λ c κs. search needs)
     (λ c. search needs)
     (λ c. search needs)
-    (λ c. let started = c .before .before .before .before .before .before in let laid = laid started in filler-laid (entry (told laid) .pre) (told laid .before .char-start .ensures) (told laid .char-end .ensures) (laid .lay-content .ensures) (started .fill-offsets-over .ensures) (c .before .before .fill-offsets-over2 .ensures)))
+    (λ c. search needs)
+    (λ c. let started = c .before .before .before .before .before .before in let laid = laid started in padded-laid (entry (told laid) .pre) (told laid .before .char-start .ensures) (told laid .char-end .ensures) (laid .copy-front-over .ensures) (started .fill-offsets-over .ensures) (c .before .before .fill-offsets-over2 .ensures)))

@@ -1,7 +1,7 @@
 -- The content, and beside it the range of the byte before the end.
 use native.Mathlib.Omega.{arith}
 use borrow.Author.Needs.{needs}
-use Rattle.redact_blocks.proofs.Keeping.{filler-exact, filler-first, filler-small}
+use Rattle.redact_blocks.proofs.Keeping.{padded-exact, padded-first, padded-small}
 use Rattle.redact_blocks.proofs.stretches.fill_exact.Statement.{statement}
 use Rattle.redact_blocks.proofs.stretches.fill_exact.Tie as tie
 
@@ -21,14 +21,14 @@ fill-exact-spec =
     (tie.spec
     (λ c. search needs)
     (λ c κs. search needs)
-    (λ c. omega (arith, filler-first (c .before .before .before .before .before .before .pre) (c .char-start .ensures)))
+    (λ c. omega (arith, padded-first (c .before .before .before .before .before .before .pre) (c .char-start .ensures)))
     (λ c. search needs)
     (λ c κs. search needs)
-    (λ c. let small = filler-small (entry c .pre) (c .before .char-start .ensures) (c .char-end .ensures) in omega (arith, small))
+    (λ c. let small = padded-small (entry c .pre) (c .before .char-start .ensures) (c .char-end .ensures) in omega (arith, small))
     (λ c κs. search needs)
     (λ c κs. search needs)
     (λ c κs. search needs)
     (λ c. search needs)
     (λ c. search needs)
     (λ c. search needs)
-    (λ c. let started = c .before .before .before .before .before .before in let copied = copied started in filler-exact (entry (told copied) .pre) (told copied .before .char-start .ensures) (told copied .char-end .ensures) (copied .copy-bytes .ensures) (started .fill-offsets .ensures) (c .before .before .fill-offsets2 .ensures)))
+    (λ c. let started = c .before .before .before .before .before .before in let copied = copied started in padded-exact (entry (told copied) .pre) (told copied .before .char-start .ensures) (told copied .char-end .ensures) (copied .copy-bytes .ensures) (started .fill-offsets .ensures) (c .before .before .fill-offsets2 .ensures)))

@@ -14,7 +14,7 @@ lay-bytes-spec =
     (λ c κs. let entry = c .before .before .before .before .before .before .before .before .before in content-source (entry .pre .0) _ (c .before .if1 .taken) (entry .pre .1))
     (λ c. search needs)
     (λ c. search needs)
-    (λ c. place-filled _ _ _ _ (c .before .before .before .before .if1 .taken) (c .before .before .lay-content .ensures))
+    (λ c. place-filled _ _ _ _ (c .before .before .before .before .if1 .taken) (c .before .before .copy-front-over .ensures))
     (λ c κs. place-source (c .before .before .before .before .before .before .before .before .before .pre .0) (c .before .if1 .left))
     (λ c. search needs)
     (λ c. search needs)

@@ -3,15 +3,15 @@ use Prim.Native.Nat.{_-_}
 use lib.ListN.{length}
 use borrow.Author.Needs.{needs}
 use Rattle.buffers.specs.Splice.{part}
-use Rattle.replace.proofs.Columns.{Going, none-going, place-room, going-on, going-less, broken-gone, all-gone, filler-wide}
+use Rattle.replace.proofs.Columns.{Going, none-going, place-room, going-on, going-less, broken-gone, all-gone, padded-wide}
 use Rattle.replace.proofs.laying.lay_text.Statement.{statement}
 use Rattle.replace.proofs.laying.lay_text.Tie as tie
 
 abbrev Inv-loop : tie.InvT-loop
-Inv-loop text list filler wide until out₀ at₀ i₀ out at i = Going (λ end. part filler 0 wide) text list wide until out₀ at i out
+Inv-loop text list padded wide until out₀ at₀ i₀ out at i = Going (λ end. part padded 0 wide) text list wide until out₀ at i out
 
 abbrev μ-loop : tie.MeasureT-loop
-μ-loop text list filler wide until out₀ at₀ i₀ out at i = length list - i
+μ-loop text list padded wide until out₀ at₀ i₀ out at i = length list - i
 
 lay-bytes-requires : tie.Need-lay-bytes-requires Inv-loop μ-loop
 lay-bytes-requires c κs =
@@ -34,7 +34,7 @@ lay-text-spec =
     (tie.spec
     Inv-loop
     μ-loop
-    (λ c. none-going _ (filler-wide _ _ (c .before .before .before .before .pre .1)) (c .before .before .before .before .pre .0))
+    (λ c. none-going _ (padded-wide _ _ (c .before .before .before .before .pre .1)) (c .before .before .before .before .pre .0))
     (λ c κs. search needs)
     (λ c. search needs)
     lay-bytes-requires

@@ -4,7 +4,7 @@ use native.Mathlib.Omega.{arith}
 use lib.ListN.{length}
 use borrow.Author.Needs.{needs}
 use Rattle.utf8.specs.Counting.{Counted}
-use Rattle.utf8.proofs.Letters.{none-counted, flag-counted, counted-le, all-counted}
+use Rattle.utf8.proofs.Chars.{none-counted, flag-counted, counted-le, all-counted}
 use Rattle.utf8.proofs.count.block_leads.Statement.{statement}
 use Rattle.utf8.proofs.count.block_leads.Tie as tie
 

@@ -4,7 +4,7 @@ use native.Mathlib.Omega.{arith}
 use lib.ListN.{length, length-take, length-drop}
 use borrow.Author.Needs.{needs}
 use Rattle.utf8.specs.Counting.{Counted}
-use Rattle.utf8.proofs.Letters.{none-counted, block-counted, leads-le-length, counted-le, all-counted}
+use Rattle.utf8.proofs.Chars.{none-counted, block-counted, leads-le-length, counted-le, all-counted}
 use Rattle.utf8.proofs.count.count_leads.Statement.{statement}
 use Rattle.utf8.proofs.count.count_leads.Tie as tie
 

@@ -11,14 +11,14 @@ use Rattle.validity_blocks.proofs.Valid.{block-ascii}
 use Rattle.validity_blocks.proofs.blocks.valid_block.Statement.{statement}
 use Rattle.validity_blocks.proofs.blocks.valid_block.Tie as tie
 
-whole : (c : tie.After-max) → c .max .result ≡ largest (c .before .before .before .before .before .before .args .s .now)
-whole c = parts-largest _ (c .before .before .before .bounds-of .ensures .0) (c .before .bounds-of2 .ensures .0) (c .max .ensures)
+whole : (c : tie.After-max-u8) → c .max-u8 .result ≡ largest (c .before .before .before .before .before .before .args .s .now)
+whole c = parts-largest _ (c .before .before .before .bounds-of .ensures .0) (c .before .bounds-of2 .ensures .0) (c .max-u8 .ensures)
 
 -- past the tests for 80 and for C0 and C1
-past : (c : tie.Else2) → (c .before .min .result ≡ leastLead (c .before .before .before .before .before .before .before .before .before .args .s .now))
+past : (c : tie.Else2) → (c .before .min-u8 .result ≡ leastLead (c .before .before .before .before .before .before .before .before .before .args .s .now))
 past c =
     let max = c .before .before .before in
-    parts-least _ (max .before .before .before .bounds-of .ensures .1) (max .before .bounds-of2 .ensures .1) (c .before .min .ensures)
+    parts-least _ (max .before .before .before .bounds-of .ensures .1) (max .before .bounds-of2 .ensures .1) (c .before .min-u8 .ensures)
 
 pub valid-block-spec : {M : Type 1} → statement M
 valid-block-spec =

@@ -22,7 +22,7 @@ loop-again c =
     let test = c .before .before .before .before .before in
     let head = test .before in
     let low = head .before .before .before .before .before .pre .1 in
-    flag-more _ (head .loop .inv) (test .loop-test .taken) (read-plain _ _ low (c .before .standing-plain .ensures)) (c .min .ensures)
+    flag-more _ (head .loop .inv) (test .loop-test .taken) (read-plain _ _ low (c .before .standing-plain .ensures)) (c .min-u8 .ensures)
 
 pub valid-plain-spec : {M : Type 1} → statement M
 valid-plain-spec =

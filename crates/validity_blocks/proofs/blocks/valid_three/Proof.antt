@@ -22,7 +22,7 @@ loop-again c =
     let test = c .before .before .before .before .before in
     let head = test .before in
     let low = head .before .before .before .before .before .pre .1 in
-    flag-more _ (head .loop .inv) (test .loop-test .taken) (read-three _ _ low (c .before .standing-three .ensures)) (c .min .ensures)
+    flag-more _ (head .loop .inv) (test .loop-test .taken) (read-three _ _ low (c .before .standing-three .ensures)) (c .min-u8 .ensures)
 
 pub valid-three-spec : {M : Type 1} → statement M
 valid-three-spec =

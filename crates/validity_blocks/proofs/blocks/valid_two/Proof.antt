@@ -22,7 +22,7 @@ loop-again c =
     let test = c .before .before .before .before in
     let head = test .before in
     let low = head .before .before .before .before .pre .1 in
-    flag-more _ (head .loop .inv) (test .loop-test .taken) (read-two _ _ low (c .before .standing-two .ensures)) (c .min .ensures)
+    flag-more _ (head .loop .inv) (test .loop-test .taken) (read-two _ _ low (c .before .standing-two .ensures)) (c .min-u8 .ensures)
 
 pub valid-two-spec : {M : Type 1} → statement M
 valid-two-spec =

@@ -9,7 +9,7 @@ use Rattle.validity_blocks.proofs.Invalid.{invalid-plain-four}
 use Rattle.validity_blocks.proofs.bytes.invalid_plain_four.Statement.{statement}
 use Rattle.validity_blocks.proofs.bytes.invalid_plain_four.Tie as tie
 
-largest : (c : tie.After-max2) → c .max2 .result ≡ max (max (c .before .before .before .args .b1) (c .before .before .before .args .b2)) (c .before .before .before .args .b3 - 0x30)
+largest : (c : tie.After-max-u82) → c .max-u82 .result ≡ max (max (c .before .before .before .args .b1) (c .before .before .before .args .b2)) (c .before .before .before .args .b3 - 0x30)
 largest c = omega arith
 
 pub invalid-plain-four-spec : {M : Type 1} → statement M

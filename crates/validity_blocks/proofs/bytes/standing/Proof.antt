@@ -13,6 +13,6 @@ standing-spec =
     tie.close
     (tie.spec
     (λ c κs. search needs)
-    (λ c. standing-far _ (c .before .before .args .b0) (c .before .over .ensures) (c .if1 .taken))
+    (λ c. standing-far _ (c .before .before .args .b0) (c .before .saturating-sub-u8 .ensures) (c .if1 .taken))
     (λ c. omega arith)
-    (λ c. standing-near _ (c .before .before .args .b0) (c .before .over .ensures) (omega arith) (c .if1 .left)))
+    (λ c. standing-near _ (c .before .before .args .b0) (c .before .saturating-sub-u8 .ensures) (omega arith) (c .if1 .left)))

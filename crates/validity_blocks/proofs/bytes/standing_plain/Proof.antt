@@ -11,4 +11,4 @@ standing-plain-spec =
     (tie.spec
     (λ c κs. search needs)
     (λ c κs. search needs)
-    (λ c. let pre = c .before .before .pre in c .standing .ensures ∙ invalid-plain (pre .0) (pre .1) (pre .2) (c .before .max .ensures)))
+    (λ c. let pre = c .before .before .pre in c .standing .ensures ∙ invalid-plain (pre .0) (pre .1) (pre .2) (c .before .max-u8 .ensures)))

@@ -19,7 +19,7 @@ unfolding fromLead
 loop-again c =
     let test = c .before .before .before .before .before in
     let inv = test .before .loop .inv in
-    (largest-more (inv .0) (test .loop-test .taken) (c .before .before .before .max .ensures), least-more (inv .1) (test .loop-test .taken) (c .before .wrapping-add-u8 .ensures) (c .min .ensures))
+    (largest-more (inv .0) (test .loop-test .taken) (c .before .before .before .max-u8 .ensures), least-more (inv .1) (test .loop-test .taken) (c .before .wrapping-add-u8 .ensures) (c .min-u8 .ensures))
 
 pub bounds-of-spec : {M : Type 1} → statement M
 bounds-of-spec =

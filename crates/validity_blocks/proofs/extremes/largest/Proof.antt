@@ -23,5 +23,5 @@ largest-spec =
     (λ c κs. omega arith)
     (λ c. omega arith)
     (λ c. omega arith)
-    (λ c. largest-more (c .before .before .before .loop .inv) (c .before .before .loop-test .taken) (c .max .ensures))
+    (λ c. largest-more (c .before .before .before .loop .inv) (c .before .before .loop-test .taken) (c .max-u8 .ensures))
     (λ c. largest-done (c .before .loop .inv) (c .loop-test .left)))

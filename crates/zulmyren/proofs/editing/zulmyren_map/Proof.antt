@@ -9,8 +9,8 @@ use Rattle.zulmyren.proofs.Edited.{edited-short}
 use Rattle.zulmyren.proofs.editing.zulmyren_map.Statement.{statement}
 use Rattle.zulmyren.proofs.editing.zulmyren_map.Tie as tie
 
-edited-told-requires : tie.Need-edited-told-requires
-edited-told-requires c κs =
+edited-to-c-requires : tie.Need-edited-to-c-requires
+edited-to-c-requires c κs =
     let given = c .before .before .before .before .before .before .before .before .before .before .before .before .before .before .before .before .before .before .args in
     let note : Note = (lent (given .original .now) (given .normalized .now) (given .starts .now) (given .ends .now) (given .original-shift)) in
     edited-short note (also (noteFaults limit note) (codesFaults (given .normalized .now) (given .codes .now))) (mapEdit note (given .codes .now)) (least (length (given .out .now)) (length (given .out-starts .now)) (length (given .out-ends .now))) _ (c .before .before .before .before .before .before .map .ensures)
@@ -20,8 +20,8 @@ zulmyren-map-spec =
     tie.close
     (tie.spec
     (λ c κs. search needs)
-    edited-told-requires
+    edited-to-c-requires
     (λ c. search needs)
     (λ c. search needs)
     (λ c. search needs)
-    (λ c. record { answer = c .before .before .before .before .before .before .before .map .result; told = c .edited-told .ensures; met = c .before .before .before .before .before .before .before .map .ensures }))
+    (λ c. record { answer = c .before .before .before .before .before .before .before .map .result; told = c .edited-to-c .ensures; met = c .before .before .before .before .before .before .before .map .ensures }))

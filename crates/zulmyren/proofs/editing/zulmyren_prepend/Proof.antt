@@ -9,8 +9,8 @@ use Rattle.zulmyren.proofs.Edited.{edited-short}
 use Rattle.zulmyren.proofs.editing.zulmyren_prepend.Statement.{statement}
 use Rattle.zulmyren.proofs.editing.zulmyren_prepend.Tie as tie
 
-edited-told-requires : tie.Need-edited-told-requires
-edited-told-requires c κs =
+edited-to-c-requires : tie.Need-edited-to-c-requires
+edited-to-c-requires c κs =
     let given = c .before .before .before .before .before .before .before .before .before .before .before .before .before .before .before .before .before .before .args in
     let note : Note = (lent (given .original .now) (given .normalized .now) (given .starts .now) (given .ends .now) (given .original-shift)) in
     edited-short note (also (noteFaults limit note) (stringFaults (given .string .now))) (prependEdit note (given .string .now)) (least (length (given .out .now)) (length (given .out-starts .now)) (length (given .out-ends .now))) _ (c .before .before .before .before .before .before .prepend .ensures)
@@ -20,8 +20,8 @@ zulmyren-prepend-spec =
     tie.close
     (tie.spec
     (λ c κs. search needs)
-    edited-told-requires
+    edited-to-c-requires
     (λ c. search needs)
     (λ c. search needs)
     (λ c. search needs)
-    (λ c. record { answer = c .before .before .before .before .before .before .before .prepend .result; told = c .edited-told .ensures; met = c .before .before .before .before .before .before .before .prepend .ensures }))
+    (λ c. record { answer = c .before .before .before .before .before .before .before .prepend .result; told = c .edited-to-c .ensures; met = c .before .before .before .before .before .before .before .prepend .ensures }))

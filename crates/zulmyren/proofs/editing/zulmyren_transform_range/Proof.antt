@@ -20,8 +20,8 @@ told c = c .before .before .before .before
 abbrev note : tie.Start → Note
 note c = lent (c .args .original .now) (c .args .normalized .now) (c .args .starts .now) (c .args .ends .now) (c .args .original-shift)
 
-edited-told-requires : tie.Need-edited-told-requires
-edited-told-requires c κs =
+edited-to-c-requires : tie.Need-edited-to-c-requires
+edited-to-c-requires c κs =
     let edited = c .before .before .before .before .before .before in
     let given = entry (told edited) .args in
     let note = note (entry (told edited)) in
@@ -31,7 +31,7 @@ returns : tie.Need-returns
 returns c =
     let edited = c .before .before .before .before .before .before .before in
     let given = entry (told edited) .args in
-    range-edit (note (entry (told edited))) (given .of-original) (given .start) (given .end) (given .script .now) (given .initial-offset) (given .out .now) (given .out-starts .now) (given .out-ends .now) (told edited .before .side-of .ensures) (told edited .range-of .ensures) (edited .transform-range .ensures) (c .edited-told .ensures)
+    range-edit (note (entry (told edited))) (given .of-original) (given .start) (given .end) (given .script .now) (given .initial-offset) (given .out .now) (given .out-starts .now) (given .out-ends .now) (told edited .before .side-of .ensures) (told edited .range-of .ensures) (edited .transform-range .ensures) (c .edited-to-c .ensures)
 
 pub zulmyren-transform-range-spec : {M : Type 1} → statement M
 zulmyren-transform-range-spec =
@@ -40,7 +40,7 @@ zulmyren-transform-range-spec =
     (λ c κs. search needs)
     (λ c κs. search needs)
     (λ c κs. search needs)
-    edited-told-requires
+    edited-to-c-requires
     (λ c. search needs)
     (λ c. search needs)
     (λ c. search needs)

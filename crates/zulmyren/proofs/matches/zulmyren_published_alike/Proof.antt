@@ -11,4 +11,4 @@ zulmyren-published-alike-spec =
     (tie.spec
     (λ c κs. search needs)
     (λ c κs. search needs)
-    (λ c. c .comparison-told .ensures ∙ ap comparedOf (c .before .published-alike .ensures .answer)))
+    (λ c. c .comparison-to-c .ensures ∙ ap comparedOf (c .before .published-alike .ensures .answer)))

@@ -14,4 +14,4 @@ zulmyren-convert-offsets-spec =
     (λ c κs. search needs)
     (λ c κs. search needs)
     (λ c κs. search needs)
-    (λ c. range-call (convertOffsets limit _) _ _ _ (c .before .before .before .side-of .ensures) (c .before .before .range-of .ensures) (c .before .convert-offsets .ensures) (c .range-told .ensures)))
+    (λ c. range-call (convertOffsets limit _) _ _ _ (c .before .before .before .side-of .ensures) (c .before .before .range-of .ensures) (c .before .convert-offsets .ensures) (c .range-to-c .ensures)))

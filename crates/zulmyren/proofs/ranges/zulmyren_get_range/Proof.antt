@@ -14,4 +14,4 @@ zulmyren-get-range-spec =
     (λ c κs. search needs)
     (λ c κs. search needs)
     (λ c κs. search needs)
-    (λ c. range-call (getRange limit _) _ _ _ (c .before .before .before .side-of .ensures) (c .before .before .range-of .ensures) (c .before .get-range .ensures) (c .range-told .ensures)))
+    (λ c. range-call (getRange limit _) _ _ _ (c .before .before .before .side-of .ensures) (c .before .before .range-of .ensures) (c .before .get-range .ensures) (c .range-to-c .ensures)))

@@ -8,7 +8,7 @@ returns : tie.Need-returns
 returns c =
     let asked = c .before .before .before .before .before .before .before .before in
     let args = asked .before .before .before .before .before .before .before .before .before .before .args in
-    splits-call (args .behavior) (args .of-original) (args .in-chars) (asked .before .before .behavior-of .ensures) (asked .before .side-of .ensures) (asked .unit-of .ensures) (c .before .before .before .before .before .get-splits .ensures) (c .splits-told .ensures)
+    splits-call (args .behavior) (args .of-original) (args .in-chars) (asked .before .before .behavior-of .ensures) (asked .before .side-of .ensures) (asked .unit-of .ensures) (c .before .before .before .before .before .get-splits .ensures) (c .splits-to-c .ensures)
 
 pub zulmyren-get-splits-spec : {M : Type 1} → statement M
 zulmyren-get-splits-spec =

@@ -8,7 +8,7 @@ returns : tie.Need-returns
 returns c =
     let asked = c .before .before .before .before .before .before .before .before .before .before .before .before .before .before .before .before .before .before .before .before in
     let args = asked .before .before .before .before .before .before .before .before .before .before .before .before .before .args in
-    split-call (args .behavior) (args .drop-empty) (asked .before .behavior-of .ensures) (asked .empty-of .ensures) (c .before .before .before .before .before .before .before .before .before .before .before .before .before .split .ensures) (c .cut-told .ensures)
+    split-call (args .behavior) (args .drop-empty) (asked .before .behavior-of .ensures) (asked .empty-of .ensures) (c .before .before .before .before .before .before .before .before .before .before .before .before .before .split .ensures) (c .cut-to-c .ensures)
 
 pub zulmyren-split-spec : {M : Type 1} → statement M
 zulmyren-split-spec =

@@ -11,4 +11,4 @@ zulmyren-char-offsets-spec =
     (tie.spec
     (λ c κs. search needs)
     (λ c κs. search needs)
-    (λ c. c .chars-told .ensures ∙ ap charsOf (c .before .char-offsets .ensures)))
+    (λ c. c .chars-to-c .ensures ∙ ap charsOf (c .before .char-offsets .ensures)))

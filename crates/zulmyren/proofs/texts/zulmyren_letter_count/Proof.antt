@@ -11,4 +11,4 @@ zulmyren-letter-count-spec =
     (tie.spec
     (λ c κs. search needs)
     (λ c κs. search needs)
-    (λ c. c .letters-told .ensures ∙ ap lettersOf (c .before .letter-count .ensures)))
+    (λ c. c .letters-to-c .ensures ∙ ap lettersOf (c .before .letter-count .ensures)))

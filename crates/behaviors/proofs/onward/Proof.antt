@@ -1,7 +1,0 @@
--- The place joins the run, or begins one.
-use Rattle.behaviors.proofs.Tests.{drawn-out, begun-anew}
-use Rattle.behaviors.proofs.onward.Statement.{statement}
-use Rattle.behaviors.proofs.onward.Tie as tie
-
-pub onward-spec : {M : Type 1} → statement M
-onward-spec = tie.close (tie.spec (λ c. drawn-out _ _ (c .before .before .if1 .taken)) (λ c. begun-anew _ _ (c .if1 .left)))

@@ -1,0 +1,4 @@
+-- Laws of letters that are kept.
+pub mod Chosen
+pub mod Whole
+pub mod Chars

@@ -1,4 +1,0 @@
--- Laws of letters that are kept.
-pub mod Chosen
-pub mod Whole
-pub mod Letters

@@ -1,0 +1,201 @@
+-- Laws of `eachPair`: pairs of bytes that become characters, one after the other; a number of each span by its bytes.
+use Prim.Native.Nat.{ℕ, suc, _+_, _-_, _≤_, _<_}
+use mathlib.Core.Path.{_≡_, _∙_, ap, refl, sym}
+use mathlib.Core.Bool.{true}
+use mathlib.Core.List.{List, [], _∷_, _++_, map}
+use native.Mathlib.Numerals.{add-one}
+use native.Mathlib.Omega.{arith}
+use lib.ListN.{length, getD, set, take, drop, drop-of-length-le, take-append-drop}
+use lib.Seq.{drop-cons, getD-take, length-take-le}
+use Rattle.buffers.specs.Splice.{overlay}
+use Rattle.buffers.proofs.Splice.{Laying, none-laid, piece-laid, all-laid, take-overlay, overlay-long, overlay-overlay}
+use Rattle.spans.specs.Packing.{spanStart, spanEnd}
+use Rattle.spans.proofs.Packing.{store-one}
+use Rattle.validity.specs.Texts.{ascii}
+use Rattle.convert.specs.declared.OffsetReferential.{OffsetReferential}
+use Rattle.split_offsets.specs.declared.OffsetType.{OffsetType}
+use Rattle.split_offsets.specs.declared.OffsetType.the-variants.{Byte, Char}
+use Rattle.split_offsets.specs.declared.Cursor.{Cursor}
+use Rattle.split_offsets.specs.declared.Offsets.{Offsets}
+use Rattle.split_offsets.specs.SplitOffsets.{startNumber, endNumber}
+use Rattle.split_offsets.specs.Steps.{BothKnown, Stepped, eachSpan, SpansReady, BytesWritten, SpansConverted, eachPair, PairsReady, PlainEnd, CharsCounted, EndsCounted}
+use Rattle.split_offsets.proofs.Numbered.{plain-start}
+use Rattle.split_offsets.proofs.Converting.{unwritten, zero-cursor, both-zero, spans-size}
+
+length-pairs : (number : ℕ → ℕ → ℕ) (from to : List ℕ) → length from ≡ length to → length (eachPair number from to) ≡ length from
+unfolding eachPair
+length-pairs number [] to e = refl
+length-pairs number (a ∷ from) [] e = absurd (omega arith)
+length-pairs number (a ∷ from) (b ∷ to) e = ap suc (length-pairs number from to (omega arith))
+
+-- the number of each span is that of its bytes
+pub pairs-each : (number : ℕ → ℕ → ℕ) (starts ends : List ℕ) (shift : ℕ) (side : OffsetReferential) (sum : ℕ) (from to : List ℕ) → eachPair number (eachSpan (λ a e. a) starts ends shift side sum from to) (eachSpan (λ a e. e) starts ends shift side sum from to) ≡ eachSpan number starts ends shift side sum from to
+unfolding eachPair eachSpan
+pairs-each number starts ends shift side sum [] to = refl
+pairs-each number starts ends shift side sum (a ∷ from) [] = refl
+pairs-each number starts ends shift side sum (a ∷ from) (b ∷ to) = rw (pairs-each number starts ends shift side (sum + (b - a)) from to)
+
+pub each-same : (f g : ℕ → ℕ → ℕ) → ((a e : ℕ) → f a e ≡ g a e) → (starts ends : List ℕ) (shift : ℕ) (side : OffsetReferential) (sum : ℕ) (from to : List ℕ) → eachSpan f starts ends shift side sum from to ≡ eachSpan g starts ends shift side sum from to
+unfolding eachSpan
+each-same f g h starts ends shift side sum [] to = refl
+each-same f g h starts ends shift side sum (a ∷ from) [] = refl
+each-same f g h starts ends shift side sum (a ∷ from) (b ∷ to) = rw (h _ _, each-same f g h starts ends shift side (sum + (b - a)) from to)
+
+-- where each byte is a character, starts stay
+plain-starts : (s : List ℕ) → ascii s ≡ true → (from to : List ℕ) → length from ≡ length to → eachPair (startNumber s Char) from to ≡ from
+unfolding eachPair
+plain-starts s plain [] to e = refl
+plain-starts s plain (a ∷ from) [] e = absurd (omega arith)
+plain-starts s plain (a ∷ from) (b ∷ to) e = rw (← plain-start s a b plain, plain-starts s plain from to (omega arith))
+
+-- what is written of the first `count` pairs, in one column, in both, and in that of the ends
+abbrev Column : ℕ → List ℕ → List ℕ → (ℕ → ℕ → ℕ) → List ℕ → ℕ → List ℕ → Type 0
+Column count from₀ to₀ number d₀ k d =
+    Laying (eachPair number (take count from₀) (take count to₀)) (eachPair number (drop k (take count from₀)) (drop k (take count to₀))) d₀ k d
+
+pub record Counting (most : ℕ) (s : List ℕ) (count : ℕ) (from₀ to₀ : List ℕ) (first last : Cursor) (k : ℕ) (from to : List ℕ) : Type 0 where
+  pub few : k ≤ count
+  pub known : BothKnown most s first last
+  pub starts-on : Column count from₀ to₀ (startNumber s Char) from₀ k from
+  pub ends-on : Column count from₀ to₀ (endNumber s Char) to₀ k to
+
+pub record Ending (s : List ℕ) (count : ℕ) (from₀ to₀ : List ℕ) (k : ℕ) (to : List ℕ) : Type 0 where
+  pub few : k ≤ count
+  pub ends-on : Column count from₀ to₀ (endNumber s Char) to₀ k to
+
+module _ {most : ℕ} {s : List ℕ} {count : ℕ} {from₀ to₀ : List ℕ} (r : PairsReady most s count from₀ to₀) where
+  abbrev firsts : List ℕ
+  firsts = take count from₀
+
+  abbrev lasts : List ℕ
+  lasts = take count to₀
+
+  pairs-long : (number : ℕ → ℕ → ℕ) → length (eachPair number firsts lasts) ≡ count
+  pairs-long number =
+      length-pairs number firsts lasts (length-take-le count from₀ (r .starts-room) ∙ sym (length-take-le count to₀ (r .ends-room)))
+      ∙ length-take-le count from₀ (r .starts-room)
+
+  -- one column
+  none-column : (number : ℕ → ℕ → ℕ) (d : List ℕ) → count ≤ length d → Column count from₀ to₀ number d 0 d
+  none-column number d room = none-laid _ d (rw (pairs-long number) room)
+
+  all-column : (number : ℕ → ℕ → ℕ) {d₀ d : List ℕ} {k : ℕ} → count ≤ k → Column count from₀ to₀ number d₀ k d → d ≡ overlay (eachPair number firsts lasts) d₀
+  unfolding eachPair
+  all-column number {d₀} {d} {k} done l =
+      let none : drop k firsts ≡ [] = drop-of-length-le firsts {i = k} (omega (arith, length-take-le count from₀ (r .starts-room))) in
+      all-laid _ d₀ k d (rw none at l)
+
+  module _ {k : ℕ} (more : k < count) where
+    front-here : (xs : List ℕ) → count ≤ length xs → drop k (take count xs) ≡ getD xs k 0 ∷ drop (k + 1) (take count xs)
+    front-here xs room = drop-cons (take count xs) k 0 (omega (arith, length-take-le count xs room)) ∙ rw (getD-take count xs k 0 more, add-one k)
+
+    one-column : (number : ℕ → ℕ → ℕ) {d₀ d : List ℕ} {x : ℕ} → Column count from₀ to₀ number d₀ k d → k < length d → x ≡ number (getD from₀ k 0) (getD to₀ k 0) → Column count from₀ to₀ number d₀ (k + 1) (set d k x)
+    unfolding eachPair
+    one-column number {d₀} {d} {x} l room is =
+        piece-laid _ (x ∷ []) (eachPair number (drop (k + 1) firsts) (drop (k + 1) lasts)) d₀ k d
+        (rw (front-here from₀ (r .starts-room), front-here to₀ (r .ends-room), ← is) at l) (k + 1) (set d k x) refl (store-one d k x room)
+
+  -- COUNTED, pair by pair
+  pub none-counted : Counting most s count from₀ to₀ zero-cursor zero-cursor 0 from₀ to₀
+  none-counted =
+      record {
+        few = omega arith;
+        known = both-zero (r .short);
+        starts-on = none-column (startNumber s Char) from₀ (r .starts-room);
+        ends-on = none-column (endNumber s Char) to₀ (r .ends-room);
+      }
+
+  module _ {first last : Cursor} {k : ℕ} {from to : List ℕ} (c : Counting most s count from₀ to₀ first last k from to) where
+    pub in-both : k < count → (k < length from) × (k < length to)
+    in-both more = (omega (arith, c .starts-on .same, r .starts-room), omega (arith, c .ends-on .same, r .ends-room))
+
+    pub one-counted : k < count → {o : Offsets} → Stepped most s (getD from k 0) (getD to k 0) o → Counting most s count from₀ to₀ (o .first) (o .last) (k + 1) (set from k (o .start)) (set to k (o .end))
+    one-counted more {o} st =
+        let a : getD from k 0 ≡ getD from₀ k 0 = unwritten (c .starts-on) in
+        let e : getD to k 0 ≡ getD to₀ k 0 = unwritten (c .ends-on) in
+        record {
+          few = omega arith;
+          known = st .known;
+          starts-on = one-column more (startNumber s Char) (c .starts-on) (in-both more .0) (rw (a, e) at (st .start-is));
+          ends-on = one-column more (endNumber s Char) (c .ends-on) (in-both more .1) (rw (a, e) at (st .end-is));
+        }
+
+    pub all-counted : count ≤ k → CharsCounted s count from₀ to₀ from to
+    all-counted done =
+        record {
+          starts-are = all-column (startNumber s Char) done (c .starts-on);
+          ends-are = all-column (endNumber s Char) done (c .ends-on);
+        }
+
+  -- only ends, where each byte is a character
+  pub none-ended : Ending s count from₀ to₀ 0 to₀
+  none-ended = record { few = omega arith; ends-on = none-column (endNumber s Char) to₀ (r .ends-room) }
+
+  module _ {k : ℕ} {to : List ℕ} (c : Ending s count from₀ to₀ k to) where
+    pub end-room : k < count → k < length to
+    end-room more = omega (arith, c .ends-on .same, r .ends-room)
+
+    pub one-ended : k < count → ascii s ≡ true → {size x : ℕ} → size ≡ length s → PlainEnd size (getD from₀ k 0) (getD to k 0) x → Ending s count from₀ to₀ (k + 1) (set to k x)
+    one-ended more plain {size} {x} long p =
+        let e : getD to k 0 ≡ getD to₀ k 0 = unwritten (c .ends-on) in
+        record {
+          few = omega arith;
+          ends-on = one-column more (endNumber s Char) (c .ends-on) (end-room more) (rw e at (p .right s (sym long) plain));
+        }
+
+    pub all-ended : count ≤ k → EndsCounted s count from₀ to₀ to
+    all-ended done = record { ends-are = all-column (endNumber s Char) done (c .ends-on) }
+
+  pub plain-counted : ascii s ≡ true → {to : List ℕ} → EndsCounted s count from₀ to₀ to → CharsCounted s count from₀ to₀ from₀ to
+  unfolding overlay
+  plain-counted plain w =
+      let same : length firsts ≡ length lasts = length-take-le count from₀ (r .starts-room) ∙ sym (length-take-le count to₀ (r .ends-room)) in
+      record {
+        starts-are = rw (plain-starts s plain firsts lasts same, length-take-le count from₀ (r .starts-room)) (sym (take-append-drop count from₀));
+        ends-are = w .ends-are;
+      }
+
+-- BYTES, kept or turned into characters
+take-front : (r d : List ℕ) {n : ℕ} → length r ≡ n → take n (overlay r d) ≡ r
+take-front r d e = rw (← e) (take-overlay r d)
+
+module _ {most : ℕ} {starts ends : List ℕ} {shift count : ℕ} {spans₀ to₀ : List ℕ} (r : SpansReady most starts ends shift count spans₀ to₀) {side : OffsetReferential} {from to : List ℕ} (w : BytesWritten starts ends shift side count spans₀ to₀ from to) where
+  abbrev each : (ℕ → ℕ → ℕ) → List ℕ
+  each number = eachSpan number starts ends shift side 0 (map spanStart (take count spans₀)) (map spanEnd (take count spans₀))
+
+  starts-front : take count from ≡ each (λ a e. a)
+  starts-front = ap (take count) (w .starts-are) ∙ take-front (each (λ a e. a)) spans₀ (spans-size r (λ a e. a) side)
+
+  ends-front : take count to ≡ each (λ a e. e)
+  ends-front = ap (take count) (w .ends-are) ∙ take-front (each (λ a e. e)) to₀ (spans-size r (λ a e. e) side)
+
+  pub pairs-ready : {original : List ℕ} → length original ≤ most → PairsReady most original count from to
+  pairs-ready short =
+      let first : length (each (λ a e. a)) ≤ length from = rw (w .starts-are) (overlay-long (each (λ a e. a)) spans₀) in
+      let last : length (each (λ a e. e)) ≤ length to = rw (w .ends-are) (overlay-long (each (λ a e. e)) to₀) in
+      record {
+        short = short;
+        starts-room = omega (arith, first, spans-size r (λ a e. a) side);
+        ends-room = omega (arith, last, spans-size r (λ a e. e) side);
+      }
+
+  pub bytes-kept : (original : List ℕ) {unit : OffsetType} → unit ≡ Byte → SpansConverted original starts ends shift side unit count spans₀ to₀ from to
+  unfolding startNumber endNumber
+  bytes-kept original is =
+      rw is
+      (record {
+        starts-are = w .starts-are ∙ rw (each-same (λ a e. a) (startNumber original Byte) (λ a e. refl) starts ends shift side 0 (map spanStart (take count spans₀)) (map spanEnd (take count spans₀)));
+        ends-are = w .ends-are ∙ rw (each-same (λ a e. e) (endNumber original Byte) (λ a e. refl) starts ends shift side 0 (map spanStart (take count spans₀)) (map spanEnd (take count spans₀)));
+      })
+
+  turned : (number other : ℕ → ℕ → ℕ) (d₀ : List ℕ) → overlay (each number) (overlay (each other) d₀) ≡ overlay (each number) d₀
+  turned number other d₀ = overlay-overlay (each number) (each other) d₀ (spans-size r number side ∙ sym (spans-size r other side))
+
+  pub chars-put : {original : List ℕ} {unit : OffsetType} → unit ≡ Char → {from₁ to₁ : List ℕ} → CharsCounted original count from to from₁ to₁ → SpansConverted original starts ends shift side unit count spans₀ to₀ from₁ to₁
+  chars-put {original} is c =
+      let pairs : (number : ℕ → ℕ → ℕ) → eachPair number (take count from) (take count to) ≡ each number = λ number. rw (starts-front, ends-front) (pairs-each number starts ends shift side 0 (map spanStart (take count spans₀)) (map spanEnd (take count spans₀))) in
+      rw is
+      (record {
+        starts-are = c .starts-are ∙ rw (pairs (startNumber original Char), w .starts-are) (turned (startNumber original Char) (λ a e. a) spans₀);
+        ends-are = c .ends-are ∙ rw (pairs (endNumber original Char), w .ends-are) (turned (endNumber original Char) (λ a e. e) to₀);
+      })

@@ -1,0 +1,25 @@
+-- Near behind: as many characters on as begin in the block.
+use native.Mathlib.Omega.{arith}
+use borrow.Author.Needs.{needs}
+use Rattle.char_offsets.proofs.IndexOf.{index-most}
+use Rattle.split_offsets.proofs.Numbered.{moved-behind}
+use Rattle.split_offsets.proofs.index_behind.Statement.{statement}
+use Rattle.split_offsets.proofs.index_behind.Tie as tie
+
+returns : tie.Need-returns
+returns c =
+    let entry = c .before .before .before .before .before .before in
+    moved-behind (entry .args .to) (entry .pre .0 .0) (c .before .before .before .before .if1 .taken) (entry .pre .1) (c .before .first-leads .ensures)
+
+pub index-behind-spec : {M : Type 1} → statement M
+index-behind-spec =
+    tie.close
+    (tie.spec
+    (λ c. search needs)
+    (λ c. search needs)
+    (λ c κs. search needs)
+    (λ c. search needs)
+    (λ c. omega (arith, returns c, index-most (c .before .before .before .before .before .before .args .text .now) (c .before .before .before .before .before .before .args .to), c .before .before .before .before .before .before .pre .0 .0 .short))
+    returns
+    (λ c κs. search needs)
+    (λ c. search needs))

@@ -1,0 +1,39 @@
+-- Two reads, or the sum.
+use native.Mathlib.Omega.{arith}
+use borrow.Author.Needs.{needs}
+use Prim.Native.Nat.{_-_}
+use Rattle.split_offsets.proofs.Numbered.{bytes-original, bytes-normalized}
+use Rattle.split_offsets.proofs.piece_bytes.Statement.{statement}
+use Rattle.split_offsets.proofs.piece_bytes.Tie as tie
+
+cast-start : tie.Need-cast-t14
+cast-start c = omega (arith, c .shared-slice-known .given (c .before .before .before .args .from))
+
+add-start : tie.Need-add-t15
+add-start c = omega (arith, c .shared-slice-known .given (c .before .before .before .args .from), c .before .before .before .pre .low)
+
+cast-end : tie.Need-cast-t20
+cast-end c = omega (arith, c .shared-slice-known2 .given (c .before .before .before .before .args .to - 1))
+
+add-end : tie.Need-add-t21
+add-end c = omega (arith, c .shared-slice-known2 .given (c .before .before .before .before .args .to - 1), c .before .before .before .before .pre .low)
+
+pub piece-bytes-spec : {M : Type 1} → statement M
+piece-bytes-spec =
+    tie.close
+    (tie.spec
+    (λ c. search needs)
+    (λ c. search needs)
+    (λ c. search needs)
+    cast-start
+    add-start
+    (λ c. search needs)
+    (λ c. search needs)
+    (λ c. search needs)
+    cast-end
+    add-end
+    (λ c. search needs)
+    (λ c. search needs)
+    (λ c. search needs)
+    (λ c. bytes-original _ _ _ _ _ _ (c .before .before .enum-told .given .1))
+    (λ c. bytes-normalized _ _ _ _ _ _ (c .enum-told2 .given .1)))

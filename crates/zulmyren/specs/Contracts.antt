@@ -1,0 +1,62 @@
+-- The contracts of exported calls that write buffers, by name: what is passed and the buffers before; the answer and
+-- the buffers after. Those of the edits are in `Edits`.
+use Prim.Native.Nat.{ℕ}
+use mathlib.Core.List.{List}
+use Rattle.note.specs.Notes.{Note, limit}
+use Rattle.note.specs.Refusals.{answerOf}
+use Rattle.char_offsets.specs.Positions.{CharOffsetsList}
+use Rattle.convert.specs.declared.OffsetReferential.{OffsetReferential}
+use Rattle.convert.specs.declared.Range.{Range}
+use Rattle.convert_list.specs.ConvertList.{ConvertedList}
+use Rattle.replace.specs.Replacing.{Replacing}
+use Rattle.redact.specs.Redacting.{Redacted}
+use Rattle.slice.specs.Slicing.{Slicing}
+use Rattle.behaviors.specs.declared.SplitDelimiterBehavior.{SplitDelimiterBehavior}
+use Rattle.behaviors.specs.declared.EmptyPieces.{EmptyPieces}
+use Rattle.split.specs.Splitting.{PieceColumns, Splitting}
+use Rattle.split_offsets.specs.declared.OffsetType.{OffsetType}
+use Rattle.split_offsets.specs.SplitOffsets.{GetSplits}
+use Rattle.zulmyren.specs.declared.answers.Count.{Count}
+use Rattle.zulmyren.specs.declared.answers.Cut.{Cut}
+use Rattle.zulmyren.specs.declared.answers.Listed.{Listed}
+use Rattle.zulmyren.specs.declared.answers.Slice.{Slice}
+use Rattle.zulmyren.specs.Calls.{Told, cutNumbers, publishedOf, sliceNumbers, splitsNumbers}
+
+-- three buffers before, an answer, and the three after
+abbrev pub OnThree : Type 0 → Type 1
+OnThree R = List ℕ → List ℕ → List ℕ → R → List ℕ → List ℕ → List ℕ → Type 0
+
+-- a text, starts and ends
+abbrev pub CharOffsetsAllCall : List ℕ → List ℕ → List ℕ → OnThree ℕ
+CharOffsetsAllCall text from to numbers₀ starts₀ ends₀ r numbers starts ends =
+    Told answerOf (λ v. CharOffsetsList limit text from to numbers₀ starts₀ ends₀ v numbers starts ends) r
+
+-- a note, the text that the ranges are in, their starts and ends
+abbrev pub ConvertAllCall : Note → OffsetReferential → List ℕ → List ℕ → OnThree ℕ
+ConvertAllCall n side from to numbers₀ starts₀ ends₀ r numbers starts ends =
+    Told answerOf (λ v. ConvertedList limit n side from to numbers₀ starts₀ ends₀ v numbers starts ends) r
+
+-- a note, a list, a content
+abbrev pub ReplaceCall : Note → List ℕ → List ℕ → OnThree Count
+ReplaceCall n list content out₀ starts₀ ends₀ r out starts ends =
+    Told publishedOf (λ v. Replacing limit n list content out₀ starts₀ ends₀ v out starts ends) r
+
+-- a text, a literal, a content
+abbrev pub RedactCall : List ℕ → List ℕ → List ℕ → OnThree Count
+RedactCall text literal content out₀ starts₀ ends₀ r out starts ends =
+    Told publishedOf (λ v. Redacted limit text literal content out₀ starts₀ ends₀ v out starts ends) r
+
+-- a note, a range; two columns
+abbrev pub SliceCall : Note → Range → List ℕ → List ℕ → Slice → List ℕ → List ℕ → Type 0
+SliceCall n range starts₀ ends₀ r starts ends =
+    Told sliceNumbers (λ v. Slicing limit n range starts₀ ends₀ v starts ends) r
+
+-- a note, a list, a behaviour, whether empty pieces are dropped; six columns
+abbrev pub SplitCall : Note → List ℕ → SplitDelimiterBehavior → EmptyPieces → PieceColumns → Cut → PieceColumns → Type 0
+SplitCall n list behavior empty c₀ r c = Told cutNumbers (λ v. Splitting limit n list behavior empty c₀ v c) r
+
+-- a note, a list, a behaviour, the text and the unit that are asked for; two columns
+abbrev pub GetSplitsCall : Note → List ℕ → SplitDelimiterBehavior → OffsetReferential → OffsetType
+    → List ℕ → List ℕ → Listed → List ℕ → List ℕ → Type 0
+GetSplitsCall n list behavior side unit starts₀ ends₀ r starts ends =
+    Told splitsNumbers (λ v. GetSplits limit n list behavior side unit starts₀ ends₀ v starts ends) r
