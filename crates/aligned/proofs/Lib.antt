@@ -1,3 +1,3 @@
 -- Laws of the working forms.
-pub mod Straying
-pub mod Unedited
+pub mod MisalignedBits
+pub mod IsStarting

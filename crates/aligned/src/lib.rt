@@ -1,14 +1,13 @@
 // Whether a note's alignments are sound, for a note whose texts and numbers of alignments were judged before.
 pub mod starting;
 
-use buffers::lanes::saturating_sub_offset;
-use buffers::lanes::select_or_zero_offset;
 use boundaries::uncut_all;
 use buffers::Offset;
+use buffers::lanes::saturating_sub_offset;
+use buffers::lanes::select_or_zero_offset;
 use starting::is_starting;
 use utf8::continues;
 ghost use mathlib.Core.Path.{_≡_};
-ghost use mathlib.Core.Bool.{cond};
 ghost use lib.ListN.{length};
 ghost use Rattle.note.specs.Notes.{aligned, lent, limit};
 ghost use Rattle.aligned.specs.Judged.{Judged};
@@ -21,7 +20,13 @@ ghost use Rattle.boundaries.specs.Monotone.{monotone};
 fn misaligned_bits(b: u8, s0: Offset, e0: Offset, s1: Offset, e1: Offset) -> Offset
     ensures { λ r. ⌜ r ≡ misalignedBits b s0 e0 s1 e1 ⌝ }
 {
-    saturating_sub_offset(s1, e1) | saturating_sub_offset(s0, s1) | saturating_sub_offset(e0, e1) | select_or_zero_offset(continues(b), saturating_sub_offset(s1, s0) | saturating_sub_offset(e1, e0))
+    saturating_sub_offset(s1, e1)
+        | saturating_sub_offset(s0, s1)
+        | saturating_sub_offset(e0, e1)
+        | select_or_zero_offset(
+            continues(b),
+            saturating_sub_offset(s1, s0) | saturating_sub_offset(e1, e0),
+        )
 }
 
 // Whether each alignment can follow the one before it. The ends never go back, so that the last one speaks for all.

@@ -1,4 +1,4 @@
--- Laws of `lineOf` and `linesOf`: lines are laid one behind the other, each within `longestLine` bytes.
+-- Laws of `lineOf` and `linesOf`: lines are laid one after the other, each within `longestLine` bytes.
 use Prim.Native.Nat.{ℕ, zero, suc, _+_, _*_, _≤_, _<_}
 use mathlib.Core.Path.{_≡_, _∙_, ap, refl, sym}
 use mathlib.Core.List.{List, [], _∷_, _++_}
@@ -70,7 +70,10 @@ lines-none : (at : ℕ) (es : List ℕ) → linesFrom at 0 [] es ≡ []
 unfolding linesFrom
 lines-none at es = refl
 
-lines-step : (starts ends : List ℕ) (at r : ℕ) → length starts ≡ length ends → at < length starts → r ≡ runOf (getD starts at 0) (getD ends at 0) (drop at starts) (drop at ends) → linesFrom at 0 (drop at starts) (drop at ends) ≡ lineOf at r (getD starts at 0) (getD ends at 0) ++ linesFrom (at + r) 0 (drop (at + r) starts) (drop (at + r) ends)
+lines-step : (starts ends : List ℕ) (at r : ℕ) → length starts ≡ length ends → at < length starts
+    → r ≡ runOf (getD starts at 0) (getD ends at 0) (drop at starts) (drop at ends)
+    → linesFrom at 0 (drop at starts) (drop at ends)
+    ≡ lineOf at r (getD starts at 0) (getD ends at 0) ++ linesFrom (at + r) 0 (drop (at + r) starts) (drop (at + r) ends)
 lines-step starts ends at r alike h is =
     let k : at < length ends = omega arith in
     let first = rw (add-one at) at (run-first starts ends at r alike h is) in
@@ -92,23 +95,28 @@ unfolding linesOf
 no-line = record { rest = refl; reach = omega arith; inside = omega arith; short = omega arith; same = refl }
 
 module _ {starts ends d₀ d : List ℕ} {at to : ℕ} (l : Lining starts ends d₀ d at to) where
-  module _ {r : ℕ} (alike : length starts ≡ length ends) (few : length starts ≤ limit) (room : longestLine * length starts ≤ length d₀) (h : at < length starts) (is : r ≡ runOf (getD starts at 0) (getD ends at 0) (drop at starts) (drop at ends)) (start : getD starts at 0 ≤ limit) (end : getD ends at 0 ≤ limit) where
-    pub line-room : to + length (lineOf at r (getD starts at 0) (getD ends at 0)) ≤ length d
-    line-room =
+  module _ {r : ℕ} (alike : length starts ≡ length ends) (few : length starts ≤ limit) (room : longestLine * length starts ≤ length d₀)
+      (h : at < length starts) (is : r ≡ runOf (getD starts at 0) (getD ends at 0) (drop at starts) (drop at ends)) where
+    -- for the line of any alignment there is room
+    pub line-room : (s e : ℕ) → s ≤ limit → e ≤ limit → to + length (lineOf at r s e) ≤ length d
+    line-room s e start end =
         let within = run-within starts ends at r alike h is in
-        omega (arith, l .short, l .same, line-bounded at r (getD starts at 0) (getD ends at 0) (omega arith) (omega (arith, within)) start end)
+        omega (arith, l .short, l .same, line-bounded at r s e (omega arith) (omega (arith, within)) start end)
 
-    pub one-line : {d₁ : List ℕ} {to₁ : ℕ} → Laid (lineOf at r (getD starts at 0) (getD ends at 0)) d to to₁ d₁ → Lining starts ends d₀ d₁ (at + r) to₁
-    one-line laid =
+    pub one-line : {d₁ : List ℕ} {to₁ : ℕ} → getD starts at 0 ≤ limit → getD ends at 0 ≤ limit
+        → Laid (lineOf at r (getD starts at 0) (getD ends at 0)) d to to₁ d₁
+        → Lining starts ends d₀ d₁ (at + r) to₁
+    one-line start end laid =
         let within = run-within starts ends at r alike h is in
+        let room-there = line-room (getD starts at 0) (getD ends at 0) start end in
         let most = line-bounded at r (getD starts at 0) (getD ends at 0) (omega arith) (omega (arith, within)) start end in
         let step = lines-step starts ends at r alike h is in
         record {
-          rest = rw (laid .holds, laid .reach) (splice-splice d _ _ to (omega (arith, line-room))) ∙ ap (splice d to) (sym step) ∙ l .rest;
+          rest = rw (laid .holds, laid .reach) (splice-splice d _ _ to (omega (arith, room-there))) ∙ ap (splice d to) (sym step) ∙ l .rest;
           reach = omega (arith, laid .reach, l .reach, ap length step, length-append (lineOf at r (getD starts at 0) (getD ends at 0)) (linesFrom (at + r) 0 (drop (at + r) starts) (drop (at + r) ends)));
           inside = omega (arith, within);
           short = omega (arith, laid .reach, l .short, within);
-          same = laid-length laid line-room ∙ l .same;
+          same = laid-length laid room-there ∙ l .same;
         }
 
   pub every-line : length starts ≤ at → (to ≡ length (linesOf starts ends)) × (d ≡ overlay (linesOf starts ends) d₀)

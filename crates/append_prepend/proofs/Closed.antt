@@ -121,7 +121,9 @@ module _ (n : Note) (string : List ℕ) (sound : Sound n) (well : wellFormed str
           added,
         )
 
-    given-column : (xs : List ℕ) → length xs ≡ length (n .normalized) → replicate (announced (getD (n .normalized) q 0)) (getD xs q 0) ≡ part xs q (q + announced (getD (n .normalized) q 0)) → produced (carriedValues xs) (n .normalized) (length (n .normalized)) q (replacing 0 (codeAt (n .normalized) q) ∷ allAdding (codesOf string)) ≡ drop q xs ++ replicate (length string) (beforeEnd xs (length (n .normalized)))
+    given-column : (xs : List ℕ) → length xs ≡ length (n .normalized)
+        → replicate (announced (getD (n .normalized) q 0)) (getD xs q 0) ≡ part xs q (q + announced (getD (n .normalized) q 0))
+        → produced (carriedValues xs) (n .normalized) (length (n .normalized)) q (replacing 0 (codeAt (n .normalized) q) ∷ allAdding (codesOf string)) ≡ drop q xs ++ replicate (length string) (beforeEnd xs (length (n .normalized)))
     unfolding produced carriedValue
     given-column xs long shared =
         rw (

@@ -26,10 +26,10 @@ use Rattle.note.proofs.Faults.{accepted-sound, string-formed}
 use Rattle.transform.specs.declared.Editing.{Editing}
 use Rattle.transform.specs.declared.Editing.the-variants.{Edited, Refused as Refusing}
 use Rattle.edit_steps.specs.Edits.{characters, Edit, edited, transformed}
-use Rattle.transform.specs.Transforming.{Rewritten}
+use Rattle.transform.specs.Transforming.{callFaults, Rewritten}
 use Rattle.buffers.specs.Keeping.{PartKept}
 use Rattle.transform.proofs.Verdicts.{inputs-refused, inputs-accepted, too-large, small-enough, refused-rewritten, accepted-rewritten}
-use Rattle.edits.specs.Whole.{appendEdit, prependEdit, joinFaults}
+use Rattle.edits.specs.Whole.{appendEdit, prependEdit}
 use Rattle.edits.specs.Plain.{Makes}
 use Rattle.append_prepend.specs.Joining.{appended, frontOf, prepended}
 use Rattle.append_prepend.specs.Laying.{JoinRoom, AppendedLaid, PrependRoom, PrependedLaid}
@@ -55,7 +55,11 @@ pair-laid p q d₀ is first second =
 whole-part : (xs : List ℕ) {m : ℕ} → length xs ≡ m → part xs 0 m ≡ xs
 whole-part xs e = let z : length xs - 0 ≡ length xs = omega arith in rw (← e, z) (take-length xs)
 
-pub append-laid : {s starts ends string out₀ starts₀ ends₀ : List ℕ} → JoinRoom s starts ends string out₀ starts₀ ends₀ → {out₁ starts₁ ends₁ out₂ starts₂ ends₂ : List ℕ} {x y : ℕ} → PartKept s starts ends 0 (length s) out₀ starts₀ ends₀ 0 out₁ starts₁ ends₁ → out₂ ≡ splice out₁ (length s) string → x ≡ beforeEnd starts (length s) → starts₂ ≡ splice starts₁ (length s) (replicate (length string) x) → y ≡ beforeEnd ends (length s) → ends₂ ≡ splice ends₁ (length s) (replicate (length string) y) → AppendedLaid s starts ends string out₀ starts₀ ends₀ (length s + length string) out₂ starts₂ ends₂
+pub append-laid : {s starts ends string out₀ starts₀ ends₀ : List ℕ} → JoinRoom s starts ends string out₀ starts₀ ends₀
+    → {out₁ starts₁ ends₁ out₂ starts₂ ends₂ : List ℕ} {x y : ℕ} → PartKept s starts ends 0 (length s) out₀ starts₀ ends₀ 0 out₁ starts₁ ends₁
+    → out₂ ≡ splice out₁ (length s) string → x ≡ beforeEnd starts (length s) → starts₂ ≡ splice starts₁ (length s) (replicate (length string) x)
+    → y ≡ beforeEnd ends (length s) → ends₂ ≡ splice ends₁ (length s) (replicate (length string) y)
+    → AppendedLaid s starts ends string out₀ starts₀ ends₀ (length s + length string) out₂ starts₂ ends₂
 append-laid {s} {starts} {ends} {string} {out₀} {starts₀} {ends₀} r k o x st y en =
     record {
       reached = refl;
@@ -77,7 +81,11 @@ pub column-laid : (front count wide : ℕ) (xs d₀ : List ℕ) {d₁ d₂ : Lis
 column-laid front count wide xs d₀ first second =
     pair-laid (replicate (count + wide) front) (drop wide xs) d₀ (sym (length-replicate (count + wide) front)) first (rw (part-end xs wide) at second)
 
-pub prepend-laid : {s starts ends string out₀ starts₀ ends₀ : List ℕ} {wide x y : ℕ} {out₁ out starts₁ ends₁ : List ℕ} → wide ≡ announced (getD s 0 0) → out₁ ≡ splice out₀ 0 string → out ≡ splice out₁ (length string) s → x ≡ frontOf string starts → starts₁ ≡ overlay (replicate (length string + wide) x ++ drop wide starts) starts₀ → y ≡ frontOf string ends → ends₁ ≡ overlay (replicate (length string + wide) y ++ drop wide ends) ends₀ → PrependedLaid s starts ends string out₀ starts₀ ends₀ (length string + length s) out starts₁ ends₁
+pub prepend-laid : {s starts ends string out₀ starts₀ ends₀ : List ℕ} {wide x y : ℕ} {out₁ out starts₁ ends₁ : List ℕ} → wide ≡ announced (getD s 0 0)
+    → out₁ ≡ splice out₀ 0 string → out ≡ splice out₁ (length string) s → x ≡ frontOf string starts
+    → starts₁ ≡ overlay (replicate (length string + wide) x ++ drop wide starts) starts₀ → y ≡ frontOf string ends
+    → ends₁ ≡ overlay (replicate (length string + wide) y ++ drop wide ends) ends₀
+    → PrependedLaid s starts ends string out₀ starts₀ ends₀ (length string + length s) out starts₁ ends₁
 prepend-laid {s} {string = string} {out₀ = out₀} w first second x st y en =
     record { reached = refl; text-is = pair-laid string s out₀ refl first second; starts-are = rw (w, x) at st; ends-are = rw (w, y) at en }
 
@@ -89,7 +97,7 @@ module _ (most : ℕ) (n : Note) (string : List ℕ) {u v w : Verdict} (noted : 
   module _ (e : Edit) (out₀ starts₀ ends₀ : List ℕ) where
     abbrev Joined : Editing → List ℕ → List ℕ → List ℕ → Type 0
     Joined r out starts ends =
-        Rewritten (verdict (joinFaults most n string e (least (length out₀) (length starts₀) (length ends₀)))) (transformed n e) out₀ starts₀ ends₀ r out starts ends
+        Rewritten (verdict (callFaults most n (stringFaults string) e (least (length out₀) (length starts₀) (length ends₀)))) (transformed n e) out₀ starts₀ ends₀ r out starts ends
 
     pub join-refused : {k : Refusal} → w ≡ Rejected k → Joined (Refusing k) out₀ starts₀ ends₀
     join-refused is = inputs-refused most n (also (noteFaults most n) (stringFaults string)) refl e out₀ starts₀ ends₀ inputs is
@@ -171,11 +179,16 @@ module _ (most : ℕ) (n : Note) (string : List ℕ) {u v w : Verdict} (noted : 
           (rw (none-of (n .normalized) z)) (rw (none-of (n .starts) (length-starts n join-sound ∙ z))) (rw (none-of (n .ends) (length-ends n join-sound ∙ z)))
 
       module _ (more : length (n .normalized) ≡ 0 → ⊥) {low room : ℕ} (lowest : low ≡ least (length out₀) (length starts₀) (length ends₀)) (r : room ≡ min most low) {t : Bool} (is : t ≡ leb (length (n .normalized) + length string) room) where
-        some-made : prepended n string ≡ lent (n .original) (string ++ n .normalized) (replicate (length string + announced (getD (n .normalized) 0 0)) (frontOf string (n .starts)) ++ drop (announced (getD (n .normalized) 0 0)) (n .starts)) (replicate (length string + announced (getD (n .normalized) 0 0)) (frontOf string (n .ends)) ++ drop (announced (getD (n .normalized) 0 0)) (n .ends)) (n .original-shift)
+        some-made :
+            prepended n string
+            ≡ lent (n .original) (string ++ n .normalized)
+            (replicate (length string + announced (getD (n .normalized) 0 0)) (frontOf string (n .starts)) ++ drop (announced (getD (n .normalized) 0 0)) (n .starts)) (replicate (length string + announced (getD (n .normalized) 0 0)) (frontOf string (n .ends)) ++ drop (announced (getD (n .normalized) 0 0)) (n .ends)) (n .original-shift)
         unfolding prepended
         some-made = rw (ne-eqb (length (n .normalized)) 0 more)
 
-        there : Makes n (prependEdit n string) (lent (n .original) (string ++ n .normalized) (replicate (length string + announced (getD (n .normalized) 0 0)) (frontOf string (n .starts)) ++ drop (announced (getD (n .normalized) 0 0)) (n .starts)) (replicate (length string + announced (getD (n .normalized) 0 0)) (frontOf string (n .ends)) ++ drop (announced (getD (n .normalized) 0 0)) (n .ends)) (n .original-shift))
+        there : Makes n (prependEdit n string)
+            (lent (n .original) (string ++ n .normalized)
+            (replicate (length string + announced (getD (n .normalized) 0 0)) (frontOf string (n .starts)) ++ drop (announced (getD (n .normalized) 0 0)) (n .starts)) (replicate (length string + announced (getD (n .normalized) 0 0)) (frontOf string (n .ends)) ++ drop (announced (getD (n .normalized) 0 0)) (n .ends)) (n .original-shift))
         there = rw some-made at before
 
         far : length (string ++ n .normalized) ≡ length string + length (n .normalized)

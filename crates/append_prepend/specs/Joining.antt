@@ -10,7 +10,7 @@ use Rattle.note.specs.Notes.{Note, lent, beforeEnd, Sound}
 use Rattle.edits.specs.Whole.{appendEdit, prependEdit}
 use Rattle.edits.specs.Plain.{Makes}
 
--- the string behind the text; each of its bytes carries the alignment of the text's last byte, (0,0) where there is
+-- the string after the text; each of its bytes carries the alignment of the text's last byte, (0,0) where there is
 -- none
 unfoldable pub appended : Note → List ℕ → Note
 appended n string =

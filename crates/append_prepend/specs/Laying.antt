@@ -23,9 +23,9 @@ pub record AppendedLaid (s starts ends string out₀ starts₀ ends₀ : List �
   pub starts-are : starts₁ ≡ overlay (starts ++ replicate (length string) (beforeEnd starts (length s))) starts₀
   pub ends-are : ends₁ ≡ overlay (ends ++ replicate (length string) (beforeEnd ends (length s))) ends₀
 
--- a column, of which the first `wide` elements give way, and room for it behind `count` others
-pub record FrontRoom (count : ℕ) (xs : List ℕ) (wide : ℕ) (out : List ℕ) : Type 0 where
-  pub inside : wide ≤ length xs
+-- a column, of which the first `size` elements give way, and room for it after `count` others
+pub record FrontRoom (count : ℕ) (xs : List ℕ) (size : ℕ) (out : List ℕ) : Type 0 where
+  pub inside : size ≤ length xs
   pub room : count + length xs ≤ length out
 
 -- a text that has a character, and room for it and the string

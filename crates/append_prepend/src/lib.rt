@@ -1,18 +1,18 @@
-// A string behind the cleaned text and before it (RULES 8; Rust: `append`, `prepend`).
+// A string after the cleaned text and before it (RULES 8; Rust: `append`, `prepend`).
 use buffers::Offset;
 use buffers::copy_bytes;
 use buffers::copy_offsets;
 use buffers::fill_offsets;
+use buffers::parts::keep;
 use checks::check_note;
 use checks::check_string;
 use checks::least_of_two;
 use checks::least_room;
-use buffers::parts::keep;
 use note::LIMIT;
 use note::Refusal;
 use note::Verdict;
-use note::verdicts::earlier;
 use note::before_end;
+use note::verdicts::earlier;
 use transform::Editing;
 use utf8::lead::char_len;
 use utf8::lead::lengths;
@@ -22,11 +22,8 @@ ghost use lib.Dec.{leb};
 ghost use mathlib.Core.List.{_++_};
 ghost use lib.ListN.{length, drop, replicate};
 ghost use Rattle.buffers.specs.Splice.{overlay};
-ghost use Rattle.note.specs.Notes.{lent, limit};
-ghost use Rattle.note.specs.Refusals.{least, verdict};
-ghost use Rattle.edit_steps.specs.Edits.{transformed};
-ghost use Rattle.transform.specs.Transforming.{Rewritten};
-ghost use Rattle.edits.specs.Whole.{appendEdit, joinFaults, prependEdit};
+ghost use Rattle.note.specs.Notes.{lent};
+ghost use Rattle.edits.specs.Whole.{AppendCall, PrependCall};
 ghost use Rattle.append_prepend.specs.Joining.{frontOf};
 ghost use Rattle.append_prepend.specs.Laying.{AppendedLaid, FrontRoom, JoinRoom, PrependedLaid, PrependRoom};
 
@@ -40,7 +37,7 @@ fn has_room(kept: usize, more: usize, room: usize) -> bool
     more <= room - kept
 }
 
-// The text, and the string behind it with the alignment of the text's last byte; how many bytes that is.
+// The text, and the string after it with the alignment of the text's last byte; how many bytes that is.
 fn lay_append(
     text: &[u8],
     starts: &[Offset],
@@ -77,23 +74,10 @@ pub fn append(
     out_starts: &mut [Offset],
     out_ends: &mut [Offset],
 ) -> Editing
-    ensures { λ r. ⌜ Rewritten
-        (verdict (joinFaults limit
+    ensures { λ r. ⌜ AppendCall
         (lent (now (original .entry)) (now (normalized .entry)) (now (starts .entry)) (now (ends .entry))
         «original_shift»)
         (now (string .entry))
-        (appendEdit
-        (lent (now (original .entry)) (now (normalized .entry)) (now (starts .entry)) (now (ends .entry))
-        «original_shift»)
-        (now (string .entry)))
-        (least (length (now (out .entry))) (length (now («out_starts» .entry))) (length (now («out_ends» .entry))))))
-        (transformed
-        (lent (now (original .entry)) (now (normalized .entry)) (now (starts .entry)) (now (ends .entry))
-        «original_shift»)
-        (appendEdit
-        (lent (now (original .entry)) (now (normalized .entry)) (now (starts .entry)) (now (ends .entry))
-        «original_shift»)
-        (now (string .entry))))
         (now (out .entry)) (now («out_starts» .entry)) (now («out_ends» .entry))
         r (now (out .exit)) (now («out_starts» .exit)) (now («out_ends» .exit)) ⌝ }
 {
@@ -113,7 +97,7 @@ pub fn append(
     }
 }
 
-// What the text's first character carries of a column behind the string.
+// What the text's first character carries of a column after the string.
 fn front_of(string: &[u8], column: &[Offset]) -> Offset
     requires { ⌜ 1 ≤ length (now column) ⌝ }
     ensures { λ r. ⌜ r ≡ frontOf (now (string .entry)) (now (column .entry)) ⌝ }
@@ -124,17 +108,17 @@ fn front_of(string: &[u8], column: &[Offset]) -> Offset
     column[0]
 }
 
-// A column behind `count` times what the first character carries, which stand for its `wide` bytes too.
-fn lay_column(front: Offset, count: usize, column: &[Offset], wide: usize, out: &mut [Offset])
-    requires { ⌜ FrontRoom count (now column) wide (now out) ⌝ }
-    ensures { λ _. ⌜ now (out .exit) ≡ overlay (replicate (count + wide) front ++ drop wide (now (column .entry)))
+// A column after `count` times what the first character carries, which stand for that character's `size` bytes too.
+fn lay_column(front: Offset, count: usize, column: &[Offset], size: usize, out: &mut [Offset])
+    requires { ⌜ FrontRoom count (now column) size (now out) ⌝ }
+    ensures { λ _. ⌜ now (out .exit) ≡ overlay (replicate (count + size) front ++ drop size (now (column .entry)))
         (now (out .entry)) ⌝ }
 {
-    fill_offsets(front, count + wide, out, 0);
-    copy_offsets(&column[wide..column.len()], out, count + wide);
+    fill_offsets(front, count + size, out, 0);
+    copy_offsets(&column[size..column.len()], out, count + size);
 }
 
-// The string, and the text behind it; how many bytes that is.
+// The string, and the text after it; how many bytes that is.
 fn lay_prepend(
     text: &[u8],
     starts: &[Offset],
@@ -151,12 +135,12 @@ fn lay_prepend(
         r (now (out .exit)) (now («out_starts» .exit)) (now («out_ends» .exit)) ⌝ }
 {
     let table = lengths();
-    let wide = char_len(text, 0, &table);
+    let size = char_len(text, 0, &table);
     let more = string.len();
     copy_bytes(string, out, 0);
     copy_bytes(text, out, more);
-    lay_column(front_of(string, starts), more, starts, wide, out_starts);
-    lay_column(front_of(string, ends), more, ends, wide, out_ends);
+    lay_column(front_of(string, starts), more, starts, size, out_starts);
+    lay_column(front_of(string, ends), more, ends, size, out_ends);
     more + text.len()
 }
 
@@ -172,23 +156,10 @@ pub fn prepend(
     out_starts: &mut [Offset],
     out_ends: &mut [Offset],
 ) -> Editing
-    ensures { λ r. ⌜ Rewritten
-        (verdict (joinFaults limit
+    ensures { λ r. ⌜ PrependCall
         (lent (now (original .entry)) (now (normalized .entry)) (now (starts .entry)) (now (ends .entry))
         «original_shift»)
         (now (string .entry))
-        (prependEdit
-        (lent (now (original .entry)) (now (normalized .entry)) (now (starts .entry)) (now (ends .entry))
-        «original_shift»)
-        (now (string .entry)))
-        (least (length (now (out .entry))) (length (now («out_starts» .entry))) (length (now («out_ends» .entry))))))
-        (transformed
-        (lent (now (original .entry)) (now (normalized .entry)) (now (starts .entry)) (now (ends .entry))
-        «original_shift»)
-        (prependEdit
-        (lent (now (original .entry)) (now (normalized .entry)) (now (starts .entry)) (now (ends .entry))
-        «original_shift»)
-        (now (string .entry))))
         (now (out .entry)) (now («out_starts» .entry)) (now («out_ends» .entry))
         r (now (out .exit)) (now («out_starts» .exit)) (now («out_ends» .exit)) ⌝ }
 {

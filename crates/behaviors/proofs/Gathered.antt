@@ -22,7 +22,7 @@ use Rattle.behaviors.specs.Runs.{onwardIf, extendedRun, isKeptRun, over,
 abbrev drawn : Place → Place → Place
 drawn run p = record { start = run .start; end = p .end; matched = p .matched }
 
--- a run and the places behind it, gathered by a test on the flags of two neighbours
+-- a run and the places after it, gathered by a test on the flags of two neighbours
 unfoldable pub gathered : (Bool → Bool → Bool) → Place → List Place → List Place
 gathered joined run [] = unremoved run ∷ []
 gathered joined run (p ∷ ps) =
@@ -72,7 +72,7 @@ unfolding gathered
 map-gathered p [] = refl
 map-gathered p (q ∷ ps) = ap (_∷_ (unremoved p)) (map-gathered q ps)
 
--- every behaviour that dropsMatches nothing gathers
+-- every behaviour that drops nothing gathers
 pub splits-gathered : (b : SplitDelimiterBehavior) (p : Place) (ps : List Place) → dropsMatches b ≡ false → splits b (p ∷ ps) ≡ gathered (joins b) p ps
 unfolding splits joins dropsMatches
 splits-gathered Removed p ps e = clash true refl e

@@ -1,6 +1,6 @@
--- A list that is read place by place: the run that is open behind a place, and what has been counted by then.
+-- A list that is read place by place: the run that is open after a place, and what has been counted by then.
 use Prim.Native.Nat.{ℕ, _+_, _-_, _^_, _≤_, _<_}
-use mathlib.Core.Path.{_≡_, _∙_, ap, refl, sym}
+use mathlib.Core.Path.{_≡_, _∙_, ap, refl}
 use mathlib.Core.Bool.{Bool, true, false}
 use mathlib.Core.List.{List, [], _∷_, _++_}
 use native.Mathlib.Omega.{arith}
@@ -21,7 +21,7 @@ use Rattle.behaviors.specs.Joining.{joins}
 use Rattle.behaviors.specs.Runs.{onwardIf, extendedRun, isKeptRun, over, pieceIf, runsFrom, totalLength, sizesWith, listPieces, Listed, Addable}
 use Rattle.behaviors.proofs.Gathered.{runs-pieces, pieces-none}
 
--- the places of a list from i on stand behind an open run
+-- the places of a list from i on follow an open run
 pub record Open (most : ℕ) (list : List ℕ) (run : Place) (i : ℕ) : Type 0 where
   pub text : List ℕ
   pub short : length text ≤ most
@@ -117,7 +117,7 @@ sizes-append s xs ys =
     let z : s .bytes + totalLength xs + totalLength ys ≡ s .bytes + totalLength (xs ++ ys) = omega (arith, bytes-append xs ys) in
     λ i. record { pieces = a i; bytes = z i }
 
--- a new run begins behind the bytes that were counted
+-- a new run begins after the bytes that were counted
 begins-behind : (b : SplitDelimiterBehavior) (e : EmptyPieces) (run p : Place) (bytes : ℕ) → bytes ≤ run .start .0 → run .start .0 ≤ run .end .0 → p .start .0 ≡ run .end .0 → bytes + totalLength (pieceIf (over b e run p) run) ≤ extendedRun b run p .start .0
 unfolding over extendedRun onwardIf pieceIf totalLength unremoved
 begins-behind b e run p bytes low forward from =
@@ -177,7 +177,7 @@ module _ {most : ℕ} {list : List ℕ} {b : SplitDelimiterBehavior} {e : EmptyP
   unfolding runsFrom
   all-counted done met sum = sum ∙ rw met ((rw done at (k .total)))
 
--- the two ways behind the last place
+-- the two ways after the last place
 pub done-broken : (list : List ℕ) {i : ℕ} {entry : Entry} → i < length list → entry ≡ entryAt list i → entry ≡ Broken → placesOf (drop i list) ≡ []
 done-broken list h is there = entry-broken list h is there .0
 

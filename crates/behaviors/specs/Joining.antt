@@ -22,7 +22,7 @@ joins Removed before now = false
 joins Isolated before now = false
 -- a matched place belongs to the unmatched one straight before it
 joins MergedWithPrevious before now = now && not before
--- and here to the unmatched one straight behind it
+-- and here to the unmatched one straight after it
 joins MergedWithNext before now = before && not now
 -- places of one kind belong together
 joins Contiguous before now = Bool·beq now before
@@ -65,10 +65,10 @@ dropsMatches MergedWithPrevious = false
 dropsMatches MergedWithNext = false
 dropsMatches Contiguous = false
 
--- CLAIM: under any behaviour but Removed a piece beginnings at the first place and at each that does not belong to the one
+-- CLAIM: under any behaviour but Removed a piece begins at the first place and at each that does not belong to the one
 -- before it, and ends at the last place and at each to which the next one does not belong. So Isolated gives every
--- place; under Contiguous a piece beginnings where the kind changes; under MergedWithPrevious one beginnings at each place but
--- a matched one straight behind an unmatched one; under MergedWithNext one ends at each place but a matched one
+-- place; under Contiguous a piece begins where the kind changes; under MergedWithPrevious one begins at each place but
+-- a matched one straight after an unmatched one; under MergedWithNext one ends at each place but a matched one
 -- straight before an unmatched one.
 abbrev pub PiecesJoined : Type 0
 PiecesJoined =

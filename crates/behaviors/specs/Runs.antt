@@ -41,7 +41,7 @@ over behavior empty run p = not (joins behavior (run .matched) (p .matched)) && 
 unfoldable pub pieceIf : Bool → Place → List Place
 pieceIf met run = cond met (unremoved run ∷ []) []
 
--- the pieces of a run and of the places behind it
+-- the pieces of a run and of the places after it
 unfoldable pub runsFrom : SplitDelimiterBehavior → EmptyPieces → Place → List Place → List Place
 runsFrom behavior empty run [] = pieceIf (isKeptRun behavior empty run) run
 runsFrom behavior empty run (p ∷ ps) =

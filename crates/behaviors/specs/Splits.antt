@@ -39,12 +39,12 @@ folded test acc previous [] = acc
 folded test acc previous (p ∷ ps) =
     folded test (cond (test (p .matched) previous) (endMoved acc p) (acc ++ (unremoved p ∷ []))) (p .matched) ps
 
--- `previous_match` of the fold from the right: whether the place behind matched
+-- `previous_match` of the fold from the right: whether the place after matched
 unfoldable pub firstMatched : List Place → Bool
 firstMatched [] = false
 firstMatched (p ∷ ps) = p .matched
 
--- the first place behind takes the start of p; where there is none p is the last (Rust: `*start = ..`)
+-- the first place after takes the start of p; where there is none p is the last (Rust: `*start = ..`)
 unfoldable pub startMoved : Place → List Place → List Place
 startMoved p [] = unremoved p ∷ []
 startMoved p (q ∷ acc) = spanning p q ∷ acc

@@ -56,7 +56,7 @@ pub fn join_table(behavior: SplitDelimiterBehavior) -> [bool; 4]
     ]
 }
 
-// The same by the table, for the flags of two places.
+// What the table says of the flags of two places.
 pub fn joined(table: &[bool; 4], before: bool, matched: bool) -> bool
     ensures { λ r. ⌜ r ≡ joinedBy (now (table .entry)) before matched ⌝ }
 {
@@ -90,7 +90,7 @@ pub fn is_dropped(empty: EmptyPieces, run: Place) -> bool
     }
 }
 
-// The run behind the next place: drawn out to it where that belongs to it, else begun with it.
+// The run after the next place: drawn out to it where that belongs to it, else begun with it.
 pub fn extend_run(joined: bool, run: Place, place: Place) -> Place
     ensures { λ r. ⌜ r ≡ onwardIf joined run place ⌝ }
 {

@@ -1,23 +1,22 @@
 -- Laws of `leadLen`, `leadsBelow`, `spansBelow` and `StartsInside`: an alignment that is one whole character cuts none.
-use Prim.Native.Nat.{ℕ, zero, suc, _+_, _-_, _/_, _≤_, _<_, max, min}
+use Prim.Native.Nat.{ℕ, zero, suc, _+_, _-_, _≤_, _<_}
 use mathlib.Core.Path.{_≡_, _∙_, ap, refl, sym}
-use mathlib.Core.Bool.{Bool, true, false, cond, _&&_, _||_, not}
+use mathlib.Core.Bool.{Bool, true, false, _&&_, _||_, not}
 use mathlib.Core.List.{List}
 use mathlib.Mathlib.Data.Bool.Basic.{and-intro, and-elim-left, and-elim-right}
-use borrow.Author.Tests.{le-leb, lt-leb, lt-ltb, le-ltb, leb-true, eqb-true, not-true, not-false}
+use borrow.Author.Tests.{leb-true, eqb-true, not-true, not-false}
 use native.Mathlib.Omega.{arith}
-use lib.Dec.{leb, ltb, eqb}
+use lib.Dec.{leb, eqb}
 use lib.ListN.{length, getD, length-take, length-drop}
 use lib.Bits.{bitOr, bitXor}
 use Rattle.buffers.specs.Every.{everyBelow}
 use Rattle.buffers.specs.Splice.{part}
 use Rattle.buffers.specs.Columns.{Filled}
-use Rattle.buffers.proofs.Cases.{true-or-false, le-or-lt, clash}
 use Rattle.buffers.proofs.Booleans.{and-false-l}
 use Rattle.buffers.proofs.Every.{every-suc, every-add, every-at, every-all, every-ext}
 use Rattle.buffers.proofs.Splice.{part-index}
-use Rattle.utf8.specs.Formed.{announced, continues, boundary, wellFormed}
-use Rattle.utf8.proofs.Boundaries.{boundary-at, boundary-begins, char-at, CharAt}
+use Rattle.utf8.specs.Formed.{announced, continues, wellFormed}
+use Rattle.utf8.proofs.Boundaries.{boundary-at, boundary-begins, char-at}
 use Rattle.boundaries.specs.Monotone.{follows, monotoneAt, monotone, uncut, uncutBelow}
 use Rattle.utf8.specs.Lengths.{leadLen}
 use Rattle.utf8.proofs.LeadLen.{lead-len-right}
@@ -53,7 +52,10 @@ module _ (widths starts ends : List ℕ) where
   spans-more j apart {r} is far =
       rw (or-none apart (bitXor r (getD widths j 0)), xor-none r (getD widths j 0), is, far, every-suc j (λ k. eqb (getD ends k 0 - getD starts k 0) (getD widths k 0)))
 
-pub all-spans : {original starts bytes₀ bytes widths₀ widths : List ℕ} (ends : List ℕ) → StartsInside original starts → length starts ≡ 64 → length bytes₀ ≡ 64 → length widths₀ ≡ 64 → Filled (λ k. getD original (getD starts k 0) 0) bytes₀ 0 (length bytes₀) bytes → Filled (λ k. leadLen (getD bytes k 0)) widths₀ 0 (length widths₀) widths → leadsBelow bytes (length bytes) ≡ true → spansBelow widths starts ends (length widths) ≡ true → uncutBelow original starts ends 64 ≡ true
+pub all-spans : {original starts bytes₀ bytes widths₀ widths : List ℕ} (ends : List ℕ) → StartsInside original starts → length starts ≡ 64
+    → length bytes₀ ≡ 64 → length widths₀ ≡ 64 → Filled (λ k. getD original (getD starts k 0) 0) bytes₀ 0 (length bytes₀) bytes
+    → Filled (λ k. leadLen (getD bytes k 0)) widths₀ 0 (length widths₀) widths → leadsBelow bytes (length bytes) ≡ true
+    → spansBelow widths starts ends (length widths) ≡ true → uncutBelow original starts ends 64 ≡ true
 unfolding uncutBelow leadsBelow spansBelow
 all-spans {original} {starts} {bytes = bytes} {widths = widths} ends known long n m read wide leads spans =
     let size : length widths ≡ 64 = wide .same ∙ m in
@@ -108,7 +110,9 @@ module _ (text starts ends : List ℕ) (size n : ℕ) (e : monotone text starts 
   start-next k h =
       let here = every-at n (monotoneAt text starts ends size) e (suc k) h in
       let rest = and-elim-left _ (leb (getD ends k 0) (getD ends (suc k) 0)) here in
-      leb-true _ _ (and-elim-right (leb (getD starts (suc k) 0) (getD ends (suc k) 0) && leb (getD ends (suc k) 0) size && (not (continues (getD text (suc k) 0)) || (eqb (getD starts k 0) (getD starts (suc k) 0) && eqb (getD ends k 0) (getD ends (suc k) 0)))) (leb (getD starts k 0) (getD starts (suc k) 0)) rest)
+      let within : Bool = leb (getD starts (suc k) 0) (getD ends (suc k) 0) && leb (getD ends (suc k) 0) size in
+      let same : Bool = eqb (getD starts k 0) (getD starts (suc k) 0) && eqb (getD ends k 0) (getD ends (suc k) 0) in
+      leb-true _ _ (and-elim-right (within && (not (continues (getD text (suc k) 0)) || same)) (leb (getD starts k 0) (getD starts (suc k) 0)) rest)
 
   starts-rise : (i d : ℕ) → i + d < n → getD starts i 0 ≤ getD starts (i + d) 0
   starts-rise i zero h = let z : i + 0 ≡ i = omega arith in rw z (omega arith)

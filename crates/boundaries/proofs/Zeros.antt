@@ -1,5 +1,5 @@
 -- Laws of bits and differences, many of which are told at once to be 0.
-use Prim.Native.Nat.{ℕ, _-_, _≤_, _<_}
+use Prim.Native.Nat.{ℕ, _-_}
 use mathlib.Core.Path.{_≡_, refl, sym}
 use mathlib.Core.Bool.{Bool, true, false, cond, _&&_, _||_, not}
 use borrow.Author.Tests.{le-leb, lt-leb, eq-eqb, ne-eqb}

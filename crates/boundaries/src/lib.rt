@@ -7,7 +7,7 @@ use utf8::continues;
 use utf8::lead::lead_len_lane;
 ghost use mathlib.Core.Path.{_≡_};
 ghost use mathlib.Core.Bool.{true};
-ghost use Prim.Native.Nat.{ℕ, _-_, _≤_, _<_};
+ghost use Prim.Native.Nat.{_≤_};
 ghost use lib.ListN.{length, getD};
 ghost use Rattle.buffers.specs.Columns.{Filled};
 ghost use Rattle.utf8.specs.Formed.{wellFormed};
@@ -123,7 +123,7 @@ fn block_uncut(original: &[u8], starts: &[Offset], ends: &[Offset], bytes: &mut 
     all_uncut(original, starts, ends)
 }
 
-// The same in blocks.
+// Whether no alignment of two columns cuts a character, block by block.
 fn uncut_blocks(original: &[u8], starts: &[Offset], ends: &[Offset]) -> bool
     requires { ⌜ length (now ends) ≡ length (now starts) ⌝ }
     requires { ⌜ StartsInside (now original) (now starts) ⌝ }

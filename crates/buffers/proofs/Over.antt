@@ -1,14 +1,13 @@
 -- Laws of `Over`: a run laid exactly, or as the front of a longer one; a block more; and a result that is laid run by run
 -- (`Reaching`): none yet, one more, all of it.
-use Prim.Native.Nat.{ℕ, zero, suc, _+_, _-_, _≤_, _<_}
+use Prim.Native.Nat.{ℕ, _+_, _-_, _≤_, _<_}
 use mathlib.Core.Path.{_≡_, _∙_, ap, refl, sym}
 use mathlib.Core.List.{List, [], _++_, append-assoc, append-nil}
 use native.Mathlib.Omega.{arith}
-use lib.ListN.{length, take, drop, replicate, length-append, length-take, length-drop, length-replicate, take-append-drop}
+use lib.ListN.{length, take, drop, replicate, length-append, length-replicate, take-append-drop}
 use lib.Seq.{take-at, drop-at, drop-drop, take-take, take-append-add, length-take-le}
 use Rattle.buffers.specs.Splice.{part, splice, overlay}
 use Rattle.buffers.specs.Over.{Over, Source, Reaching}
-use Rattle.buffers.proofs.Cases.{le-or-lt}
 use Rattle.buffers.proofs.Splice.{length-splice, length-part, length-front, part-append, part-front, replicate-front, splice-whole}
 
 -- what a splice has behind its run

@@ -6,7 +6,7 @@ use mathlib.Core.List.{List, [], _∷_, _++_, append-assoc, append-nil}
 use native.Mathlib.Numerals.{add-one}
 use native.Mathlib.Omega.{arith}
 use lib.ListN.{length, getD, set, take, drop, replicate, length-append, length-take, length-drop, length-set, length-replicate, getD-replicate, take-append-drop, drop-of-length-le, List·getD-append}
-use lib.Seq.{take-at, drop-at, drop-drop, drop-cons, length-take-le, take-length, getD-take, getD-drop, getD-append-add, ext-getD, set-split, take-set-le, take-take, take-add, set-at, take-append-seam, drop-append-seam, paste, paste-zero, paste-suc}
+use lib.Seq.{take-at, drop-at, drop-drop, drop-cons, length-take-le, take-length, getD-take, getD-drop, ext-getD, set-split, take-set-le, take-take, take-add, set-at, take-append-seam, drop-append-seam, paste, paste-zero, paste-suc}
 use Rattle.buffers.specs.Splice.{part, splice, overlay, Laid}
 
 -- lists in two pieces, and one value many times
@@ -72,13 +72,6 @@ pub splice-nil : (d : List ℕ) (at : ℕ) → splice d at [] ≡ d
 unfolding splice
 splice-nil d at = let z : at + 0 ≡ at = omega arith in rw (z, append-nil (take at d)) (take-append-drop at d)
 
-pub splice-at : (d r : List ℕ) (at k : ℕ) → at ≤ length d → k < length r → getD (splice d at r) (at + k) 0 ≡ getD r k 0
-unfolding splice
-splice-at d r at k h below =
-    let start : length (take at d) ≡ at = length-take-le at d h in
-    List·getD-append (take at d ++ r) (drop (at + length r) d) 0 (at + k) (omega (arith, length-front d r at h))
-    ∙ (rw start at (getD-append-add (take at d) r k 0))
-
 pub splice-splice : (d p q : List ℕ) (at : ℕ) → at ≤ length d → splice (splice d at p) (at + length p) q ≡ splice d at (p ++ q)
 unfolding splice
 splice-splice d p q at h =
@@ -112,6 +105,12 @@ store-after d p at b h =
     rw (splice-snoc d p at b, drop-cons d (at + length p) 0 h)
     (set-at (take at d ++ p) _ _ b (at + length p) (length-front d p at (omega arith)))
 
+-- one element stored
+pub store-one : (d : List ℕ) (at x : ℕ) → at < length d → set d at x ≡ splice d at (x ∷ [])
+store-one d at x h =
+    let z : at + 0 ≡ at = omega arith in
+    (rw (splice-nil d at, z) at (store-after d [] at x (omega arith)))
+
 -- a run in front
 pub splice-overlay : (d r : List ℕ) → splice d 0 r ≡ overlay r d
 unfolding splice overlay
@@ -124,10 +123,6 @@ splice-whole d r e = splice-overlay d r ∙ rw (drop-of-length-le d {i = length 
 pub take-overlay : (r d : List ℕ) → take (length r) (overlay r d) ≡ r
 unfolding overlay
 take-overlay r d = take-append-seam r (drop (length r) d)
-
-pub drop-overlay : (r d : List ℕ) → drop (length r) (overlay r d) ≡ drop (length r) d
-unfolding overlay
-drop-overlay r d = drop-append-seam r (drop (length r) d)
 
 pub getD-overlay : (r d : List ℕ) (k : ℕ) → k < length r → getD (overlay r d) k 0 ≡ getD r k 0
 unfolding overlay
@@ -179,7 +174,7 @@ all-written {s = s} {j = j} w done =
     let full : j ≡ length s = omega (arith, w .most) in
     w .now-is ∙ rw (full, take-length s)
 
--- the same where the run is one value, n times
+-- a run of one value, n times
 pub one-same : (n v : ℕ) {d₀ d : List ℕ} {at j : ℕ} → Written (replicate n v) d₀ at d j → at + n ≤ length d₀ → j < n → Written (replicate n v) d₀ at (set d (at + j) v) (j + 1)
 one-same n v {j = j} w room more =
     one-more w (simp length-replicate room) (simp length-replicate more) (sym (getD-replicate n j v 0 more))

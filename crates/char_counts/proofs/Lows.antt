@@ -83,7 +83,16 @@ module _ (s : List ℕ) (from : ℕ) {f₀ fours : List ℕ} (fs : Filled (fourA
       let first : getD fours j 0 ≡ leads (part s a (a + 4)) = fs .within j (omega arith) (omega arith) ∙ four-at s from j in
       let join : (b c : ℕ) → a ≤ b → b ≤ c → leads (part s a b) + leads (part s b c) ≡ leads (part s a c) = leads-parts s a in
       gs .within j (omega arith) h
-      ∙ omega (arith, first, at 4 (a + 8) (omega arith) (omega arith), at 8 (a + 12) (omega arith) (omega arith), at 12 (a + 16) (omega arith) (omega arith), join (a + 4) (a + 8) (omega arith) (omega arith), join (a + 8) (a + 12) (omega arith) (omega arith), join (a + 12) (a + 16) (omega arith) (omega arith))
+      ∙ omega (
+        arith,
+        first,
+        at 4 (a + 8) (omega arith) (omega arith),
+        at 8 (a + 12) (omega arith) (omega arith),
+        at 12 (a + 16) (omega arith) (omega arith),
+        join (a + 4) (a + 8) (omega arith) (omega arith),
+        join (a + 8) (a + 12) (omega arith) (omega arith),
+        join (a + 12) (a + 16) (omega arith) (omega arith),
+      )
 
 -- the low bytes so far
 pub first-low : (s d : List ℕ) → 1 ≤ length d → LowsTo s d 1 (set d 0 0)

@@ -1,11 +1,11 @@
--- Working forms: how many characters have begunAfterFirst up to a byte, the marks of a text, and a look-up.
+-- Working forms: how many characters have begun up to a byte, the marks of a text, and a look-up.
 use Prim.Native.Nat.{ℕ, _+_, _-_, _*_, _/_, _%_, _≤_, _<_}
 use mathlib.Core.Path.{_≡_}
 use mathlib.Core.List.{List}
 use lib.ListN.{length, getD, take, drop}
 use Rattle.utf8.specs.Chars.{leads}
 
--- how many characters have begunAfterFirst behind the first byte, up to the byte b
+-- how many characters have begun after the first byte, up to the byte b
 unfoldable pub begunAfterFirst : List ℕ → ℕ → ℕ
 begunAfterFirst s b = leads (take b (drop 1 s))
 

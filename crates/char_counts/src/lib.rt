@@ -7,7 +7,6 @@ use buffers::Offset;
 use note::LIMIT;
 use utf8::count::count_leads;
 ghost use mathlib.Core.Path.{_≡_};
-ghost use Prim.Native.Nat.{_≤_, _<_};
 ghost use lib.ListN.{length};
 ghost use Rattle.note.specs.Notes.{limit};
 ghost use Rattle.char_counts.specs.Counts.{countAt, LookedUp, Markable, Marked};

@@ -1,7 +1,6 @@
 // The low byte of the count at each byte. The count at a byte is that at the 16th byte before it and as many more as
 // begin in between, so that 16 bytes at a time are told side by side.
 use utf8::continues;
-ghost use mathlib.Core.Path.{_≡_};
 ghost use Prim.Native.Nat.{ℕ, _+_, _≤_};
 ghost use lib.ListN.{length, getD};
 ghost use Rattle.buffers.specs.Columns.{Filled};
@@ -23,7 +22,7 @@ fn write_fours(text: &[u8], from: usize, fours: &mut [u8])
     }
 }
 
-// The same of 16 bytes.
+// How many of the 16 bytes from each place on begin a character, from the counts of four.
 fn write_sixteens(fours: &[u8], sixteens: &mut [u8])
     requires { ⌜ (length (now sixteens) + 12 ≤ length (now fours)) × ((k : ℕ) → getD (now fours) k 0 ≤ 4) ⌝ }
     ensures { λ _. ⌜ Filled (sixteenAt (now (fours .entry))) (now (sixteens .entry)) 0

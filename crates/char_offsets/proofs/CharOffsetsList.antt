@@ -7,22 +7,22 @@ use borrow.Author.Tests.{lt-ltb, le-ltb}
 use native.Mathlib.Omega.{arith}
 use lib.Dec.{eqb}
 use lib.ListN.{length, getD, set}
-use Rattle.buffers.proofs.Columns.{Filling, none-filling, one-filling, all-filling}
+use Rattle.buffers.proofs.Columns.{Filling, one-filling, all-filling}
 use Rattle.note.specs.declared.Refusal.{Refusal}
 use Rattle.note.specs.declared.Refusal.the-variants.{LengthMismatch, NoRoom, Missing, IllFormed}
 use Rattle.note.specs.declared.Verdict.{Verdict}
 use Rattle.note.specs.declared.Verdict.the-variants.{Accepted, Refused as Rejected}
-use Rattle.note.specs.Refusals.{none, meets, also, verdict, least}
+use Rattle.note.specs.Refusals.{none, meets, also, verdict, unlessRefused, least}
 use Rattle.note.specs.Rank.{earlier}
 use Rattle.note.specs.Faults.{textFaults, roomFaults, lengthFaults}
 use Rattle.note.specs.Rank.{upTo}
 use Rattle.note.proofs.FirstMet.{refused-then, accepted-then}
-use Rattle.note.proofs.Uneven.{beside-list}
+use Rattle.note.proofs.LengthFaults.{beside-list}
 use Rattle.note.proofs.Faults.{no-room, enough-room}
 use Rattle.char_offsets.specs.declared.CharOffsets.{CharOffsets}
 use Rattle.char_offsets.specs.declared.CharOffsets.the-variants.{Refused}
 use Rattle.char_offsets.specs.declared.Pair.{Pair}
-use Rattle.char_offsets.specs.Positions.{indexOf, isMapped, charPair, endIndex, pairOf, pairUnlessRefused, charOffsets, pairNumber, pairStart, pairEnd, pairAt, CharOffsetsList}
+use Rattle.char_offsets.specs.Positions.{indexOf, isMapped, charPair, endIndex, pairOf, charOffsets, pairNumber, pairStart, pairEnd, pairAt, CharOffsetsList}
 use Rattle.char_offsets.specs.Steps.{IndexKnown, PairTold, PairRoom, PairsWritten}
 
 -- nothing is read yet
@@ -40,7 +40,7 @@ module _ (most : ℕ) (s : List ℕ) (a e : ℕ) {v : Verdict} (is : v ≡ verdi
   starts-there = meets Missing (not (isMapped s a)) none
 
   abbrev answer : Verdict → CharOffsets
-  answer w = pairUnlessRefused w (pairOf s a e)
+  answer w = unlessRefused Refused w (pairOf s a e)
 
   pub pair-refused : {k : Refusal} → v ≡ Rejected k → Refused k ≡ charOffsets most s a e
   unfolding charOffsets

@@ -1,4 +1,4 @@
--- Laws of `indexOf`: one byte on, several bytes on, and as a number of letters.
+-- Laws of `indexOf`: one byte on, several bytes on, and as a number of characters.
 use Prim.Native.Nat.{ℕ, zero, suc, _+_, _-_, _≤_, _<_}
 use mathlib.Core.Path.{_≡_, _∙_, ap, refl, sym}
 use mathlib.Core.Bool.{true}

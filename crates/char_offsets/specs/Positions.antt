@@ -11,8 +11,7 @@ use Rattle.utf8.specs.Chars.{chars, leads}
 use Rattle.note.specs.declared.Refusal.{Refusal}
 use Rattle.note.specs.declared.Refusal.the-variants.{Missing}
 use Rattle.note.specs.declared.Verdict.{Verdict}
-use Rattle.note.specs.declared.Verdict.the-variants.{Accepted, Refused as Rejected}
-use Rattle.note.specs.Refusals.{numberOf, none, meets, also, verdict, least, after}
+use Rattle.note.specs.Refusals.{numberOf, none, meets, also, verdict, unlessRefused, least, after}
 use Rattle.note.specs.Faults.{textFaults, roomFaults, lengthFaults}
 use Rattle.utf8.specs.CharRanges.{charStart}
 use Rattle.char_offsets.specs.declared.CharOffsets.{CharOffsets}
@@ -38,46 +37,38 @@ unfoldable pub pairOf : List ℕ → ℕ → ℕ → CharOffsets
 pairOf s a e = cond (isMapped s a) (charPair (indexOf s a) (endIndex s a e)) (Refused Missing)
 
 -- RULES 12.2: one pair
-abbrev pub pairFaults : ℕ → List ℕ → ℕ → Refusal → Bool
-pairFaults most s a = also (textFaults most s) (meets Missing (not (isMapped s a)) none)
-
-abbrev pub pairUnlessRefused : Verdict → CharOffsets → CharOffsets
-pairUnlessRefused Accepted pair = pair
-pairUnlessRefused (Rejected k) pair = Refused k
-
 unfoldable pub charOffsets : ℕ → List ℕ → ℕ → ℕ → CharOffsets
-charOffsets most s a e = pairUnlessRefused (verdict (pairFaults most s a)) (pairOf s a e)
+charOffsets most s a e =
+    unlessRefused Refused (verdict (also (textFaults most s) (meets Missing (not (isMapped s a)) none))) (pairOf s a e)
 
 -- RULES 15.4: a list of pairs, each answered in three columns: 0 and the two characters, or the refusal's number, 0
 -- and 0
+abbrev pub ofPair : {A : Type 0} → (ℕ → ℕ → A) → (Refusal → A) → CharOffsets → A
+ofPair some none (Chars a e) = some (a .0) (e .0)
+ofPair some none (Refused k) = none k
+
 abbrev pub pairNumber : CharOffsets → ℕ
-pairNumber (Chars a e) = 0
-pairNumber (Refused k) = numberOf k
+pairNumber pair = ofPair (λ a e. 0) numberOf pair
 
 abbrev pub pairStart : CharOffsets → ℕ
-pairStart (Chars a e) = a .0
-pairStart (Refused k) = 0
+pairStart pair = ofPair (λ a e. a) (λ k. 0) pair
 
 abbrev pub pairEnd : CharOffsets → ℕ
-pairEnd (Chars a e) = e .0
-pairEnd (Refused k) = 0
+pairEnd pair = ofPair (λ a e. e) (λ k. 0) pair
 
 abbrev pub pairAt : List ℕ → List ℕ → List ℕ → ℕ → CharOffsets
 pairAt s starts ends i = pairOf s (getD starts i 0) (getD ends i 0)
 
 -- the text's refusals, beside them a list that has not as many ends as starts; then the room for one answer a pair
-abbrev pub charOffsetsListFaults : ℕ → List ℕ → List ℕ → List ℕ → ℕ → Refusal → Bool
-charOffsetsListFaults most s starts ends room =
-    also (also (textFaults most s) (lengthFaults starts ends)) (roomFaults (length starts) room)
-
 -- the text, the pairs, the lent columns before, the answer, the lent columns after
 pub record CharOffsetsList (most : ℕ) (s starts ends n₀ a₀ e₀ : List ℕ) (r : Verdict) (n₁ a₁ e₁ : List ℕ) : Type 0 where
-  pub answer : r ≡ verdict (charOffsetsListFaults most s starts ends (least (length n₀) (length a₀) (length e₀)))
+  pub answer : r ≡ verdict (also (also (textFaults most s) (lengthFaults starts ends))
+      (roomFaults (length starts) (least (length n₀) (length a₀) (length e₀))))
   pub numbers-are : n₁ ≡ after r (column (length starts) (λ i. pairNumber (pairAt s starts ends i))) n₀
   pub starts-are : a₁ ≡ after r (column (length starts) (λ i. pairStart (pairAt s starts ends i))) a₀
   pub ends-are : e₁ ≡ after r (column (length starts) (λ i. pairEnd (pairAt s starts ends i))) e₀
 
--- CLAIM: a byte's index is the number of letters before the character that it belongs to.
+-- CLAIM: a byte's index is the number of characters before the one that it belongs to.
 abbrev pub IndexIsChars : Type 0
 IndexIsChars =
     (s : List ℕ) (b : ℕ) → wellFormed s ≡ true → b < length s → indexOf s b ≡ chars (take (charStart s b) s)

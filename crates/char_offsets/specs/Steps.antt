@@ -15,16 +15,10 @@ pub record IndexKnown (most : ℕ) (s : List ℕ) (at index : ℕ) : Type 0 wher
   pub inside : at ≤ length s - 1
   pub so-far : index ≡ indexOf s at
 
--- at most 16 bytes of a text that has 16 there
-pub record Near (s : List ℕ) (from to : ℕ) : Type 0 where
-  pub onward : from ≤ to
-  pub few : to ≤ from + 16
-  pub inside : from + 16 ≤ length s
-
 -- the byte by which an end is told in a text of so many bytes, and what is added to its index
 pub record EndTold (size a e : ℕ) (r : EndByte) : Type 0 where
-  pub inside : r .byte < size
-  pub right : (s : List ℕ) → length s ≡ size → endIndex s a e ≡ indexOf s (r .byte) + r .more
+  pub inside : r .byte .0 < size
+  pub right : (s : List ℕ) → length s ≡ size → endIndex s a e ≡ indexOf s (r .byte .0) + r .more
   pub little : r .more ≤ 2
 
 -- one pair: its answer in numbers

@@ -4,11 +4,11 @@
 pub mod letters;
 
 use buffers::Offset;
-use char_counts::zeroed_lows;
-use char_counts::zeroed_marks;
 use char_counts::count_at;
 use char_counts::low_bytes::write_lows;
 use char_counts::write_marks;
+use char_counts::zeroed_lows;
+use char_counts::zeroed_marks;
 use checks::check_text;
 use checks::least_room;
 use note::CharIndex;
@@ -17,17 +17,14 @@ use note::Refusal;
 use note::Verdict;
 use note::verdicts::earlier;
 use note::verdicts::refused_if;
-use utf8::continues;
 use utf8::count::count_leads;
 ghost use mathlib.Core.Path.{_≡_};
 ghost use Prim.Native.Nat.{_≤_, _<_};
 ghost use lib.ListN.{length};
-ghost use Rattle.buffers.specs.Splice.{part};
-ghost use Rattle.utf8.specs.Chars.{leads};
 ghost use Rattle.note.specs.Notes.{limit};
 ghost use Rattle.char_offsets.specs.Positions.{charOffsets, CharOffsetsList, indexOf};
 ghost use Rattle.char_counts.specs.Counts.{CountsLent};
-ghost use Rattle.char_offsets.specs.Steps.{EndTold, IndexKnown, Near, PairRoom, PairsWritten, PairTold};
+ghost use Rattle.char_offsets.specs.Steps.{EndTold, IndexKnown, PairRoom, PairsWritten, PairTold};
 
 // What converting a pair answers.
 pub enum CharOffsets {
@@ -37,68 +34,37 @@ pub enum CharOffsets {
 
 // The index of the character of the byte `to`, from that of the byte `at`, wherever the two stand. An inner function:
 // the text was judged before.
-pub fn index_from(text: &[u8], at: usize, index: u32, to: usize) -> u32
-    requires { ⌜ IndexKnown limit (now text) at index ⌝ }
-    requires { ⌜ to < length (now text) ⌝ }
-    ensures { λ r. ⌜ r ≡ indexOf (now (text .entry)) to ⌝ }
+pub fn index_from(text: &[u8], at: OriginalByte, index: CharIndex, to: OriginalByte) -> CharIndex
+    requires { ⌜ IndexKnown limit (now text) (at .0) (index .0) ⌝ }
+    requires { ⌜ to .0 < length (now text) ⌝ }
+    ensures { λ r. ⌜ r .0 ≡ indexOf (now (text .entry)) (to .0) ⌝ }
 {
-    if at <= to {
-        return index + count_leads(&text[at + 1..to + 1]) as u32;
+    let known = at.0 as usize;
+    let asked = to.0 as usize;
+    if known <= asked {
+        return CharIndex(index.0 + count_leads(&text[known + 1..asked + 1]) as u32);
     }
-    index - count_leads(&text[to + 1..at + 1]) as u32
-}
-
-// How many of the bytes from..to begin a character, of which there are at most 16: a block of 16 is looked at, so that
-// no loop's number of turns is how many there are. Whether the byte j is one of the first n is a quotient, 1 or 0:
-// compared instead, eight bytes would be spent on each.
-fn near_leads(text: &[u8], from: usize, to: usize) -> u8
-    requires { ⌜ Near (now text) from to ⌝ }
-    ensures { λ r. ⌜ r ≡ leads (part (now (text .entry)) from to) ⌝ }
-{
-    let n = (to - from) as u8;
-    let mut count: u8 = 0;
-    let mut j: u8 = 0;
-    while j < 16 {
-        let begins = !continues(text[from + j as usize]);
-        count += begins as u8 * ((n + (15 - j)) / 16);
-        j += 1;
-    }
-    count
-}
-
-// The same as `index_from`, for a byte that is most often near behind.
-pub fn index_near(text: &[u8], at: usize, index: u32, to: usize) -> u32
-    requires { ⌜ IndexKnown limit (now text) at index ⌝ }
-    requires { ⌜ to < length (now text) ⌝ }
-    ensures { λ r. ⌜ r ≡ indexOf (now (text .entry)) to ⌝ }
-{
-    if at <= to {
-        if to - at <= 16 {
-            if at + 17 <= text.len() {
-                return index + near_leads(text, at + 1, to + 1) as u32;
-            }
-        }
-    }
-    index_from(text, at, index, to)
+    CharIndex(index.0 - count_leads(&text[asked + 1..known + 1]) as u32)
 }
 
 // The byte by which a pair's end is told, and how much is added to its index.
 pub struct EndByte {
-    pub byte: usize,
+    pub byte: OriginalByte,
     pub more: u32,
 }
 
 // Of an end in a text of `size` bytes: itself, or the byte before it, or the start.
-fn end_byte(size: usize, start: usize, end: usize) -> EndByte
-    requires { ⌜ start < size ⌝ }
-    ensures { λ r. ⌜ EndTold size start end r ⌝ }
+fn end_byte(size: usize, start: OriginalByte, end: OriginalByte) -> EndByte
+    requires { ⌜ start .0 < size ⌝ }
+    ensures { λ r. ⌜ EndTold size (start .0) (end .0) r ⌝ }
 {
-    if end < size {
+    let to = end.0 as usize;
+    if to < size {
         return EndByte { byte: end, more: 0 };
     }
-    if end == size {
+    if to == size {
         return EndByte {
-            byte: end - 1,
+            byte: OriginalByte(end.0 - 1),
             more: 1,
         };
     }
@@ -116,11 +82,17 @@ pub struct Pair {
 }
 
 // One pair of a text whose counts are lent.
-fn convert_pair(text: &[u8], marks: &[Offset], lows: &[u8], start: u32, end: u32) -> Pair
+fn convert_pair(
+    text: &[u8],
+    marks: &[Offset],
+    lows: &[u8],
+    start: OriginalByte,
+    end: OriginalByte,
+) -> Pair
     requires { ⌜ CountsLent limit (now text) (now marks) (now lows) ⌝ }
-    ensures { λ r. ⌜ PairTold (now (text .entry)) start end r ⌝ }
+    ensures { λ r. ⌜ PairTold (now (text .entry)) (start .0) (end .0) r ⌝ }
 {
-    let from = start as usize;
+    let from = start.0 as usize;
     if text.len() <= from {
         return Pair {
             number: 10,
@@ -128,10 +100,10 @@ fn convert_pair(text: &[u8], marks: &[Offset], lows: &[u8], start: u32, end: u32
             end: 0,
         };
     }
-    let last = end_byte(text.len(), from, end as usize);
+    let last = end_byte(text.len(), start, end);
     let to = last.byte;
     let first = count_at(marks, lows, from);
-    let past = count_at(marks, lows, to);
+    let past = count_at(marks, lows, to.0 as usize);
     Pair {
         number: 0,
         start: first,
@@ -158,7 +130,9 @@ fn write_pairs(
 {
     let mut i = 0;
     while i < starts.len() {
-        let pair = convert_pair(text, marks, lows, starts[i], ends[i]);
+        let start = OriginalByte(starts[i]);
+        let end = OriginalByte(ends[i]);
+        let pair = convert_pair(text, marks, lows, start, end);
         numbers[i] = pair.number;
         char_starts[i] = pair.start;
         char_ends[i] = pair.end;
@@ -166,7 +140,7 @@ fn write_pairs(
     }
 }
 
-// The same, by counts of its own. An inner call: text, pairs and room were judged before.
+// The answers of a list of pairs, by counts that it makes. An inner call: text, pairs and room were judged before.
 fn count_and_write(
     text: &[u8],
     starts: &[u32],
@@ -204,15 +178,13 @@ pub fn char_offsets(text: &[u8], start: OriginalByte, end: OriginalByte) -> Char
     if let Verdict::Refused(k) = check_text(text) {
         return CharOffsets::Refused(k);
     }
-    let from = start.0 as usize;
-    if text.len() <= from {
+    if text.len() <= start.0 as usize {
         return CharOffsets::Refused(Refusal::Missing);
     }
-    let last = end_byte(text.len(), from, end.0 as usize);
-    let to = last.byte;
-    let first = index_from(text, 0, 0, from);
-    let past = index_from(text, from, first, to);
-    CharOffsets::Chars(CharIndex(first), CharIndex(past + last.more))
+    let last = end_byte(text.len(), start, end);
+    let first = index_from(text, OriginalByte(0), CharIndex(0), start);
+    let past = index_from(text, start, first, last.byte);
+    CharOffsets::Chars(first, CharIndex(past.0 + last.more))
 }
 
 // A list of pairs (RULES 15.4), in whatever order: for each 0 and its two characters, or the number

@@ -1,12 +1,14 @@
 -- Laws of `packedCode`, and of the bits that numbers have together.
-use Prim.Native.Nat.{ℕ, _+_, _*_, _/_, _%_, _≤_, _<_}
-use mathlib.Core.Path.{_≡_, _∙_, refl}
+use Prim.Native.Nat.{ℕ, zero, suc, _+_, _*_, _/_, _%_, _≤_, _<_}
+use mathlib.Core.Path.{_≡_, _∙_, refl, sym}
 use mathlib.Core.Bool.{true, cond}
 use mathlib.Core.List.{List, [], _∷_}
+use native.Mathlib.Numerals.{add-one}
 use native.Mathlib.Omega.{arith}
 use lib.Bits.{bitOr, or-add-and, and-le-l, and-le-r}
 use lib.Dec.{ltb}
-use lib.ListN.{length, getD, take}
+use lib.ListN.{length, getD, take, drop, drop-of-length-le}
+use lib.Seq.{drop-cons}
 use borrow.Author.Tests.{lt-ltb, le-ltb}
 use Rattle.buffers.specs.Splice.{splice}
 use Rattle.buffers.specs.Over.{Over}
@@ -17,25 +19,42 @@ use Rattle.numbers.specs.LittleEndian.{littleEndian}
 use Rattle.numbers.proofs.LittleEndian.{length-littleEndian}
 use Rattle.utf8.specs.Scalar.{scalar, sixBits, bytesOf}
 use Rattle.utf8.proofs.Scalar.{bytesOf-scalar, encoded-one, encoded-two, encoded-three}
-use Rattle.code_point_blocks.specs.Laying.{packedCode, wordBytes}
+use Rattle.code_point_blocks.specs.Laying.{orAll, packedCode, wordBytes}
 
+or-cons : (bits c : ℕ) (cs : List ℕ) → orAll bits (c ∷ cs) ≡ orAll (bitOr bits c) cs
+unfolding orAll
+or-cons bits c cs = refl
+
+or-nil : (bits : ℕ) → orAll bits [] ≡ bits
+unfolding orAll
+or-nil bits = refl
+
+-- the bits of those before i
 pub record Gathered (codes : List ℕ) (bits i : ℕ) : Type 0 where
-  pub most : (k : ℕ) → k < i → getD codes k 0 ≤ bits
+  pub so-far : orAll bits (drop i codes) ≡ orAll 0 codes
   pub inside : i ≤ length codes
 
 pub none-gathered : {codes : List ℕ} → Gathered codes 0 0
-none-gathered = record { most = λ k h. absurd (omega arith); inside = omega arith }
+none-gathered = record { so-far = refl; inside = omega arith }
 
 pub one-gathered : {codes : List ℕ} {bits i : ℕ} → Gathered codes bits i → i < length codes → Gathered codes (bitOr bits (getD codes i 0)) (i + 1)
 one-gathered {codes} {bits} {i} g h =
-    let c : ℕ = getD codes i 0 in
-    record {
-      most = λ k below.
-          le-or-lt i k
-          (λ top. let last : k ≡ i = omega arith in rw last (omega (arith, or-add-and bits c, and-le-l bits c)))
-          (λ lower. omega (arith, g .most k lower, or-add-and bits c, and-le-r bits c));
-      inside = omega arith;
-    }
+    record { so-far = rw (add-one i, ← or-cons bits (getD codes i 0) (drop (suc i) codes), ← drop-cons codes i 0 h) (g .so-far); inside = omega arith }
+
+pub all-gathered : {codes : List ℕ} {bits i : ℕ} → Gathered codes bits i → length codes ≤ i → bits ≡ orAll 0 codes
+all-gathered {codes} {bits} g past = sym (or-nil bits) ∙ rw (drop-of-length-le codes past) at (g .so-far)
+
+-- none of them is more than all have together
+or-most : (bits : ℕ) (codes : List ℕ) → bits ≤ orAll bits codes
+unfolding orAll
+or-most bits [] = omega arith
+or-most bits (c ∷ cs) = omega (arith, or-most (bitOr bits c) cs, or-add-and bits c, and-le-r bits c)
+
+pub or-each : (bits : ℕ) (codes : List ℕ) (i : ℕ) → i < length codes → getD codes i 0 ≤ orAll bits codes
+unfolding orAll
+or-each bits [] i h = absurd (omega arith)
+or-each bits (c ∷ cs) zero h = omega (arith, or-most (bitOr bits c) cs, or-add-and bits c, and-le-l bits c)
+or-each bits (c ∷ cs) (suc i) h = or-each (bitOr bits c) cs i (omega arith)
 
 pub packed-picked : (c : ℕ) {x y : ℕ} → x ≡ cond (ltb c 0x800) (0x20080C0 + c / 64 % 32 + c % 64 * 256) (0x38080E0 + c / 4096 % 16 + c / 64 % 64 * 256 + c % 64 * 65536) → y ≡ cond (ltb c 0x80) (0x1000000 + c % 128) x → y ≡ packedCode c
 unfolding packedCode

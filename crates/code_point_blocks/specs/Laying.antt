@@ -2,7 +2,8 @@
 use Prim.Native.Nat.{ℕ, _+_, _*_, _/_, _%_, _≤_, _<_}
 use mathlib.Core.Path.{_≡_}
 use mathlib.Core.Bool.{true, cond}
-use mathlib.Core.List.{List, _++_}
+use mathlib.Core.List.{List, [], _∷_, _++_}
+use lib.Bits.{bitOr}
 use lib.Dec.{ltb}
 use lib.ListN.{length, getD}
 use Rattle.buffers.specs.Over.{Over}
@@ -20,12 +21,14 @@ pub record CodesBlockRoom (codes out : List ℕ) (from until : ℕ) : Type 0 whe
   pub free : from + 256 ≤ until
   pub bounded : until ≤ length out
 
--- each of some numbers is below a bound, or at most another number
+-- each of some numbers is below a bound
 abbrev pub EachBelow : List ℕ → ℕ → Type 0
 EachBelow codes n = (i : ℕ) → i < length codes → getD codes i 0 < n
 
-abbrev pub EachMost : List ℕ → ℕ → Type 0
-EachMost codes n = (i : ℕ) → i < length codes → getD codes i 0 ≤ n
+-- the bits of a number and of all the listed ones together
+unfoldable pub orAll : ℕ → List ℕ → ℕ
+orAll bits [] = bits
+orAll bits (c ∷ cs) = orAll (bitOr bits c) cs
 
 -- the bytes of a code point of at most three, the first one lowest, and in the highest byte how many they are
 unfoldable pub packedCode : ℕ → ℕ

@@ -7,11 +7,13 @@ ghost use Prim.Native.Nat.{_+_, _≤_};
 ghost use lib.ListN.{length, getD};
 ghost use Rattle.buffers.specs.Columns.{Filled};
 ghost use Rattle.buffers.specs.Splice.{splice};
-ghost use Rattle.code_point_blocks.specs.Laying.{CodesBlockRoom, EachBelow, EachMost, packedCode, TextLaid, wordBytes};
+ghost use Rattle.code_point_blocks.specs.Laying.{CodesBlockRoom, EachBelow, TextLaid};
+ghost use Rattle.code_point_blocks.specs.Laying.{orAll, packedCode, wordBytes};
 
-// A number that each of them is at most, and that is below each power of two that all are below.
+// The bits of all code points together: each code point is at most that, and a power of two that all are below is above
+// it.
 pub fn or_all(codes: &[u32]) -> u32
-    ensures { λ r. ⌜ EachMost (now (codes .entry)) r ⌝ }
+    ensures { λ r. ⌜ r ≡ orAll 0 (now (codes .entry)) ⌝ }
 {
     let mut bits: u32 = 0;
     let mut i = 0;

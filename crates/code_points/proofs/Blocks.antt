@@ -13,9 +13,10 @@ use Rattle.buffers.proofs.Splice.{length-part, part-end}
 use Rattle.buffers.proofs.Over.{over-exact}
 use Rattle.utf8.specs.Scalar.{lenUtf8}
 use Rattle.code_point_blocks.specs.Codes.{textOf, allScalar}
-use Rattle.code_point_blocks.specs.Laying.{TextLaid, CodesBlockRoom, EachBelow, EachMost}
+use Rattle.code_point_blocks.specs.Laying.{TextLaid, CodesBlockRoom, EachBelow, orAll}
 use Rattle.code_points.specs.Laying.{TextRoom}
 use Rattle.code_point_blocks.proofs.Codes.{length-text, scalar-block, text-ascii}
+use Rattle.code_point_blocks.proofs.Packing.{or-each}
 use Rattle.code_point_blocks.proofs.Parts.{parts-size}
 use Rattle.code_point_blocks.proofs.Texts.{Texts, no-text, next-size, some-characters}
 
@@ -35,8 +36,8 @@ module _ {codes out₀ : List ℕ} {from until : ℕ} (r : CodesBlockRoom codes 
   pub singly-room : TextRoom codes out₀ from until
   singly-room = record { room = omega (arith, length-text codes, r .many, r .free, r .bounded); bounded = r .bounded }
 
-  pub each-below : {most : ℕ} (n : ℕ) → EachMost codes most → most < n → EachBelow codes n
-  each-below n e h i below = omega (arith, e i below)
+  pub each-below : {most : ℕ} (n : ℕ) → most ≡ orAll 0 codes → most < n → EachBelow codes n
+  each-below n e h i below = omega (arith, e, or-each 0 codes i below)
 
   pub ascii-laid : {out : List ℕ} → EachBelow codes 0x80 → out ≡ splice out₀ from codes → TextLaid codes out₀ from until (from + 64) out
   ascii-laid small is =

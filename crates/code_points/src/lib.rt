@@ -1,10 +1,10 @@
 // Code points: judged, measured, and their bytes laid down.
 use buffers::copy_bytes;
-use code_point_blocks::lay_text_block;
 use code_point_blocks::lay_ascii;
+use code_point_blocks::lay_text_block;
 use code_point_blocks::or_all;
-use utf8::lead::len_utf8;
 use utf8::encode_utf8;
+use utf8::lead::len_utf8;
 ghost use mathlib.Core.Path.{_≡_};
 ghost use mathlib.Core.Bool.{true};
 ghost use Prim.Native.Nat.{_+_, _≤_};
@@ -22,7 +22,7 @@ pub struct Judged {
     pub size: usize,
 }
 
-// The same of no more numbers than a 32-bit sum has room for: the loop has no way out inside, so that it is vectorised.
+// Both of no more numbers than a 32-bit sum has room for: the loop has no way out inside, so that it is vectorised.
 pub fn judge_block(codes: &[u32]) -> Judged
     requires { ⌜ length (now codes) ≤ 0x10000 ⌝ }
     ensures { λ r. ⌜ JudgedAs (now (codes .entry)) r ⌝ }

@@ -130,14 +130,18 @@ module _ (s : List ℕ) (a b c : ℕ) (z counts : List ℕ) (w : Filled (runAt s
   counted k x y v h p q r = rw (← p, ← q, ← r) (w .within k (omega arith) h)
 
 -- a block of starts, and one of ends, from `at` on
-pub block-starts : (s : List ℕ) (i n : ℕ) (z counts d₀ d : List ℕ) (at : ℕ) → wellFormed s ≡ true → 2 ≤ i → i + n ≤ length s → length z ≡ n → Filled (runAt s i (i - 1) (i - 2)) z 0 (length z) counts → Filled (λ k. i + (k - at) - getD counts (k - at) 0) d₀ at (at + length counts) d → Filled (λ k. charStart s (i + (k - at))) d₀ at (at + n) d
+pub block-starts : (s : List ℕ) (i n : ℕ) (z counts d₀ d : List ℕ) (at : ℕ) → wellFormed s ≡ true → 2 ≤ i → i + n ≤ length s → length z ≡ n
+    → Filled (runAt s i (i - 1) (i - 2)) z 0 (length z) counts → Filled (λ k. i + (k - at) - getD counts (k - at) 0) d₀ at (at + length counts) d
+    → Filled (λ k. charStart s (i + (k - at))) d₀ at (at + n) d
 block-starts s i n z counts d₀ d at p low room long w made =
     filled-as _ (λ k. charStart s (i + (k - at))) d₀ at (at + n) d (filled-at _ d₀ at (at + length counts) at (at + n) d made refl (omega (arith, w .same)))
     (λ k from to.
     let count = counted s i (i - 1) (i - 2) z counts w (k - at) (i + (k - at)) (i + (k - at) - 1) (i + (k - at) - 2) (omega arith) (omega arith) (omega arith) (omega arith) in
     omega (arith, count, start-back s (i + (k - at)) p (omega arith) (omega arith)))
 
-pub block-ends : (s : List ℕ) (i n : ℕ) (z counts d₀ d : List ℕ) (at : ℕ) → wellFormed s ≡ true → i + n ≤ length s → length z ≡ n → Filled (runAt s (i + 1) (i + 2) (i + 3)) z 0 (length z) counts → Filled (λ k. i + (k - at) + 1 + getD counts (k - at) 0) d₀ at (at + length counts) d → Filled (λ k. charEnd s (i + (k - at))) d₀ at (at + n) d
+pub block-ends : (s : List ℕ) (i n : ℕ) (z counts d₀ d : List ℕ) (at : ℕ) → wellFormed s ≡ true → i + n ≤ length s → length z ≡ n
+    → Filled (runAt s (i + 1) (i + 2) (i + 3)) z 0 (length z) counts
+    → Filled (λ k. i + (k - at) + 1 + getD counts (k - at) 0) d₀ at (at + length counts) d → Filled (λ k. charEnd s (i + (k - at))) d₀ at (at + n) d
 block-ends s i n z counts d₀ d at p room long w made =
     filled-as _ (λ k. charEnd s (i + (k - at))) d₀ at (at + n) d (filled-at _ d₀ at (at + length counts) at (at + n) d made refl (omega (arith, w .same)))
     (λ k from to.

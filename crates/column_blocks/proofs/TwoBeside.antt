@@ -76,7 +76,9 @@ steps-most {steps = steps} m long w below k =
 
 -- a block, by its steps
 module _ (s : List ℕ) (p : wellFormed s ≡ true) (low : largest s < 0xF0) (i : ℕ) (l : ℕ) (at : ℕ) (d₀ d z steps : List ℕ) where
-  pub pairs-starts : 2 ≤ i → i + 67 ≤ length s → l ≤ i - 2 → Filled (λ k. l + k + 2 - continuationRun (getD (part s i (i + 64)) k 0) (getD (part s (i - 1) (i + 63)) k 0) 0) z 0 64 steps → Filled (λ k. i - 2 - l + getD steps (k - at) 0) d₀ at (at + 64) d → Filled (λ k. charStart s (i + (k - at))) d₀ at (at + 64) d
+  pub pairs-starts : 2 ≤ i → i + 67 ≤ length s → l ≤ i - 2
+      → Filled (λ k. l + k + 2 - continuationRun (getD (part s i (i + 64)) k 0) (getD (part s (i - 1) (i + 63)) k 0) 0) z 0 64 steps
+      → Filled (λ k. i - 2 - l + getD steps (k - at) 0) d₀ at (at + 64) d → Filled (λ k. charStart s (i + (k - at))) d₀ at (at + 64) d
   pairs-starts some room few w made =
       filled-as _ (λ k. charStart s (i + (k - at))) d₀ at (at + 64) d made
       (λ k from to.
@@ -86,7 +88,9 @@ module _ (s : List ℕ) (p : wellFormed s ≡ true) (low : largest s < 0xF0) (i 
       let back : getD (part s (i - 1) (i + 63)) j 0 ≡ getD s (i + j - 1) 0 = let is : i - 1 + j ≡ i + j - 1 = omega arith in rw is at (part-index s (i - 1) (i + 63) j (omega arith)) in
       omega (arith, rw (here, back) at step, pair-small (getD s (i + j) 0) (getD s (i + j - 1) 0), pair-back s p low (i + j) (omega arith) (omega arith)))
 
-  pub pairs-ends : 2 ≤ i → i + 67 ≤ length s → l ≤ i - 2 → Filled (λ k. l + k + 3 + continuationRun (getD (part s (i + 1) (i + 65)) k 0) (getD (part s (i + 2) (i + 66)) k 0) 0) z 0 64 steps → Filled (λ k. i - 2 - l + getD steps (k - at) 0) d₀ at (at + 64) d → Filled (λ k. charEnd s (i + (k - at))) d₀ at (at + 64) d
+  pub pairs-ends : 2 ≤ i → i + 67 ≤ length s → l ≤ i - 2
+      → Filled (λ k. l + k + 3 + continuationRun (getD (part s (i + 1) (i + 65)) k 0) (getD (part s (i + 2) (i + 66)) k 0) 0) z 0 64 steps
+      → Filled (λ k. i - 2 - l + getD steps (k - at) 0) d₀ at (at + 64) d → Filled (λ k. charEnd s (i + (k - at))) d₀ at (at + 64) d
   pairs-ends some room few w made =
       filled-as _ (λ k. charEnd s (i + (k - at))) d₀ at (at + 64) d made
       (λ k from to.

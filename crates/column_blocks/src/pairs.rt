@@ -25,7 +25,8 @@ fn begun(a: u8, b: u8) -> u8
 // For each of 64 indices `low` and the index, and two less what continues a character at it in `a` and then in `b`.
 fn count_back(a: &[u8], b: &[u8], low: u8, steps: &mut [u8])
     requires { ⌜ (64 ≤ length (now a)) × (64 ≤ length (now b)) × (64 ≤ length (now steps)) × (low < 64) ⌝ }
-    ensures { λ _. ⌜ Filled (λ k. low + k + 2 - continuationRun (getD (now (a .entry)) k 0) (getD (now (b .entry)) k 0) 0)
+    ensures { λ _. ⌜ Filled
+        (λ k. low + k + 2 - continuationRun (getD (now (a .entry)) k 0) (getD (now (b .entry)) k 0) 0)
         (now (steps .entry)) 0 64 (now (steps .exit)) ⌝ }
 {
     let mut j: u8 = 0;
@@ -36,10 +37,12 @@ fn count_back(a: &[u8], b: &[u8], low: u8, steps: &mut [u8])
     }
 }
 
-// The same with three, and what continues a character more.
+// For each of 64 indices `low` and the index, and three more than what continues a character at it in `a` and then in
+// `b`.
 fn count_ahead(a: &[u8], b: &[u8], low: u8, steps: &mut [u8])
     requires { ⌜ (64 ≤ length (now a)) × (64 ≤ length (now b)) × (64 ≤ length (now steps)) × (low < 64) ⌝ }
-    ensures { λ _. ⌜ Filled (λ k. low + k + 3 + continuationRun (getD (now (a .entry)) k 0) (getD (now (b .entry)) k 0) 0)
+    ensures { λ _. ⌜ Filled
+        (λ k. low + k + 3 + continuationRun (getD (now (a .entry)) k 0) (getD (now (b .entry)) k 0) 0)
         (now (steps .entry)) 0 64 (now (steps .exit)) ⌝ }
 {
     let mut j: u8 = 0;

@@ -12,7 +12,7 @@ use Rattle.note.specs.declared.Refusal.{Refusal}
 use Rattle.note.specs.declared.Refusal.the-variants.{Missing, Misaligned}
 use Rattle.note.specs.declared.Verdict.{Verdict}
 use Rattle.note.specs.declared.Verdict.the-variants.{Accepted, Refused as Rejected}
-use Rattle.note.specs.Refusals.{none, meets, verdict}
+use Rattle.note.specs.Refusals.{none, meets, verdict, unlessRefused}
 use Rattle.note.specs.Notes.{Note, fits, Sound}
 use Rattle.note.specs.Faults.{noteFaults}
 use Rattle.note.specs.Rank.{upTo}
@@ -25,12 +25,12 @@ use Rattle.convert.specs.declared.Converted.{Converted}
 use Rattle.convert.specs.declared.Converted.the-variants.{Found, Refused}
 use Rattle.convert.specs.declared.Places.{Places}
 use Rattle.convert.specs.declared.Places.the-variants.{Neither, Last, Both}
-use Rattle.convert.specs.Converting.{expanded, walked, spanned, toOriginal, toNormalized, converted, missing, unlessRefused, answered}
+use Rattle.convert.specs.Converting.{expanded, walked, spanned, toOriginal, toNormalized, converted, missing, answered}
 use Rattle.convert.specs.Blocks.{OrderedColumns}
 
 -- an answer that has no refusal but `Missing`
 abbrev pub MissingOnly : Converted → Type 0
-MissingOnly answer = answer ≡ unlessRefused (cond (missing answer) (Rejected Missing) Accepted) answer
+MissingOnly answer = answer ≡ unlessRefused Refused (cond (missing answer) (Rejected Missing) Accepted) answer
 
 pub found-or-missing : (t : Bool) (range : Range) → MissingOnly (cond t (Found range) (Refused Missing))
 found-or-missing true range = refl
@@ -61,13 +61,13 @@ module _ (most : ℕ) (n : Note) (answer : Converted) {v : Verdict} (e : v ≡ v
   pub answered-refused : {k : Refusal} → v ≡ Rejected k → Refused k ≡ answered most n answer
   unfolding answered
   answered-refused is =
-      ap (λ (w : Verdict). unlessRefused w answer) (refused-then (upTo Misaligned) (noteFaults most n) (meets Missing (missing answer) none) refl refl e is)
+      ap (λ (w : Verdict). unlessRefused Refused w answer) (refused-then (upTo Misaligned) (noteFaults most n) (meets Missing (missing answer) none) refl refl e is)
 
   pub answered-accepted : v ≡ Accepted → MissingOnly answer → answer ≡ answered most n answer
   unfolding answered
   answered-accepted is only =
       only
-      ∙ ap (λ (w : Verdict). unlessRefused w answer)
+      ∙ ap (λ (w : Verdict). unlessRefused Refused w answer)
       (accepted-then (upTo Misaligned) (noteFaults most n) (meets Missing (missing answer) none) refl refl e is (missing-verdict (missing answer)))
 
 pub accepted-columns : (most : ℕ) (n : Note) → verdict (noteFaults most n) ≡ Accepted → OrderedColumns most (n .starts) (n .ends)

@@ -10,7 +10,7 @@ use lib.ListN.{length, getD}
 use borrow.Author.Tests.{eqb-true, eqb-false, ltb-false, leb-true}
 use Rattle.buffers.proofs.Cases.{le-or-lt, true-or-false, clash}
 use Rattle.utf8.specs.Formed.{continues, boundary}
-use Rattle.utf8.proofs.Boundaries.{boundary-at, boundary-zero, boundary-length}
+use Rattle.utf8.proofs.Boundaries.{boundary-at, boundary-zero, boundary-length, Between, between-char-range}
 use Rattle.note.specs.Notes.{Note, startAt, endAt, Sound}
 use Rattle.note.proofs.Faults.{accepted-sound}
 use Rattle.note.proofs.Sound.{length-starts, length-ends, normalized-formed, inside-at, boundaries-at, shared-at, starts-forward}
@@ -18,7 +18,7 @@ use Rattle.convert.specs.declared.Range.{Range}
 use Rattle.convert.specs.declared.Range.the-variants.{Original, Normalized}
 use Rattle.convert.specs.Converting.{inOriginal, canBeFirst, expanded, toOriginal, toNormalized, converted, convertOffsets}
 use Rattle.convert.specs.Leading.{leading, Qualifies, First}
-use Rattle.convert.specs.Inside.{Lies, Outcome, ConvertedInside}
+use Rattle.convert.specs.Inside.{Outcome, ConvertedInside}
 use Rattle.convert.proofs.Answered.{answered-accepted, converted-missing}
 use Rattle.convert.proofs.Leading.{leading-most, leading-within, leading-past, begins-qualifies, qualifies-begins, converted-by-leading}
 
@@ -75,26 +75,20 @@ module _ (n : Note) (sound : Sound n) where
       (λ none. rw (by .none-leads (omega arith)) refl)
       (λ leads.
       first-or-none (n .starts) (n .ends) a k
-      (λ i w. rw (by .from-first i w) (inr (record {
-        forward = omega (arith, w .below);
-        inside = most;
-        from-boundary = first-boundary n sound a b i w (omega (arith, w .below));
-        to-boundary = last-boundary n sound a b leads;
-      })))
-      (λ never. rw (by .no-first leads never) (inr (record {
-        forward = omega arith;
-        inside = most;
-        from-boundary = last-boundary n sound a b leads;
-        to-boundary = last-boundary n sound a b leads;
-      }))))
+      (λ i w.
+      let start : boundary (n .normalized) i ≡ true = first-boundary n sound a b i w (omega (arith, w .below)) in
+      rw (by .from-first i w) (inr (between-char-range (n .normalized) i k (omega (arith, w .below)) start (last-boundary n sound a b leads))))
+      (λ never.
+      let last : boundary (n .normalized) k ≡ true = last-boundary n sound a b leads in
+      rw (by .no-first leads never) (inr (between-char-range (n .normalized) k k (omega arith) last last))))
 
-  pub expanded-inside : (a b : ℕ) → a < b → b ≤ length (n .ends) → Lies (n .original) (startAt n a) (endAt n (b - 1))
+  pub expanded-inside : (a b : ℕ) → a < b → b ≤ length (n .ends) → Between (n .original) (startAt n a) (endAt n (b - 1))
   expanded-inside a b h most =
       let first : a < length (n .normalized) = omega (arith, length-ends n sound) in
       let last : b - 1 < length (n .normalized) = omega (arith, length-ends n sound) in
       let at : a + (b - 1 - a) ≡ b - 1 = omega arith in
       record {
-        forward = omega (arith, rw at at (starts-forward n sound a (b - 1 - a) (omega arith)), inside-at n sound (b - 1) last .0);
+        onward = omega (arith, rw at at (starts-forward n sound a (b - 1 - a) (omega arith)), inside-at n sound (b - 1) last .0);
         inside = inside-at n sound (b - 1) last .1;
         from-boundary = boundaries-at n sound a first .0;
         to-boundary = boundaries-at n sound (b - 1) last .1;
@@ -114,7 +108,10 @@ module _ (n : Note) (sound : Sound n) where
       (λ f. true-or-false (ltb (b .0) (a .0))
       (λ t. rw (f, t) refl)
       (λ g. true-or-false (leb (b .0) (length (n .ends)))
-      (λ t. rw (f, g, t) (inr (expanded-inside (a .0) (b .0) (omega (arith, eqb-false (a .0) (b .0) f, ltb-false (b .0) (a .0) g)) (leb-true _ _ t))))
+      (λ t.
+      let some : a .0 < b .0 = omega (arith, eqb-false (a .0) (b .0) f, ltb-false (b .0) (a .0) g) in
+      let lies : Between (n .original) (startAt n (a .0)) (endAt n (b .0 - 1)) = expanded-inside (a .0) (b .0) some (leb-true _ _ t) in
+      rw (f, g, t) (inr (between-char-range _ _ _ (lies .onward) (lies .from-boundary) (lies .to-boundary))))
       (λ k. rw (f, g, k) refl)))
 
 pub converted-inside : ConvertedInside

@@ -8,7 +8,7 @@ use lib.ListN.{length, getD}
 use borrow.Author.Tests.{le-leb, le-ltb, eq-eqb, ne-eqb}
 use Rattle.buffers.proofs.Cases.{le-or-lt, clash}
 use Rattle.utf8.specs.Formed.{wellFormed, continues, boundary}
-use Rattle.utf8.proofs.Boundaries.{boundary-most, boundary-begins}
+use Rattle.utf8.proofs.Boundaries.{boundary-most, boundary-begins, Between, char-range-between}
 use Rattle.note.specs.Notes.{startAt, endAt}
 use Rattle.utf8.specs.CharRanges.{charStart, charEnd}
 use Rattle.note.specs.Starting.{starting}
@@ -88,6 +88,7 @@ module _ (s : List ℕ) (p : wellFormed s ≡ true) where
 
 pub converted-itself : ConvertedItself
 unfolding convertOffsets
-converted-itself most s p h range at-a at-b on =
+converted-itself most s p h range lies =
+    let between : Between s (startOf range) (endOf range) = char-range-between s (startOf range) (endOf range) lies in
     sym (answered-accepted most (starting s) _ refl (starting-accepted most s p h) (converted-missing _ _ range))
-    ∙ itself s p range at-a at-b on
+    ∙ itself s p range (between .from-boundary) (between .to-boundary) (between .onward)

@@ -69,7 +69,9 @@ pub none-walked : {starts ends : List ℕ} {from to : ℕ} → Walk starts ends 
 unfolding walked
 none-walked = record { most = omega arith; same = refl }
 
-one-walked : {most : ℕ} {starts ends : List ℕ} {from to : ℕ} {found next : Places} {i : ℕ} → OrderedColumns most starts ends → Walk starts ends from to found i → i < length ends → getD ends i 0 ≤ to → next ≡ placesAfter from i (getD starts i 0) (getD ends i 0) found → Walk starts ends from to next (i + 1)
+one-walked : {most : ℕ} {starts ends : List ℕ} {from to : ℕ} {found next : Places} {i : ℕ} → OrderedColumns most starts ends
+    → Walk starts ends from to found i → i < length ends → getD ends i 0 ≤ to → next ≡ placesAfter from i (getD starts i 0) (getD ends i 0) found
+    → Walk starts ends from to next (i + 1)
 unfolding walkFrom
 one-walked {starts = starts} {ends = ends} {i = i} k w more inside is =
     record {

@@ -7,11 +7,8 @@ use lib.Dec.{leb, ltb, eqb}
 use lib.ListN.{length, getD}
 use Rattle.note.specs.declared.OriginalByte.{OriginalByte}
 use Rattle.note.specs.declared.NormalizedByte.{NormalizedByte}
-use Rattle.note.specs.declared.Refusal.{Refusal}
 use Rattle.note.specs.declared.Refusal.the-variants.{Missing}
-use Rattle.note.specs.declared.Verdict.{Verdict}
-use Rattle.note.specs.declared.Verdict.the-variants.{Accepted, Refused as Rejected}
-use Rattle.note.specs.Refusals.{numberOf, none, meets, also, verdict}
+use Rattle.note.specs.Refusals.{numberOf, none, meets, also, verdict, unlessRefused}
 use Rattle.note.specs.Notes.{Note}
 use Rattle.note.specs.Faults.{noteFaults}
 use Rattle.convert.specs.declared.OffsetReferential.{OffsetReferential}
@@ -124,15 +121,9 @@ abbrev pub missing : Converted → Bool
 missing (Found range) = false
 missing (Refused k) = true
 
-abbrev pub rangeFaults : ℕ → Note → Converted → Refusal → Bool
-rangeFaults most n answer = also (noteFaults most n) (meets Missing (missing answer) none)
-
-abbrev pub unlessRefused : Verdict → Converted → Converted
-unlessRefused Accepted answer = answer
-unlessRefused (Rejected k) answer = Refused k
-
 unfoldable pub answered : ℕ → Note → Converted → Converted
-answered most n answer = unlessRefused (verdict (rangeFaults most n answer)) answer
+answered most n answer =
+    unlessRefused Refused (verdict (also (noteFaults most n) (meets Missing (missing answer) none))) answer
 
 unfoldable pub convertOffsets : ℕ → Note → Range → Converted
 convertOffsets most n range = answered most n (converted (n .starts) (n .ends) range)

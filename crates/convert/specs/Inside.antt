@@ -5,7 +5,7 @@ use mathlib.Core.Bool.{true}
 use mathlib.Core.List.{List}
 use mathlib.Core.Logic.{_⊎_}
 use lib.ListN.{length}
-use Rattle.utf8.specs.Formed.{wellFormed, boundary}
+use Rattle.utf8.specs.Formed.{wellFormed, charRange}
 use Rattle.note.specs.declared.Refusal.the-variants.{Missing}
 use Rattle.note.specs.declared.Verdict.the-variants.{Accepted}
 use Rattle.note.specs.Refusals.{verdict}
@@ -18,20 +18,13 @@ use Rattle.convert.specs.declared.Converted.{Converted}
 use Rattle.convert.specs.declared.Converted.the-variants.{Found, Refused}
 use Rattle.convert.specs.Converting.{inOriginal, inNormalized, startOf, endOf, convertOffsets}
 
--- a..b lies inside the text s, from a boundary of it to a boundary of it
-pub record Lies (s : List ℕ) (a b : ℕ) : Type 0 where
-  pub forward : a ≤ b
-  pub inside : b ≤ length s
-  pub from-boundary : boundary s a ≡ true
-  pub to-boundary : boundary s b ≡ true
-
--- a range of the cleaned text that lies inside it, and one of the transcript
+-- a range that lies inside the cleaned text, from a boundary of it to a boundary of it; and one inside the transcript
 abbrev pub LiesNormalized : Note → Range → Type 0
 LiesNormalized n (Original a b) = ⊥
-LiesNormalized n (Normalized a b) = Lies (n .normalized) (a .0) (b .0)
+LiesNormalized n (Normalized a b) = charRange (n .normalized) (a .0) (b .0) ≡ true
 
 abbrev pub LiesOriginal : Note → Range → Type 0
-LiesOriginal n (Original a b) = Lies (n .original) (a .0) (b .0)
+LiesOriginal n (Original a b) = charRange (n .original) (a .0) (b .0) ≡ true
 LiesOriginal n (Normalized a b) = ⊥
 
 abbrev pub LiesInOther : Note → Range → Range → Type 0
@@ -59,5 +52,5 @@ ConvertedInside =
 abbrev pub ConvertedItself : Type 0
 ConvertedItself =
     (most : ℕ) (s : List ℕ) → wellFormed s ≡ true → length s ≤ most → (range : Range)
-    → boundary s (startOf range) ≡ true → boundary s (endOf range) ≡ true → startOf range ≤ endOf range
+    → charRange s (startOf range) (endOf range) ≡ true
     → convertOffsets most (starting s) range ≡ Found (unconverted range)

@@ -8,11 +8,12 @@ use note::Verdict;
 use note::rewrap::same_in_normalized;
 use note::rewrap::same_in_original;
 ghost use mathlib.Core.Path.{_≡_};
-ghost use Prim.Native.Nat.{_≤_, _<_, _-_};
+ghost use Prim.Native.Nat.{_≤_, _<_};
 ghost use lib.ListN.{length, getD};
 ghost use Rattle.note.specs.Notes.{lent, limit};
 ghost use Rattle.convert.specs.Converting.{asNormalized, asOriginal, converted, convertOffsets, endOf, expanded};
-ghost use Rattle.convert.specs.Converting.{firstPlaces, placesAfter, rangeOf, startOf, toNormalized, toOriginal, walked};
+ghost use Rattle.convert.specs.Converting.{firstPlaces, placesAfter, rangeOf, startOf, toNormalized};
+ghost use Rattle.convert.specs.Converting.{toOriginal, walked};
 ghost use Rattle.convert.specs.Blocks.{Block, OrderedColumns, settled};
 
 // The text that numbers are of (Rust: `OffsetReferential`).
@@ -119,7 +120,8 @@ fn block_last(
     from: u32,
     to: u32,
 ) -> usize
-    requires { ⌜ (OrderedColumns limit (now starts) (now ends)) × (i < length (now ends)) × (getD (now ends) i 0 ≤ to) ⌝ }
+    requires { ⌜ (OrderedColumns limit (now starts) (now ends)) × (i < length (now ends))
+        × (getD (now ends) i 0 ≤ to) ⌝ }
     ensures { λ r. ⌜ Block (now (starts .entry)) (now (ends .entry)) from to found i r ⌝ }
 {
     if ends.len() - i < 64 {

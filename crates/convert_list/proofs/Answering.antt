@@ -154,7 +154,9 @@ module _ {answers : ℕ → Converted} {from to z s₀ e₀ m s e : List ℕ} {i
       }
 
   -- a block by two reads each
-  pub block-answered : (starts ends : List ℕ) → {s₁ e₁ : List ℕ} → ((k : ℕ) → i ≤ k → k < past → Found (inOriginal (getD starts (getD from k 0) 0) (getD ends (getD to k 0 - 1) 0)) ≡ answers k) → BlockRead starts ends (part from i past) (part to i past) i s e s₁ e₁ → AnsweredBetween answers i past m s e m s₁ e₁
+  pub block-answered : (starts ends : List ℕ) → {s₁ e₁ : List ℕ}
+      → ((k : ℕ) → i ≤ k → k < past → Found (inOriginal (getD starts (getD from k 0) 0) (getD ends (getD to k 0 - 1) 0)) ≡ answers k)
+      → BlockRead starts ends (part from i past) (part to i past) i s e s₁ e₁ → AnsweredBetween answers i past m s e m s₁ e₁
   block-answered starts ends {s₁} {e₁} is w =
       let long : i + length (part from i past) ≡ past = omega (arith, length-part from i past inside) in
       record {

@@ -15,7 +15,7 @@ use Rattle.note.specs.Notes.{Note}
 use Rattle.note.specs.Faults.{noteFaults, roomFaults, lengthFaults}
 use Rattle.note.specs.Rank.{upTo}
 use Rattle.note.proofs.FirstMet.{refused-then, accepted-then}
-use Rattle.note.proofs.Uneven.{beside-list, input-accepted}
+use Rattle.note.proofs.LengthFaults.{beside-list, input-accepted}
 use Rattle.note.proofs.Faults.{no-room, enough-room}
 use Rattle.convert.specs.declared.OffsetReferential.{OffsetReferential}
 use Rattle.convert.specs.Converting.{converted, convertOffsets}

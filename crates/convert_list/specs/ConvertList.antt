@@ -1,11 +1,9 @@
 -- RULES 15.3: converting a list of ranges over one note, each as the single call answers it; the note is checked once.
 use Prim.Native.Nat.{ℕ}
 use mathlib.Core.Path.{_≡_}
-use mathlib.Core.Bool.{Bool}
 use mathlib.Core.List.{List}
 use lib.ListN.{length, getD}
 use Rattle.buffers.specs.Columns.{column}
-use Rattle.note.specs.declared.Refusal.{Refusal}
 use Rattle.note.specs.declared.Verdict.{Verdict}
 use Rattle.note.specs.Refusals.{also, verdict, least, after}
 use Rattle.note.specs.Notes.{Note}
@@ -20,14 +18,11 @@ unfoldable pub answerAt : (Range → Converted) → OffsetReferential → List �
 answerAt answer side from to i = answer (rangeOf side (getD from i 0) (getD to i 0))
 
 -- the note's refusals, beside them a list that has not as many ends as starts; then the room for one answer a range
-abbrev pub convertListFaults : ℕ → Note → List ℕ → List ℕ → ℕ → Refusal → Bool
-convertListFaults most n from to room =
-    also (also (noteFaults most n) (lengthFaults from to)) (roomFaults (length from) room)
-
 -- the note, the ranges, the lent columns before, the answer, the lent columns after
 pub record ConvertedList (most : ℕ) (n : Note) (side : OffsetReferential) (from to numbers₀ starts₀ ends₀ : List ℕ)
     (r : Verdict) (numbers starts ends : List ℕ) : Type 0 where
-  pub answer : r ≡ verdict (convertListFaults most n from to (least (length numbers₀) (length starts₀) (length ends₀)))
+  pub answer : r ≡ verdict (also (also (noteFaults most n) (lengthFaults from to))
+      (roomFaults (length from) (least (length numbers₀) (length starts₀) (length ends₀))))
   pub numbers-are : numbers
       ≡ after r (column (length from) (λ i. numberIn (answerAt (convertOffsets most n) side from to i))) numbers₀
   pub starts-are : starts

@@ -23,7 +23,7 @@ use Rattle.buffers.specs.Keeping.{KeepRoom, PartKept}
 use Rattle.edit_steps.specs.Laying.{Reached, Room, CommandLaid, Below, CommandOver, CommandsRoom, CommandsLaid, EditRoom, EditLaid}
 use Rattle.edit_steps.proofs.Positions.{feeds, standing-moved, stepped-fed}
 
--- what a command carriedValue
+-- what a command carries
 pub carries-added : (xs : List ℕ) (p : ℕ) (c : Command) {v : ℕ} → c .added ≡ true → v ≡ beforeEnd xs p → v ≡ carriedValue xs p c
 unfolding carriedValue
 carries-added xs p c e is = is ∙ rw e
@@ -41,7 +41,10 @@ carried-wide xs p c = length-replicate (lenUtf8 (c .character)) (carriedValue xs
 
 -- one command, laid down
 module _ (starts ends : List ℕ) (g : Progress) (c : Command) {size x y : ℕ} (wide : size ≡ lenUtf8 (c .character)) where
-  pub command-over : (until : ℕ) {out₀ starts₀ ends₀ out starts₁ ends₁ : List ℕ} → Over (bytesOf (c .character)) out₀ (g .written) until out → x ≡ carriedValue starts (g .position) c → y ≡ carriedValue ends (g .position) c → Over (replicate size x) starts₀ (g .written) until starts₁ → Over (replicate size y) ends₀ (g .written) until ends₁ → CommandOver starts ends g c out₀ starts₀ ends₀ until out starts₁ ends₁
+  pub command-over : (until : ℕ) {out₀ starts₀ ends₀ out starts₁ ends₁ : List ℕ} → Over (bytesOf (c .character)) out₀ (g .written) until out
+      → x ≡ carriedValue starts (g .position .0) c → y ≡ carriedValue ends (g .position .0) c
+      → Over (replicate size x) starts₀ (g .written) until starts₁ → Over (replicate size y) ends₀ (g .written) until ends₁
+      → CommandOver starts ends g c out₀ starts₀ ends₀ until out starts₁ ends₁
   command-over until l sx sy ps pe = record { text-over = l; starts-over = rw (wide, sx) at ps; ends-over = rw (wide, sy) at pe }
 
 -- all commands
@@ -76,13 +79,13 @@ reached {s} {xs} {b} {p} {c} same at f =
       found = λ u. omega (arith, feeds b p c f u, boundary-most s b (at .ends));
     }
 
--- what a column has produced into d, up to the commands that are left
+-- what commands have laid of a column into d, up to the commands that are left
 abbrev Column : (ℕ → Command → List ℕ) → List ℕ → ℕ → ℕ → List Command → ℕ → Progress → List Command → List ℕ → List ℕ → Type 0
 Column piece s b p all at g rest d₀ d =
-    Reaching (take at d₀ ++ produced piece s b p all) (produced piece s b (g .position) rest) d₀ (g .written) d
+    Reaching (take at d₀ ++ produced piece s b p all) (produced piece s b (g .position .0) rest) d₀ (g .written) d
 
 module _ (piece : ℕ → Command → List ℕ) (wide : (p : ℕ) (c : Command) → length (piece p c) ≡ lenUtf8 (c .character)) (s : List ℕ) (b p : ℕ) (all : List Command) (at : ℕ) where
-  column-none : {d₀ : List ℕ} → at + commandsSize all ≤ length d₀ → Column piece s b p all at (record { position = p; written = at; starved = false }) all d₀ d₀
+  column-none : {d₀ : List ℕ} → at + commandsSize all ≤ length d₀ → Column piece s b p all at (record { position = record { 0 = p }; written = at; starved = false }) all d₀ d₀
   column-none h = record { so-far = refl; beyond = refl; room = omega (arith, length-given piece wide s b p all); same = refl }
 
   module _ (g : Progress) (rest : List Command) {d₀ d : List ℕ} (k : Column piece s b p all at g rest d₀ d) where
@@ -90,15 +93,17 @@ module _ (piece : ℕ → Command → List ℕ) (wide : (p : ℕ) (c : Command) 
       column-room : g .written + lenUtf8 (c .character) ≤ length d
       unfolding produced
       column-room =
-          let room : g .written + length (piece (g .position) c ++ produced piece s b (moved s b (g .position) c) others) ≤ length d = rw next at (k .room) in
-          omega (arith, length-append (piece (g .position) c) (produced piece s b (moved s b (g .position) c) others), wide (g .position) c)
+          let room : g .written + length (piece (g .position .0) c ++ produced piece s b (moved s b (g .position .0) c) others) ≤ length d = rw next at (k .room) in
+          omega (arith, length-append (piece (g .position .0) c) (produced piece s b (moved s b (g .position .0) c) others), wide (g .position .0) c)
 
-      column-next : {d₁ : List ℕ} {until : ℕ} → at ≤ length d₀ → until ≤ at + commandsSize all → Over (piece (g .position) c) d (g .written) until d₁ → Column piece s b p all at (record { position = moved s b (g .position) c; written = g .written + lenUtf8 (c .character); starved = false }) others d₀ d₁
+      column-next : {d₁ : List ℕ} {until : ℕ} → at ≤ length d₀ → until ≤ at + commandsSize all
+          → Over (piece (g .position .0) c) d (g .written) until d₁
+          → Column piece s b p all at (record { position = record { 0 = moved s b (g .position .0) c }; written = g .written + lenUtf8 (c .character); starved = false }) others d₀ d₁
       unfolding produced
       column-next h below o =
           let made : List ℕ = produced piece s b p all in
           let long : length (take at d₀ ++ made) ≡ at + length made = length-append (take at d₀) made ∙ rw (length-take-le at d₀ h) in
-          run-reached (piece (g .position) c) (produced piece s b (moved s b (g .position) c) others) (rw next at k) (omega (arith, length-given piece wide s b p all)) (rw (wide (g .position) c)) o
+          run-reached (piece (g .position .0) c) (produced piece s b (moved s b (g .position .0) c) others) (rw next at k) (omega (arith, length-given piece wide s b p all)) (rw (wide (g .position .0) c)) o
 
     column-done : rest ≡ [] → at ≤ length d₀ → (g .written ≡ at + commandsSize all) × (d ≡ splice d₀ at (produced piece s b p all))
     unfolding produced splice overlay
@@ -112,14 +117,14 @@ module _ (piece : ℕ → Command → List ℕ) (wide : (p : ℕ) (c : Command) 
 
 -- some commands are laid down
 pub record Going (s starts ends : List ℕ) (b p : ℕ) (all : List Command) (out₀ starts₀ ends₀ : List ℕ) (at : ℕ) (g : Progress) (rest : List Command) (out starts₁ ends₁ : List ℕ) : Type 0 where
-  pub standing : Standing s b (g .position)
-  pub feeding : starved s b (g .position) rest ≡ false
+  pub standing : Standing s b (g .position .0)
+  pub feeding : starved s b (g .position .0) rest ≡ false
   pub text-laid : Column characters s b p all at g rest out₀ out
   pub starts-laid : Column (carriedValues starts) s b p all at g rest starts₀ starts₁
   pub ends-laid : Column (carriedValues ends) s b p all at g rest ends₀ ends₁
 
 module _ {s starts ends : List ℕ} {b p : ℕ} {all : List Command} {table out₀ starts₀ ends₀ : List ℕ} {at : ℕ} (r : CommandsRoom s starts ends b p all table out₀ starts₀ ends₀ at) where
-  pub none-going : Going s starts ends b p all out₀ starts₀ ends₀ at (record { position = p; written = at; starved = false }) all out₀ starts₀ ends₀
+  pub none-going : Going s starts ends b p all out₀ starts₀ ends₀ at (record { position = record { 0 = p }; written = at; starved = false }) all out₀ starts₀ ends₀
   none-going =
       record {
         standing = r .tabled .standing;
@@ -131,8 +136,8 @@ module _ {s starts ends : List ℕ} {b p : ℕ} {all : List Command} {table out�
 
   module _ {g : Progress} {rest : List Command} {out starts₁ ends₁ : List ℕ} (k : Going s starts ends b p all out₀ starts₀ ends₀ at g rest out starts₁ ends₁) where
     module _ {c : Command} {others : List Command} (next : rest ≡ c ∷ others) where
-      both-fed : (starves b (g .position) c ≡ false) × (starved s b (moved s b (g .position) c) others ≡ false)
-      both-fed = fed s b (g .position) c others (rw next at (k .feeding))
+      both-fed : (starves b (g .position .0) c ≡ false) × (starved s b (moved s b (g .position .0) c) others ≡ false)
+      both-fed = fed s b (g .position .0) c others (rw next at (k .feeding))
 
       pub command-room : Room starts ends g c out starts₁ ends₁
       command-room =
@@ -154,7 +159,7 @@ module _ {s starts ends : List ℕ} {b p : ℕ} {all : List Command} {table out�
       module _ {h : Progress} {until : ℕ} {out₂ starts₂ ends₂ : List ℕ} (m : CommandOver starts ends g c out starts₁ ends₁ until out₂ starts₂ ends₂) (below : until ≤ at + commandsSize all) (on : h ≡ progressAfter s b g c) where
         pub going-over : Going s starts ends b p all out₀ starts₀ ends₀ at h others out₂ starts₂ ends₂
         going-over =
-            let now : h ≡ record { position = moved s b (g .position) c; written = g .written + lenUtf8 (c .character); starved = false } = on ∙ stepped-fed s b g c (sym (both-fed .0)) refl in
+            let now : h ≡ record { position = record { 0 = moved s b (g .position .0) c }; written = g .written + lenUtf8 (c .character); starved = false } = on ∙ stepped-fed s b g c (sym (both-fed .0)) refl in
             rw now
             (record {
               standing = standing-moved c (k .standing) .0;
@@ -169,9 +174,9 @@ module _ {s starts ends : List ℕ} {b p : ℕ} {all : List Command} {table out�
           let room = command-room in
           going-over
           (record {
-            text-over = over-exact (characters (g .position) c) out (g .written) 0 (omega (arith, room .text-room, characters-wide (g .position) c)) (m .text-is);
-            starts-over = over-exact (carriedValues starts (g .position) c) starts₁ (g .written) 0 (omega (arith, room .starts-room, carried-wide starts (g .position) c)) (m .starts-are);
-            ends-over = over-exact (carriedValues ends (g .position) c) ends₁ (g .written) 0 (omega (arith, room .ends-room, carried-wide ends (g .position) c)) (m .ends-are);
+            text-over = over-exact (characters (g .position .0) c) out (g .written) 0 (omega (arith, room .text-room, characters-wide (g .position .0) c)) (m .text-is);
+            starts-over = over-exact (carriedValues starts (g .position .0) c) starts₁ (g .written) 0 (omega (arith, room .starts-room, carried-wide starts (g .position .0) c)) (m .starts-are);
+            ends-over = over-exact (carriedValues ends (g .position .0) c) ends₁ (g .written) 0 (omega (arith, room .ends-room, carried-wide ends (g .position .0) c)) (m .ends-are);
           })
           (omega arith)
           on

@@ -20,16 +20,16 @@ use Rattle.edit_steps.proofs.Positions.{standing-moved, stepped-fed, st
 
 -- some commands have gone by: what is left starves and counts as all did
 pub record Passed (s : List ℕ) (b from : ℕ) (all rest : List Command) (g : Progress) : Type 0 where
-  pub starving : starved s b from all ≡ starved s b (g .position) rest
+  pub starving : starved s b from all ≡ starved s b (g .position .0) rest
   pub counted : commandsSize all ≡ g .written + commandsSize rest
-  pub standing : Standing s b (g .position)
+  pub standing : Standing s b (g .position .0)
 
-pub none-passed : {s : List ℕ} {b from : ℕ} {all : List Command} → Standing s b from → Passed s b from all all (record { position = from; written = 0; starved = false })
+pub none-passed : {s : List ℕ} {b from : ℕ} {all : List Command} → Standing s b from → Passed s b from all all (record { position = record { 0 = from }; written = 0; starved = false })
 none-passed at = record { starving = refl; counted = omega arith; standing = at }
 
 module _ {s : List ℕ} {b from : ℕ} {all rest : List Command} {g : Progress} (m : Passed s b from all rest g) where
-  module _ {c : Command} {others : List Command} {t : Bool} (next : rest ≡ c ∷ others) (test : t ≡ starves b (g .position) c) where
-    one : starved s b from all ≡ (t || starved s b (moved s b (g .position) c) others)
+  module _ {c : Command} {others : List Command} {t : Bool} (next : rest ≡ c ∷ others) (test : t ≡ starves b (g .position .0) c) where
+    one : starved s b from all ≡ (t || starved s b (moved s b (g .position .0) c) others)
     unfolding starved
     one = m .starving ∙ rw (next, ← test)
 
@@ -40,7 +40,7 @@ module _ {s : List ℕ} {b from : ℕ} {all rest : List Command} {g : Progress} 
     pub one-passed : {h : Progress} → t ≡ false → h ≡ progressAfter s b g c → Passed s b from all others h
     unfolding commandsSize
     one-passed {h} e on =
-        let now : h ≡ record { position = moved s b (g .position) c; written = g .written + lenUtf8 (c .character); starved = false } = on ∙ stepped-fed s b g c test e in
+        let now : h ≡ record { position = record { 0 = moved s b (g .position .0) c }; written = g .written + lenUtf8 (c .character); starved = false } = on ∙ stepped-fed s b g c test e in
         let left : commandsSize rest ≡ lenUtf8 (c .character) + commandsSize others = rw next in
         rw now
         (record {
@@ -57,13 +57,13 @@ module _ {s : List ℕ} {b from : ℕ} {all rest : List Command} {g : Progress} 
       let whole : commandsSize all ≡ g .written = omega (arith, m .counted) in
       rw (feeds, whole)
 
--- the same for a script, read up to i
+-- a script is measured up to i
 pub record Measuring (s : List ℕ) (b from : ℕ) (l : List ℕ) (g : Progress) (i : ℕ) : Type 0 where
   pub passed : Passed s b from (commandsOf l) (commandsOf (drop i l)) g
   pub small : g .written ≤ i
   pub most : i ≤ length l
 
-pub none-measured : {s l : List ℕ} {b from : ℕ} → Standing s b from → Measuring s b from l (record { position = from; written = 0; starved = false }) 0
+pub none-measured : {s l : List ℕ} {b from : ℕ} → Standing s b from → Measuring s b from l (record { position = record { 0 = from }; written = 0; starved = false }) 0
 none-measured at = record { passed = none-passed at; small = omega arith; most = omega arith }
 
 module _ {s l : List ℕ} {b from : ℕ} {g : Progress} {i : ℕ} (m : Measuring s b from l g i) where
@@ -79,7 +79,7 @@ module _ {s l : List ℕ} {b from : ℕ} {g : Progress} {i : ℕ} (m : Measuring
         }
 
     module _ {h : Progress} (on : h ≡ progressAfter s b g c) where
-      told : h .starved ≡ starves b (g .position) c
+      told : h .starved ≡ starves b (g .position .0) c
       told = ap (λ (x : Progress). x .starved) on ∙ stepped-told s b g c refl
 
       pub starves-there : h .starved ≡ true → Starved ≡ measured s b from (commandsOf l)
@@ -87,7 +87,7 @@ module _ {s l : List ℕ} {b from : ℕ} {g : Progress} {i : ℕ} (m : Measuring
 
       pub one-measured : h .starved ≡ false → Measuring s b from l h next
       one-measured e =
-          let now : h ≡ record { position = moved s b (g .position) c; written = g .written + lenUtf8 (c .character); starved = false } = on ∙ stepped-fed s b g c told e in
+          let now : h ≡ record { position = record { 0 = moved s b (g .position .0) c }; written = g .written + lenUtf8 (c .character); starved = false } = on ∙ stepped-fed s b g c told e in
           let count : h .written ≡ g .written + lenUtf8 (c .character) = ap (λ (x : Progress). x .written) now in
           record {
             passed = one-passed (m .passed) (step .commands) told e on;

@@ -110,25 +110,25 @@ module _ {s : List ℕ} {b count from k p : ℕ} (g : Skipping s b count from k 
   all-skipped done = let none : count - k ≡ 0 = omega arith in sym (g .same ∙ rw (none, skipped-none s b p))
 
 -- how far an edit is
-module _ (s : List ℕ) (b : ℕ) (g : Progress) (c : Command) {t : Bool} (is : t ≡ starves b (g .position) c) where
+module _ (s : List ℕ) (b : ℕ) (g : Progress) (c : Command) {t : Bool} (is : t ≡ starves b (g .position .0) c) where
   pub stepped-starves : t ≡ true → record { position = g .position; written = g .written; starved = true } ≡ progressAfter s b g c
   unfolding progressAfter
   stepped-starves e = rw (sym is ∙ e)
 
   module _ (e : t ≡ false) {size : ℕ} (wide : size ≡ lenUtf8 (c .character)) where
-    step-on : {p : ℕ} → p ≡ moved s b (g .position) c → record { position = p; written = g .written + size; starved = false } ≡ progressAfter s b g c
+    step-on : {p : ℕ} → p ≡ moved s b (g .position .0) c → record { position = record { 0 = p }; written = g .written + size; starved = false } ≡ progressAfter s b g c
     unfolding progressAfter
     step-on at = rw (sym is ∙ e, at, wide)
 
     pub stepped-added : c .added ≡ true → record { position = g .position; written = g .written + size; starved = false } ≡ progressAfter s b g c
-    stepped-added a = step-on (sym (moved-added s b (g .position) c a))
+    stepped-added a = step-on (sym (moved-added s b (g .position .0) c a))
 
-    pub stepped-replacing : {p : ℕ} → c .added ≡ false → p ≡ skipped s b (c .removed + 1) (g .position) → record { position = p; written = g .written + size; starved = false } ≡ progressAfter s b g c
+    pub stepped-replacing : {p : ℕ} → c .added ≡ false → p ≡ skipped s b (c .removed + 1) (g .position .0) → record { position = record { 0 = p }; written = g .written + size; starved = false } ≡ progressAfter s b g c
     stepped-replacing a at =
         let one : c .removed + 1 ≡ suc (c .removed) = omega arith in
-        step-on ((rw one at at) ∙ sym (moved-replacing s b (g .position) c a))
+        step-on ((rw one at at) ∙ sym (moved-replacing s b (g .position .0) c a))
 
-  pub stepped-fed : t ≡ false → progressAfter s b g c ≡ record { position = moved s b (g .position) c; written = g .written + lenUtf8 (c .character); starved = false }
+  pub stepped-fed : t ≡ false → progressAfter s b g c ≡ record { position = record { 0 = moved s b (g .position .0) c }; written = g .written + lenUtf8 (c .character); starved = false }
   unfolding progressAfter
   stepped-fed e = rw (sym is ∙ e)
 

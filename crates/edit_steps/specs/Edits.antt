@@ -6,7 +6,7 @@ use mathlib.Core.Bool.{Bool, false, cond, _&&_, _||_, not}
 use mathlib.Core.List.{List, [], _∷_, _++_}
 use lib.Dec.{leb, ltb}
 use lib.ListN.{getD, take, drop, replicate}
-use Rattle.utf8.specs.Formed.{announced, boundary}
+use Rattle.utf8.specs.Formed.{announced}
 use Rattle.utf8.specs.Scalar.{bytesOf}
 use Rattle.note.specs.Notes.{Note, lent, beforeEnd}
 use Rattle.script.specs.declared.Command.{Command}
@@ -31,12 +31,12 @@ unfoldable pub starved : List ℕ → ℕ → ℕ → List Command → Bool
 starved s b p [] = false
 starved s b p (c ∷ cs) = starves b p c || starved s b (moved s b p c) cs
 
--- what a command at a position carriedValue of a column: an added character what stands before the position, 0 at the text's
--- beginning; a replacing one what stands at the position
+-- what a command at a position carries of a column: an added character what is before the position, 0 at the text's
+-- beginning; a replacing one what is at the position
 unfoldable pub carriedValue : List ℕ → ℕ → Command → ℕ
 carriedValue xs p c = cond (c .added) (beforeEnd xs p) (getD xs p 0)
 
--- what a command gives: its character's bytes, to the text; and what it carriedValue, once for each of these, to a column
+-- what a command gives: its character's bytes, to the text; and what it carries, once for each of these, to a column
 abbrev pub characters : ℕ → Command → List ℕ
 characters p c = bytesOf (c .character)
 
@@ -54,6 +54,10 @@ pub record Edit : Type 0 where
   pub to : ℕ
   pub skip : ℕ
   pub commands : List Command
+
+-- an edit by its numbers and commands
+abbrev pub edit : ℕ → ℕ → ℕ → List Command → Edit
+edit from to skip cs = record { from = from; to = to; skip = skip; commands = cs }
 
 -- where the first command stands
 unfoldable pub firstPosition : List ℕ → Edit → ℕ
@@ -77,7 +81,7 @@ transformed n e =
 
 -- the edit that leaves a note as it is: nothing gives way to nothing
 abbrev pub unchanging : Edit
-unchanging = record { from = 0; to = 0; skip = 0; commands = [] }
+unchanging = edit 0 0 0 []
 
 -- CLAIM: so it does.
 abbrev pub Unchanged : Type 0

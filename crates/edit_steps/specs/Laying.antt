@@ -4,7 +4,7 @@ use mathlib.Core.Path.{_≡_}
 use mathlib.Core.Bool.{true, false}
 use mathlib.Core.List.{List}
 use lib.ListN.{length}
-use Rattle.buffers.specs.Splice.{part, splice, overlay}
+use Rattle.buffers.specs.Splice.{splice, overlay}
 use Rattle.buffers.specs.Over.{Over}
 use Rattle.utf8.specs.Formed.{wellFormed}
 use Rattle.script.specs.declared.Command.{Command}
@@ -26,17 +26,17 @@ pub record Reached (xs : List ℕ) (p : ℕ) (c : Command) : Type 0 where
 
 -- a command that does not starve, and room for what it gives
 pub record Room (starts ends : List ℕ) (g : Progress) (c : Command) (out starts₀ ends₀ : List ℕ) : Type 0 where
-  pub in-starts : Reached starts (g .position) c
-  pub in-ends : Reached ends (g .position) c
+  pub in-starts : Reached starts (g .position .0) c
+  pub in-ends : Reached ends (g .position .0) c
   pub text-room : g .written + lenUtf8 (c .character) ≤ length out
   pub starts-room : g .written + lenUtf8 (c .character) ≤ length starts₀
   pub ends-room : g .written + lenUtf8 (c .character) ≤ length ends₀
 
 pub record CommandLaid (starts ends : List ℕ) (g : Progress) (c : Command) (out₀ starts₀ ends₀ : List ℕ)
     (out starts₁ ends₁ : List ℕ) : Type 0 where
-  pub text-is : out ≡ splice out₀ (g .written) (characters (g .position) c)
-  pub starts-are : starts₁ ≡ splice starts₀ (g .written) (carriedValues starts (g .position) c)
-  pub ends-are : ends₁ ≡ splice ends₀ (g .written) (carriedValues ends (g .position) c)
+  pub text-is : out ≡ splice out₀ (g .written) (characters (g .position .0) c)
+  pub starts-are : starts₁ ≡ splice starts₀ (g .written) (carriedValues starts (g .position .0) c)
+  pub ends-are : ends₁ ≡ splice ends₀ (g .written) (carriedValues ends (g .position .0) c)
 
 -- a bound up to which the buffers may be written
 pub record Below (until : ℕ) (out starts₀ ends₀ : List ℕ) : Type 0 where
@@ -44,12 +44,12 @@ pub record Below (until : ℕ) (out starts₀ ends₀ : List ℕ) : Type 0 where
   pub starts-below : until ≤ length starts₀
   pub ends-below : until ≤ length ends₀
 
--- the same command laid, but that behind it the buffers are told from a bound on only
+-- one command laid, where after it the buffers are told from a bound on only
 pub record CommandOver (starts ends : List ℕ) (g : Progress) (c : Command) (out₀ starts₀ ends₀ : List ℕ) (until : ℕ)
     (out starts₁ ends₁ : List ℕ) : Type 0 where
-  pub text-over : Over (characters (g .position) c) out₀ (g .written) until out
-  pub starts-over : Over (carriedValues starts (g .position) c) starts₀ (g .written) until starts₁
-  pub ends-over : Over (carriedValues ends (g .position) c) ends₀ (g .written) until ends₁
+  pub text-over : Over (characters (g .position .0) c) out₀ (g .written) until out
+  pub starts-over : Over (carriedValues starts (g .position .0) c) starts₀ (g .written) until starts₁
+  pub ends-over : Over (carriedValues ends (g .position .0) c) ends₀ (g .written) until ends₁
 
 -- commands of which none starves, and room for what they give from `at` on
 pub record CommandsRoom (s starts ends : List ℕ) (b p : ℕ) (cs : List Command) (table out starts₀ ends₀ : List ℕ)

@@ -20,7 +20,7 @@ pub record Standing (s : List ℕ) (b p : ℕ) : Type 0 where
   pub stands : boundary s p ≡ true
   pub most : p ≤ b
 
--- the same, and the table that lengths of characters are read of
+-- such a position, and the table that lengths of characters are read of
 pub record Tabled (s : List ℕ) (b p : ℕ) (table : List ℕ) : Type 0 where
   pub standing : Standing s b p
   pub lent : table ≡ lengthTable
@@ -33,12 +33,16 @@ commandsSize (c ∷ cs) = lenUtf8 (c .character) + commandsSize cs
 -- a command goes by: the position moves, the bytes are counted; a command that starves says so, and leaves both
 unfoldable pub progressAfter : List ℕ → ℕ → Progress → Command → Progress
 progressAfter s b g c =
-    cond (starves b (g .position) c) (record { position = g .position; written = g .written; starved = true })
-    (record { position = moved s b (g .position) c; written = g .written + lenUtf8 (c .character); starved = false })
+    cond (starves b (g .position .0) c) (record { position = g .position; written = g .written; starved = true })
+    (record {
+      position = record { 0 = moved s b (g .position .0) c };
+      written = g .written + lenUtf8 (c .character);
+      starved = false;
+    })
 
 -- what a step is told: the text, the range's end, how far the edit is, and that the count does not run over
 pub record Counting (s : List ℕ) (b : ℕ) (g : Progress) (c : Command) (table : List ℕ) : Type 0 where
-  pub tabled : Tabled s b (g .position) table
+  pub tabled : Tabled s b (g .position .0) table
   pub counts : g .written + lenUtf8 (c .character) < 2 ^ 64
 
 -- a script measured from a position on

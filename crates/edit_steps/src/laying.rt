@@ -6,6 +6,7 @@ use buffers::Offset;
 use buffers::blocks::fill_offsets_over;
 use buffers::parts::keep;
 use code_points::put_character;
+use note::NormalizedByte;
 use note::before_end;
 use script::Command;
 use script::Entry;
@@ -19,17 +20,18 @@ ghost use Rattle.edit_steps.specs.Laying.{CommandsLaid, CommandsRoom};
 ghost use Rattle.edit_steps.specs.Walking.{commandsSize};
 
 // What a command's character carries of a column.
-fn carries(column: &[Offset], position: usize, command: Command) -> Offset
-    requires { ⌜ Reached (now column) position command ⌝ }
-    ensures { λ r. ⌜ r ≡ carriedValue (now (column .entry)) position command ⌝ }
+fn carries(column: &[Offset], position: NormalizedByte, command: Command) -> Offset
+    requires { ⌜ Reached (now column) (position .0) command ⌝ }
+    ensures { λ r. ⌜ r ≡ carriedValue (now (column .entry)) (position .0) command ⌝ }
 {
+    let at = position.0 as usize;
     if command.added {
-        return before_end(column, position);
+        return before_end(column, at);
     }
-    column[position]
+    column[at]
 }
 
-// One command's character, with what it carries; what is written behind it stays below `until`.
+// One command's character, with what it carries; what is written after it stays below `until`.
 pub fn lay_command(
     starts: &[Offset],
     ends: &[Offset],
@@ -64,8 +66,8 @@ fn lay_script(
     text: &[u8],
     starts: &[Offset],
     ends: &[Offset],
-    to: usize,
-    position: usize,
+    to: NormalizedByte,
+    position: NormalizedByte,
     script: &[u8],
     table: &[u8; 256],
     out: &mut [u8],
@@ -74,11 +76,11 @@ fn lay_script(
     at: usize,
     until: usize,
 ) -> usize
-    requires { ⌜ CommandsRoom (now text) (now starts) (now ends) to position (commandsOf (now script)) (now table)
-        (now out) (now «out_starts») (now «out_ends») at
+    requires { ⌜ CommandsRoom (now text) (now starts) (now ends) (to .0) (position .0) (commandsOf (now script))
+        (now table) (now out) (now «out_starts») (now «out_ends») at
         × (until ≤ at + commandsSize (commandsOf (now script))) ⌝ }
-    ensures { λ r. ⌜ CommandsLaid (now (text .entry)) (now (starts .entry)) (now (ends .entry)) to position
-        (commandsOf (now (script .entry))) (now (out .entry)) (now («out_starts» .entry)) (now («out_ends» .entry)) at
+    ensures { λ r. ⌜ CommandsLaid (now (text .entry)) (now (starts .entry)) (now (ends .entry))
+        (to .0) (position .0) (commandsOf (now (script .entry))) (now (out .entry)) (now («out_starts» .entry)) (now («out_ends» .entry)) at
         r (now (out .exit)) (now («out_starts» .exit)) (now («out_ends» .exit)) ⌝ }
 {
     let mut progress = Progress {
@@ -109,15 +111,14 @@ fn lay_script(
     progress.written
 }
 
-// What stands before the range, what the script gives, `size` bytes, and what stands behind the range; how many bytes
-// that is.
+// What is before the range, what the script gives, `size` bytes, and what is after the range; how many bytes that is.
 pub fn lay_edit(
     text: &[u8],
     starts: &[Offset],
     ends: &[Offset],
-    from: usize,
-    to: usize,
-    position: usize,
+    from: NormalizedByte,
+    to: NormalizedByte,
+    position: NormalizedByte,
     script: &[u8],
     table: &[u8; 256],
     out: &mut [u8],
@@ -125,14 +126,16 @@ pub fn lay_edit(
     out_ends: &mut [Offset],
     size: usize,
 ) -> usize
-    requires { ⌜ EditRoom (now text) (now starts) (now ends) from to position (commandsOf (now script)) (now table)
-        (now out) (now «out_starts») (now «out_ends»)
+    requires { ⌜ EditRoom (now text) (now starts) (now ends) (from .0) (to .0) (position .0) (commandsOf (now script))
+        (now table) (now out) (now «out_starts») (now «out_ends»)
         × (size ≡ commandsSize (commandsOf (now script))) ⌝ }
-    ensures { λ r. ⌜ EditLaid (now (text .entry)) (now (starts .entry)) (now (ends .entry)) from to position
-        (commandsOf (now (script .entry))) (now (out .entry)) (now («out_starts» .entry)) (now («out_ends» .entry))
+    ensures { λ r. ⌜ EditLaid (now (text .entry)) (now (starts .entry)) (now (ends .entry))
+        (from .0) (to .0) (position .0) (commandsOf (now (script .entry))) (now (out .entry)) (now («out_starts» .entry)) (now («out_ends» .entry))
         r (now (out .exit)) (now («out_starts» .exit)) (now («out_ends» .exit)) ⌝ }
 {
-    keep(text, starts, ends, 0, from, out, out_starts, out_ends, 0);
+    let first = from.0 as usize;
+    let end = to.0 as usize;
+    keep(text, starts, ends, 0, first, out, out_starts, out_ends, 0);
     let at = lay_script(
         text,
         starts,
@@ -144,19 +147,19 @@ pub fn lay_edit(
         out,
         out_starts,
         out_ends,
-        from,
-        from + size,
+        first,
+        first + size,
     );
     keep(
         text,
         starts,
         ends,
-        to,
+        end,
         text.len(),
         out,
         out_starts,
         out_ends,
         at,
     );
-    at + (text.len() - to)
+    at + (text.len() - end)
 }

@@ -1,19 +1,20 @@
 // The running position of an edit: from character to character of the range, and from command to command of the script.
 // Each function here is an inner one: the text is well-formed, and the range lies on its boundaries.
+use note::NormalizedByte;
 use script::Command;
 use script::Entry;
 use script::entry_at;
-use utf8::lead::len_utf8;
 use utf8::lead::char_len;
+use utf8::lead::len_utf8;
 ghost use mathlib.Core.Path.{_≡_};
 ghost use Rattle.script.specs.Scripts.{commandsOf};
 ghost use Rattle.edit_steps.specs.Edits.{skipped, starves};
 ghost use Rattle.edit_steps.specs.Walking.{Counting, Tabled, measured, progressAfter};
 
 // How far an edit is: the running position in the cleaned text, how many bytes have been written so far, and whether
-// the last command found no character left. It is lent to each command and advanced there.
+// the last command found no character left. It is passed to each command and advanced there.
 pub struct Progress {
-    pub position: usize,
+    pub position: NormalizedByte,
     pub written: usize,
     pub starved: bool,
 }
@@ -25,36 +26,49 @@ pub enum Extent {
 }
 
 // `count` characters on from `from`, or up to `to` where fewer are left.
-pub fn skip(text: &[u8], to: usize, count: usize, from: usize, table: &[u8; 256]) -> usize
-    requires { ⌜ Tabled (now text) to from (now table) ⌝ }
-    ensures { λ r. ⌜ r ≡ skipped (now (text .entry)) to count from ⌝ }
+pub fn skip(
+    text: &[u8],
+    to: NormalizedByte,
+    count: usize,
+    from: NormalizedByte,
+    table: &[u8; 256],
+) -> NormalizedByte
+    requires { ⌜ Tabled (now text) (to .0) (from .0) (now table) ⌝ }
+    ensures { λ r. ⌜ r .0 ≡ skipped (now (text .entry)) (to .0) count (from .0) ⌝ }
 {
-    let mut p = from;
+    let end = to.0 as usize;
+    let mut p = from.0 as usize;
     let mut k = 0;
     while k < count {
-        if to <= p {
+        if end <= p {
             break;
         }
         p += char_len(text, p, table);
         k += 1;
     }
-    p
+    NormalizedByte(p as u32)
 }
 
 // Whether a replacing command finds no character left.
-pub fn starves(to: usize, position: usize, command: Command) -> bool
-    ensures { λ r. ⌜ r ≡ starves to position command ⌝ }
+fn starves(to: NormalizedByte, position: NormalizedByte, command: Command) -> bool
+    ensures { λ r. ⌜ r ≡ starves (to .0) (position .0) command ⌝ }
 {
     if command.added {
         return false;
     }
-    to <= position
+    to.0 <= position.0
 }
 
 // A command goes by; one that finds no character left leaves position and count as they were.
-fn step(text: &[u8], to: usize, progress: Progress, command: Command, table: &[u8; 256]) -> Progress
-    requires { ⌜ Counting (now text) to progress command (now table) ⌝ }
-    ensures { λ r. ⌜ r ≡ progressAfter (now (text .entry)) to progress command ⌝ }
+fn step(
+    text: &[u8],
+    to: NormalizedByte,
+    progress: Progress,
+    command: Command,
+    table: &[u8; 256],
+) -> Progress
+    requires { ⌜ Counting (now text) (to .0) progress command (now table) ⌝ }
+    ensures { λ r. ⌜ r ≡ progressAfter (now (text .entry)) (to .0) progress command ⌝ }
 {
     let position = progress.position;
     if starves(to, position, command) {
@@ -79,24 +93,31 @@ fn step(text: &[u8], to: usize, progress: Progress, command: Command, table: &[u
     }
 }
 
-// The record is lent to a command, which advances it.
-fn advance(progress: &mut Progress, text: &[u8], to: usize, command: Command, table: &[u8; 256])
-    requires { ⌜ Counting (now text) to (now progress) command (now table) ⌝ }
-    ensures { λ _. ⌜ now (progress .exit) ≡ progressAfter (now (text .entry)) to (now (progress .entry)) command ⌝ }
+// The record is passed by reference to a command, which advances it.
+fn advance(
+    progress: &mut Progress,
+    text: &[u8],
+    to: NormalizedByte,
+    command: Command,
+    table: &[u8; 256],
+)
+    requires { ⌜ Counting (now text) (to .0) (now progress) command (now table) ⌝ }
+    ensures { λ _. ⌜ now (progress .exit)
+        ≡ progressAfter (now (text .entry)) (to .0) (now (progress .entry)) command ⌝ }
 {
     *progress = step(text, to, *progress, command, table);
 }
 
-// The record made, lent and handed back: what everybody else calls.
+// The record made, passed by reference and handed back: what everybody else calls.
 pub fn advanced(
     text: &[u8],
-    to: usize,
+    to: NormalizedByte,
     progress: Progress,
     command: Command,
     table: &[u8; 256],
 ) -> Progress
-    requires { ⌜ Counting (now text) to progress command (now table) ⌝ }
-    ensures { λ r. ⌜ r ≡ progressAfter (now (text .entry)) to progress command ⌝ }
+    requires { ⌜ Counting (now text) (to .0) progress command (now table) ⌝ }
+    ensures { λ r. ⌜ r ≡ progressAfter (now (text .entry)) (to .0) progress command ⌝ }
 {
     let mut running = progress;
     advance(&mut running, text, to, command, table);
@@ -104,9 +125,15 @@ pub fn advanced(
 }
 
 // Every command of a script goes by, from a position on.
-pub fn measure(text: &[u8], to: usize, position: usize, script: &[u8], table: &[u8; 256]) -> Extent
-    requires { ⌜ Tabled (now text) to position (now table) ⌝ }
-    ensures { λ r. ⌜ r ≡ measured (now (text .entry)) to position (commandsOf (now (script .entry))) ⌝ }
+pub fn measure(
+    text: &[u8],
+    to: NormalizedByte,
+    position: NormalizedByte,
+    script: &[u8],
+    table: &[u8; 256],
+) -> Extent
+    requires { ⌜ Tabled (now text) (to .0) (position .0) (now table) ⌝ }
+    ensures { λ r. ⌜ r ≡ measured (now (text .entry)) (to .0) (position .0) (commandsOf (now (script .entry))) ⌝ }
 {
     let mut progress = Progress {
         position,

@@ -22,7 +22,7 @@ use Rattle.transform.specs.Transforming.{editFaults}
 use Rattle.edits.specs.declared.Clearing.{Clearing}
 use Rattle.edits.specs.declared.Clearing.the-variants.{Cleared, Refused}
 use Rattle.edits.specs.Whole.{clearEdit, clearFaults, Emptied}
-use Rattle.edits.specs.Plain.{widthless, cleared}
+use Rattle.edits.specs.Plain.{widthless, headBytes, cleared}
 use Rattle.edits.proofs.Head.{head-most, cleared-closed}
 use Rattle.edits.proofs.Inputs.{text-short}
 use Rattle.edits.proofs.Made.{made-large, made-small, clear-refused, clear-done}
@@ -52,7 +52,7 @@ module _ (most : ℕ) (n : Note) (out₀ starts₀ ends₀ : List ℕ) {v : Verd
       pub inside-all : (left ≤ length (n .normalized)) × ((left ≤ length (n .starts)) × (left ≤ length (n .ends)))
       inside-all = (left-most, (omega (arith, left-most, length-starts n sound), omega (arith, left-most, length-ends n sound)))
 
-      long : length (cleared n .normalized) ≡ left
+      long : length (cleared (headBytes n) n .normalized) ≡ left
       unfolding cleared
       long = rw (← head) (length-take-le left (n .normalized) left-most)
 

@@ -15,20 +15,21 @@ use Rattle.buffers.proofs.Cases.{le-or-lt, true-or-false}
 use Rattle.buffers.proofs.Same.{same-equal}
 use Rattle.buffers.proofs.Splice.{length-part}
 use Rattle.utf8.specs.Formed.{continues, boundary}
-use Rattle.utf8.proofs.Boundaries.{boundary-at, boundary-zero, boundary-length}
+use Rattle.utf8.proofs.Boundaries.{boundary-at, boundary-zero, boundary-length, boundary-most}
 use Rattle.note.specs.declared.Refusal.the-variants.{Missing}
 use Rattle.note.specs.Notes.{Note, startAt, endAt, Sound}
 use Rattle.note.proofs.Sound.{length-starts, length-ends, normalized-formed, inside-at, shared-at}
+use Rattle.convert.specs.declared.Range.{Range}
 use Rattle.convert.specs.declared.Converted.{Converted}
 use Rattle.convert.specs.declared.Converted.the-variants.{Found, Refused}
-use Rattle.convert.specs.Converting.{inOriginal, inNormalized, toNormalized, converted}
+use Rattle.convert.specs.Converting.{inOriginal, inNormalized, toNormalized, converted, asNormalized}
 use Rattle.convert.specs.Leading.{leading, First}
 use Rattle.convert.proofs.Leading.{leading-most, leading-past, converted-by-leading}
 use Rattle.script.specs.declared.Command.{Command}
 use Rattle.utf8.specs.Formed.{charRange}
 use Rattle.edit_steps.specs.Edits.{starved, produced, Edit, relaid, edited, transformed, unchanging}
-use Rattle.transform.specs.Transforming.{editOf}
-use Rattle.edits.specs.Whole.{wholeEdit, clearEdit}
+use Rattle.transform.specs.Transforming.{editOf, rangeEdit}
+use Rattle.edits.specs.Whole.{wholeRange, clearEdit}
 use Rattle.edits.specs.Plain.{Makes, WholePlaced, widthless, headBytes, HeadWhole, cleared, ClearedClosed}
 use Rattle.edits.specs.Laying.{HeadPassed}
 
@@ -194,58 +195,77 @@ module _ (n : Note) (sound : Sound n) where
       (λ more. rw (by .from-first H (head-first more)) behind)))
 
   -- so an edit of the whole transcript is one of these
-  pub whole-cases : (skip : ℕ) (cs : List Command) (P : Edit → Type 0) → P (record { from = H; to = N; skip = skip; commands = cs }) → (H ≡ N → P (record { from = 0; to = 0; skip = skip; commands = cs })) → (N ≡ 0 → P unchanging) → P (wholeEdit n skip cs)
+  whole-cases : (skip : ℕ) (cs : List Command) (P : Edit → Type 0) → P (record { from = H; to = N; skip = skip; commands = cs }) → (H ≡ N → P (record { from = 0; to = 0; skip = skip; commands = cs })) → (N ≡ 0 → P unchanging) → P (rangeEdit n (wholeRange n) skip cs)
+  unfolding asNormalized
   whole-cases skip cs P behind start nothing = whole-converted (λ x. P (editOf x skip cs)) behind start nothing
-
-  pub head-placed : charRange (n .normalized) H N ≡ true
-  head-placed = is-placed (n .normalized) H N head-most head-stands (boundary-length (n .normalized))
 
   pub zero-placed : charRange (n .normalized) 0 0 ≡ true
   zero-placed =
       let here = boundary-zero (n .normalized) (normalized-formed n sound) in
       is-placed (n .normalized) 0 0 (omega arith) here here
 
-pub whole-placed : WholePlaced
-whole-placed n skip cs sound =
-    whole-cases n sound skip cs (λ e. charRange (n .normalized) (e .from) (e .to) ≡ true) (head-placed n sound) (λ _. zero-placed n sound) (λ _. zero-placed n sound)
+-- A RANGE WHOSE EDIT IS ONE OF ALL BEHIND A HEAD of h bytes, which ends between two characters
+pub record Behind (n : Note) (range : Range) (h : ℕ) : Type 1 where
+  pub stands : boundary (n .normalized) h ≡ true
+  pub cases : (skip : ℕ) (cs : List Command) (P : Edit → Type 0)
+      → P (record { from = h; to = length (n .normalized); skip = skip; commands = cs })
+      → (h ≡ length (n .normalized) → P (record { from = 0; to = 0; skip = skip; commands = cs }))
+      → (length (n .normalized) ≡ 0 → P unchanging)
+      → P (rangeEdit n range skip cs)
 
-pub head-whole : HeadWhole
-head-whole n sound = head-stands n sound
+pub whole-behind : (n : Note) → Sound n → Behind n (wholeRange n) (headBytes n)
+whole-behind n sound = record { stands = head-stands n sound; cases = whole-cases n sound }
 
--- CLEAR
-module _ (n : Note) (sound : Sound n) where
+module _ (n : Note) (sound : Sound n) {range : Range} {h : ℕ} (k : Behind n range h) where
+  pub behind-most : h ≤ length (n .normalized)
+  behind-most = boundary-most (n .normalized) h (k .stands)
+
+  pub behind-placed : charRange (n .normalized) h (length (n .normalized)) ≡ true
+  behind-placed = is-placed (n .normalized) h (length (n .normalized)) behind-most (k .stands) (boundary-length (n .normalized))
+
+  range-placed : (skip : ℕ) (cs : List Command) → charRange (n .normalized) (rangeEdit n range skip cs .from) (rangeEdit n range skip cs .to) ≡ true
+  range-placed skip cs =
+      k .cases skip cs (λ e. charRange (n .normalized) (e .from) (e .to) ≡ true) behind-placed (λ _. zero-placed n sound) (λ _. zero-placed n sound)
+
+  -- CLEAR
   all-column : (xs : List ℕ) → length xs ≡ length (n .normalized) → take (length (n .normalized)) xs ≡ xs
   all-column xs long = rw (← long) (take-length xs)
 
-  kept-column : (xs : List ℕ) → length xs ≡ length (n .normalized) → take (headBytes n) xs ++ drop (length (n .normalized)) xs ≡ take (headBytes n) xs
+  kept-column : (xs : List ℕ) → length xs ≡ length (n .normalized) → take h xs ++ drop (length (n .normalized)) xs ≡ take h xs
   kept-column xs long =
       let past : length xs ≤ length (n .normalized) = omega arith in
-      rw (drop-of-length-le xs past) (append-nil (take (headBytes n) xs))
+      rw (drop-of-length-le xs past) (append-nil (take h xs))
 
   -- where all of the text is head, nothing is taken away
-  pub head-is-all : headBytes n ≡ length (n .normalized) → cleared n ≡ n
+  pub head-is-all : h ≡ length (n .normalized) → cleared h n ≡ n
   unfolding cleared
   head-is-all all =
       rw (all, all-column (n .normalized) refl, all-column (n .starts) (length-starts n sound), all-column (n .ends) (length-ends n sound))
 
-  behind-cleared : (skip : ℕ) → Makes n (record { from = headBytes n; to = length (n .normalized); skip = skip; commands = [] }) (cleared n)
+  behind-cleared : (skip : ℕ) → Makes n (record { from = h; to = length (n .normalized); skip = skip; commands = [] }) (cleared h n)
   unfolding cleared transformed edited relaid produced starved
   behind-cleared skip =
       record {
-        lies = head-placed n sound;
+        lies = behind-placed;
         feeds = refl;
         leaves = rw (kept-column (n .normalized) refl, kept-column (n .starts) (length-starts n sound), kept-column (n .ends) (length-ends n sound));
       }
 
-  start-cleared : (skip : ℕ) → headBytes n ≡ length (n .normalized) → Makes n (record { from = 0; to = 0; skip = skip; commands = [] }) (cleared n)
+  start-cleared : (skip : ℕ) → h ≡ length (n .normalized) → Makes n (record { from = 0; to = 0; skip = skip; commands = [] }) (cleared h n)
   unfolding transformed edited relaid produced starved
   start-cleared skip all = record { lies = zero-placed n sound; feeds = refl; leaves = sym (head-is-all all) }
 
-  nothing-cleared : length (n .normalized) ≡ 0 → Makes n unchanging (cleared n)
-  nothing-cleared none = start-cleared 0 (omega (arith, head-most n sound))
+  cleared-behind : (skip : ℕ) → Makes n (rangeEdit n range skip []) (cleared h n)
+  cleared-behind skip =
+      k .cases skip [] (λ e. Makes n e (cleared h n)) (behind-cleared skip) (start-cleared skip)
+      (λ none. start-cleared 0 (omega (arith, behind-most)))
+
+pub whole-placed : WholePlaced
+whole-placed n skip cs sound = range-placed n sound (whole-behind n sound) skip cs
+
+pub head-whole : HeadWhole
+head-whole n sound = head-stands n sound
 
 pub cleared-closed : ClearedClosed
 unfolding clearEdit
-cleared-closed n sound =
-    whole-cases n sound (length (n .normalized)) [] (λ e. Makes n e (cleared n))
-    (behind-cleared n sound (length (n .normalized))) (start-cleared n sound (length (n .normalized))) (nothing-cleared n sound)
+cleared-closed n sound = cleared-behind n sound (whole-behind n sound) (length (n .normalized))

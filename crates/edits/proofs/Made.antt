@@ -44,7 +44,9 @@ module _ (most : ℕ) (n : Note) (inputs : Refusal → Bool) (low : unmet (drop 
 pub clear-refused : {v : Verdict} {n made : Note} {out starts ends : List ℕ} {k : Refusal} → Rejected k ≡ v → Emptied v n made out starts ends (Refused k) out starts ends
 clear-refused e = rw (← e) (record { answer = refl; text-is = refl; starts-are = refl; ends-are = refl })
 
-pub clear-done : {v : Verdict} {n was made : Note} {out₀ starts₀ ends₀ : List ℕ} {left : ℕ} {out starts ends : List ℕ} → Accepted ≡ v → was ≡ made → left ≡ length (made .normalized) → out ≡ splice out₀ 0 (made .normalized) → starts ≡ splice starts₀ 0 (made .starts) → ends ≡ splice ends₀ 0 (made .ends) → Emptied v n was out₀ starts₀ ends₀ (Cleared (length (n .normalized)) left) out starts ends
+pub clear-done : {v : Verdict} {n was made : Note} {out₀ starts₀ ends₀ : List ℕ} {left : ℕ} {out starts ends : List ℕ} → Accepted ≡ v → was ≡ made
+    → left ≡ length (made .normalized) → out ≡ splice out₀ 0 (made .normalized) → starts ≡ splice starts₀ 0 (made .starts)
+    → ends ≡ splice ends₀ 0 (made .ends) → Emptied v n was out₀ starts₀ ends₀ (Cleared (length (n .normalized)) left) out starts ends
 clear-done {n = n} {made = made} {out₀} {starts₀} {ends₀} e same long o s t =
     rw (← e, same) (record {
       answer = ap (Cleared (length (n .normalized))) long;

@@ -33,10 +33,11 @@ use Rattle.map_columns.proofs.Spread.{spread-all}
 use Rattle.edit_steps.specs.Edits.{characters, edited, transformed}
 use Rattle.transform.specs.declared.Editing.{Editing}
 use Rattle.transform.specs.declared.Editing.the-variants.{Edited, Refused as Refusing}
-use Rattle.transform.specs.Transforming.{Rewritten}
+use Rattle.transform.specs.Transforming.{callFaults, Rewritten}
 use Rattle.transform.proofs.Verdicts.{inputs-accepted, starving, too-large, small-enough, refused-rewritten, accepted-rewritten}
-use Rattle.edits.specs.Whole.{codesFaults, mapEdit, mapFaults}
-use Rattle.edits.specs.Plain.{MakesUnless, widthless, headChars, mapped}
+use Rattle.edits.specs.Whole.{codesFaults, mapEdit}
+use Rattle.edits.specs.Plain.{MakesUnless, widthless, headBytes, headChars, mapped}
+use Rattle.edits.proofs.Head.{whole-behind}
 use Rattle.edits.proofs.Inputs.{well-counted}
 use Rattle.edits.proofs.Sifted.{head-told, mapped-closed}
 
@@ -57,7 +58,7 @@ first-head (s ∷ starts) (e ∷ ends) even some =
 module _ (most : ℕ) (n : Note) (codes out₀ starts₀ ends₀ : List ℕ) {v : Verdict} (noted : v ≡ verdict (noteFaults most n)) (ok : v ≡ Accepted) {j : Judged} (judged : JudgedAs codes j) (scalars : not (j .scalar) ≡ false) {m : ℕ} (counted : m ≡ leads (n .normalized)) (each : length codes ≡ m) where
   abbrev Mapped : Editing → List ℕ → List ℕ → List ℕ → Type 0
   Mapped r out starts ends =
-      Rewritten (verdict (mapFaults most n codes (least (length out₀) (length starts₀) (length ends₀)))) (transformed n (mapEdit n codes)) out₀ starts₀ ends₀ r out starts ends
+      Rewritten (verdict (callFaults most n (codesFaults (n .normalized) codes) (mapEdit n codes) (least (length out₀) (length starts₀) (length ends₀)))) (transformed n (mapEdit n codes)) out₀ starts₀ ends₀ r out starts ends
 
   sound : Sound n
   sound = accepted-sound most n (sym noted ∙ ok) .0
@@ -68,12 +69,12 @@ module _ (most : ℕ) (n : Note) (codes out₀ starts₀ ends₀ : List ℕ) {v 
   inputs : Accepted ≡ verdict (also (noteFaults most n) (codesFaults (n .normalized) codes))
   inputs = well-counted most n codes noted ok (judged .scalar-is) scalars counted each
 
-  makes : MakesUnless n (mapEdit n codes) (ltb 0 (headChars n)) (mapped n codes)
+  makes : MakesUnless n (mapEdit n codes) (ltb 0 (headChars (headBytes n) n)) (mapped n codes)
   makes = mapped-closed n codes sound coded
 
   module _ {t : Bool} (head : t ≡ ltb 0 (widthless (n .starts) (n .ends))) where
-    told : t ≡ ltb 0 (headChars n)
-    told = head ∙ sym (head-told n sound codes coded)
+    told : t ≡ ltb 0 (headChars (headBytes n) n)
+    told = head ∙ sym (head-told n sound (whole-behind n sound) codes coded)
 
     pub head-refused : t ≡ true → Mapped (Refusing Exhausted) out₀ starts₀ ends₀
     head-refused e =
@@ -81,7 +82,7 @@ module _ (most : ℕ) (n : Note) (codes out₀ starts₀ ends₀ : List ℕ) {v 
         (refused-rewritten (starving most (n .normalized) (mapEdit n codes) (least (length out₀) (length starts₀) (length ends₀)) (makes .lies) (makes .exhausts ∙ sym told ∙ e)))
 
     module _ (none : t ≡ false) {low room : ℕ} (lowest : low ≡ least (length out₀) (length starts₀) (length ends₀)) (r : room ≡ min most low) where
-      headless : ltb 0 (headChars n) ≡ false
+      headless : ltb 0 (headChars (headBytes n) n) ≡ false
       headless = sym told ∙ none
 
       size : length (edited characters (n .normalized) (mapEdit n codes) (n .normalized)) ≡ j .size

@@ -23,15 +23,17 @@ use Rattle.utf8.specs.Scalar.{lenUtf8}
 use Rattle.edit_steps.specs.Edits.{skipped, starves, moved, starved, carriedValue, characters, carriedValues, produced, firstPosition, relaid, edited, transformed, unchanging}
 use Rattle.edit_steps.specs.Walking.{Standing}
 use Rattle.edit_steps.proofs.Positions.{standing-next, skipped-none, skipped-past, skipped-on, starves-replacing, moved-replacing}
+use Rattle.convert.specs.declared.Range.{Range}
+use Rattle.transform.specs.Transforming.{rangeEdit}
 use Rattle.edits.specs.Characters.{codeAt, codesFrom, codesOf}
 use Rattle.code_point_blocks.specs.Codes.{textOf}
 use Rattle.map_columns.specs.Spreading.{ofChars, spread}
 use Rattle.map_columns.proofs.Chars.{chars-drop, length-chars, of-chars-at, leads-at}
 use Rattle.map_columns.proofs.Spread.{spread-on}
-use Rattle.edits.specs.Whole.{replacing, allReplacing, wholeEdit, mapEdit, droppedAhead, anyKept, keptCommands, filterEdit}
-use Rattle.edits.specs.Plain.{MakesUnless, headBytes, headChars, mapped, MappedClosed, sifted, cleared, sieved, tailKept, FilteredClosed}
+use Rattle.edits.specs.Whole.{replacing, allReplacing, mapEdit, droppedAhead, anyKept, keptCommands, filterEdit}
+use Rattle.edits.specs.Plain.{MakesUnless, headChars, mapped, MappedClosed, sifted, cleared, sieved, tailKept, FilteredClosed}
 use Rattle.edits.proofs.Characters.{code-bytes}
-use Rattle.edits.proofs.Head.{none-of, head-is-all, head-most, head-stands, head-placed, zero-placed, whole-cases}
+use Rattle.edits.proofs.Head.{none-of, Behind, whole-behind, behind-most, behind-placed, head-is-all, zero-placed}
 
 -- characters skipped one by one
 pub skipped-suc : (s : List ℕ) (b d p : ℕ) → skipped s b (suc d) p ≡ skipped s b d (skipped s b 1 p)
@@ -160,7 +162,7 @@ module _ (s : List ℕ) where
     unfolding produced spread sifted keptCommands
     no-given p = refl
 
-    -- and none does: each carriedValue what the column has for its character
+    -- and none does: each carries what the column has for its character
     pub column-sifted : (cs ks : List ℕ) (p : ℕ) → Standing s end p → length cs ≡ length ks → anyKept (drop (leads (drop p s)) ks) ≡ false → produced (carriedValues xs) s end (next ks p) (keptCommands cs ks) ≡ spread (sifted ks cs) (sifted ks (ofChars (drop p s) (drop p xs)))
     column-sifted [] [] p at same fed = no-given p
     column-sifted [] (k ∷ ks) p at same fed = absurd (omega arith)
@@ -178,77 +180,78 @@ module _ (s : List ℕ) where
         (λ drops. rw (drops-command c k cs ks drops, next-dropped k ks p drops, one-on p more, sifts-out k c cs ks drops, sifts-out k (getD xs p 0) (ofChars (drop q s) (drop q xs)) ks drops) rest)
         (λ keeps. rw (keeps-command c k cs ks keeps, next-kept k ks p keeps, sifts-in k c cs ks keeps, sifts-in k (getD xs p 0) (ofChars (drop q s) (drop q xs)) ks keeps, given-cons p c (droppedAhead ks) (keptCommands cs ks), after-kept c ks p, one-on p more) (spread-on c (getD xs p 0) (sifted ks cs) (sifted ks (ofChars (drop q s) (drop q xs))) rest))))
 
--- THE WHOLE TRANSCRIPT, by code points and flags, one for each character
-module _ (n : Note) (sound : Sound n) (codes flags : List ℕ) (coded : length codes ≡ length flags) (flagged : length flags ≡ chars (n .normalized)) where
+-- ALL BEHIND A HEAD, by code points and flags, one for each character
+module _ (n : Note) (sound : Sound n) {range : Range} {h : ℕ} (k : Behind n range h) (codes flags : List ℕ) (coded : length codes ≡ length flags) (flagged : length flags ≡ chars (n .normalized)) where
   abbrev skips : ℕ
   skips = cond (anyKept flags) (droppedAhead flags) 0
 
-  head-leads : headChars n ≡ leads (take (headBytes n) (n .normalized))
+  head-leads : headChars h n ≡ leads (take h (n .normalized))
   unfolding headChars
-  head-leads = chars-leads _ (formed-take (n .normalized) (headBytes n) (normalized-formed n sound) (head-stands n sound))
+  head-leads = chars-leads _ (formed-take (n .normalized) h (normalized-formed n sound) (k .stands))
 
-  split-chars : chars (n .normalized) ≡ headChars n + leads (drop (headBytes n) (n .normalized))
+  split-chars : chars (n .normalized) ≡ headChars h n + leads (drop h (n .normalized))
   split-chars =
-      chars-leads (n .normalized) (normalized-formed n sound) ∙ ap leads (sym (take-append-drop (headBytes n) (n .normalized)))
-      ∙ leads-append (take (headBytes n) (n .normalized)) (drop (headBytes n) (n .normalized))
-      ∙ ap (λ (k : ℕ). k + leads (drop (headBytes n) (n .normalized))) (sym head-leads)
+      chars-leads (n .normalized) (normalized-formed n sound) ∙ ap leads (sym (take-append-drop h (n .normalized)))
+      ∙ leads-append (take h (n .normalized)) (drop h (n .normalized))
+      ∙ ap (λ (k : ℕ). k + leads (drop h (n .normalized))) (sym head-leads)
 
-  tail-is : tailKept n flags ≡ anyKept (drop (leads (drop (headBytes n) (n .normalized))) flags)
+  tail-is : tailKept h n flags ≡ anyKept (drop (leads (drop h (n .normalized))) flags)
   unfolding tailKept
   tail-is =
-      let left : chars (n .normalized) - headChars n ≡ leads (drop (headBytes n) (n .normalized)) = omega (arith, split-chars) in
+      let left : chars (n .normalized) - headChars h n ≡ leads (drop h (n .normalized)) = omega (arith, split-chars) in
       rw left
 
-  head-standing : Standing (n .normalized) (length (n .normalized)) (headBytes n)
+  head-standing : Standing (n .normalized) (length (n .normalized)) h
   head-standing =
       record {
         formed = normalized-formed n sound;
         ends = boundary-length (n .normalized);
-        stands = head-stands n sound;
-        most = head-most n sound;
+        stands = k .stands;
+        most = behind-most n sound k;
       }
 
   -- where nothing is kept, it is the same where the commands begin
   abbrev begun : ℕ → ℕ
-  begun b = skipped (n .normalized) b skips (headBytes n)
+  begun b = skipped (n .normalized) b skips h
 
-  begun-starved : starved (n .normalized) (length (n .normalized)) (begun (length (n .normalized))) (keptCommands codes flags) ≡ starved (n .normalized) (length (n .normalized)) (next (n .normalized) flags (headBytes n)) (keptCommands codes flags)
+  begun-starved : starved (n .normalized) (length (n .normalized)) (begun (length (n .normalized))) (keptCommands codes flags) ≡ starved (n .normalized) (length (n .normalized)) (next (n .normalized) flags h) (keptCommands codes flags)
   unfolding starved
   begun-starved = true-or-false (anyKept flags) (λ t. rw t) (λ u. rw (none-commands codes flags u))
 
-  begun-given : (piece : ℕ → Command → List ℕ) → produced piece (n .normalized) (length (n .normalized)) (begun (length (n .normalized))) (keptCommands codes flags) ≡ produced piece (n .normalized) (length (n .normalized)) (next (n .normalized) flags (headBytes n)) (keptCommands codes flags)
+  begun-given : (piece : ℕ → Command → List ℕ) → produced piece (n .normalized) (length (n .normalized)) (begun (length (n .normalized))) (keptCommands codes flags) ≡ produced piece (n .normalized) (length (n .normalized)) (next (n .normalized) flags h) (keptCommands codes flags)
   unfolding produced
   begun-given piece = true-or-false (anyKept flags) (λ t. rw t) (λ u. rw (none-commands codes flags u))
 
   -- nothing kept: the head alone
-  sieved-none : sifted flags codes ≡ [] → sieved n codes flags ≡ cleared n
+  sieved-none : sifted flags codes ≡ [] → sieved h n codes flags ≡ cleared h n
   unfolding sieved cleared textOf spread
   sieved-none none =
-      rw (none, append-nil (take (headBytes n) (n .normalized)), append-nil (take (headBytes n) (n .starts)), append-nil (take (headBytes n) (n .ends)))
+      rw (none, append-nil (take h (n .normalized)), append-nil (take h (n .starts)), append-nil (take h (n .ends)))
 
-  column : (xs : List ℕ) → length xs ≡ length (n .normalized) → tailKept n flags ≡ false → take (headBytes n) xs ++ (produced (carriedValues xs) (n .normalized) (length (n .normalized)) (begun (length (n .normalized))) (keptCommands codes flags) ++ drop (length (n .normalized)) xs) ≡ take (headBytes n) xs ++ spread (sifted flags codes) (sifted flags (drop (headChars n) (ofChars (n .normalized) xs)))
+  column : (xs : List ℕ) → length xs ≡ length (n .normalized) → tailKept h n flags ≡ false
+      → take h xs ++ (produced (carriedValues xs) (n .normalized) (length (n .normalized)) (begun (length (n .normalized))) (keptCommands codes flags) ++ drop (length (n .normalized)) xs) ≡ take h xs ++ spread (sifted flags codes) (sifted flags (drop (headChars h n) (ofChars (n .normalized) xs)))
   column xs long fed =
       let past : length xs ≤ length (n .normalized) = omega arith in
       rw (
         drop-of-length-le xs past,
         begun-given (carriedValues xs),
-        column-sifted (n .normalized) xs long codes flags (headBytes n) head-standing coded (sym tail-is ∙ fed),
-        append-nil (spread (sifted flags codes) (sifted flags (ofChars (drop (headBytes n) (n .normalized)) (drop (headBytes n) xs)))),
-        chars-drop (headBytes n) (n .normalized) xs long,
+        column-sifted (n .normalized) xs long codes flags h head-standing coded (sym tail-is ∙ fed),
+        append-nil (spread (sifted flags codes) (sifted flags (ofChars (drop h (n .normalized)) (drop h xs)))),
+        chars-drop h (n .normalized) xs long,
         ← head-leads,
       )
 
-  behind-sieved : MakesUnless n (record { from = headBytes n; to = length (n .normalized); skip = skips; commands = keptCommands codes flags }) (tailKept n flags) (sieved n codes flags)
+  all-sieved : MakesUnless n (record { from = h; to = length (n .normalized); skip = skips; commands = keptCommands codes flags }) (tailKept h n flags) (sieved h n codes flags)
   unfolding transformed edited relaid firstPosition sieved
-  behind-sieved =
+  all-sieved =
       let past : length (n .normalized) ≤ length (n .normalized) = omega arith in
       record {
-        lies = head-placed n sound;
-        exhausts = begun-starved ∙ starved-sifted (n .normalized) codes flags (headBytes n) head-standing coded ∙ sym tail-is;
+        lies = behind-placed n sound k;
+        exhausts = begun-starved ∙ starved-sifted (n .normalized) codes flags h head-standing coded ∙ sym tail-is;
         leaves = λ fed. rw (
           drop-of-length-le (n .normalized) past,
           begun-given characters,
-          given-sifted (n .normalized) (length (n .normalized)) (next (n .normalized) flags (headBytes n)) codes flags,
+          given-sifted (n .normalized) (length (n .normalized)) (next (n .normalized) flags h) codes flags,
           append-nil (textOf (sifted flags codes)),
           column (n .starts) (length-starts n sound) fed,
           column (n .ends) (length-ends n sound) fed,
@@ -259,35 +262,35 @@ module _ (n : Note) (sound : Sound n) (codes flags : List ℕ) (coded : length c
   unfolding transformed edited relaid produced
   no-edit skip = refl
 
-  start-sieved : headBytes n ≡ length (n .normalized) → MakesUnless n (record { from = 0; to = 0; skip = skips; commands = keptCommands codes flags }) (tailKept n flags) (sieved n codes flags)
+  start-sieved : h ≡ length (n .normalized) → MakesUnless n (record { from = 0; to = 0; skip = skips; commands = keptCommands codes flags }) (tailKept h n flags) (sieved h n codes flags)
   unfolding firstPosition
   start-sieved all =
-      let far : length (n .normalized) ≤ headBytes n = omega arith in
-      let is : tailKept n flags ≡ anyKept flags = tail-is ∙ rw (no-leads (n .normalized) (headBytes n) far) in
+      let far : length (n .normalized) ≤ h = omega arith in
+      let is : tailKept h n flags ≡ anyKept flags = tail-is ∙ rw (no-leads (n .normalized) h far) in
       record {
         lies = zero-placed n sound;
         exhausts = rw (skipped-past (n .normalized) 0 skips 0 (omega arith)) (starved-past (n .normalized) 0 0 codes flags (omega arith) coded) ∙ sym is;
         leaves = λ fed.
             let none : anyKept flags ≡ false = sym is ∙ fed in
-            rw (none-commands codes flags none) (no-edit skips ∙ sym (sieved-none (none-sifted flags codes none) ∙ head-is-all n sound all));
+            rw (none-commands codes flags none) (no-edit skips ∙ sym (sieved-none (none-sifted flags codes none) ∙ head-is-all n sound k all));
       }
 
-  nothing-sieved : length (n .normalized) ≡ 0 → MakesUnless n unchanging (tailKept n flags) (sieved n codes flags)
+  nothing-sieved : length (n .normalized) ≡ 0 → MakesUnless n unchanging (tailKept h n flags) (sieved h n codes flags)
   unfolding starved anyKept
   nothing-sieved none =
       let empty : flags ≡ [] = none-of flags (flagged ∙ omega (arith, chars-leads (n .normalized) (normalized-formed n sound), leads-le-length (n .normalized))) in
-      let past : length flags ≤ leads (drop (headBytes n) (n .normalized)) = rw empty (omega arith) in
+      let past : length flags ≤ leads (drop h (n .normalized)) = rw empty (omega arith) in
       let unkept : anyKept flags ≡ false = rw empty in
       record {
         lies = zero-placed n sound;
         exhausts = sym (tail-is ∙ rw (drop-of-length-le flags past));
-        leaves = λ _. no-edit 0 ∙ sym (sieved-none (none-sifted flags codes unkept) ∙ head-is-all n sound (omega (arith, head-most n sound)));
+        leaves = λ _. no-edit 0 ∙ sym (sieved-none (none-sifted flags codes unkept) ∙ head-is-all n sound k (omega (arith, behind-most n sound k)));
       }
 
-  pub sieved-closed : MakesUnless n (wholeEdit n skips (keptCommands codes flags)) (tailKept n flags) (sieved n codes flags)
-  sieved-closed =
-      whole-cases n sound skips (keptCommands codes flags) (λ e. MakesUnless n e (tailKept n flags) (sieved n codes flags))
-      behind-sieved start-sieved nothing-sieved
+  pub sieved-behind : MakesUnless n (rangeEdit n range skips (keptCommands codes flags)) (tailKept h n flags) (sieved h n codes flags)
+  sieved-behind =
+      k .cases skips (keptCommands codes flags) (λ e. MakesUnless n e (tailKept h n flags) (sieved h n codes flags))
+      all-sieved start-sieved nothing-sieved
 
 -- FILTER
 -- a code point's width
@@ -310,7 +313,7 @@ codes-chars s = length-codes 0 s
 pub filtered-closed : FilteredClosed
 unfolding filterEdit
 filtered-closed n flags sound flagged =
-    sieved-closed n sound (codesOf (n .normalized)) flags (codes-chars (n .normalized) ∙ sym flagged) flagged
+    sieved-behind n sound (whole-behind n sound) (codesOf (n .normalized)) flags (codes-chars (n .normalized) ∙ sym flagged) flagged
 
 -- MAP: each flag keeps
 abbrev ones : ℕ → List ℕ
@@ -342,64 +345,67 @@ all-sifted zero xs h = sym (none-of xs (omega arith))
 all-sifted (suc m) [] h = refl
 all-sifted (suc m) (x ∷ xs) h = ap (_∷_ x) (all-sifted m xs (omega arith))
 
-module _ (n : Note) (sound : Sound n) (codes : List ℕ) (coded : length codes ≡ chars (n .normalized)) where
+module _ (n : Note) (sound : Sound n) {range : Range} {h : ℕ} (k : Behind n range h) (codes : List ℕ) (coded : length codes ≡ chars (n .normalized)) where
   abbrev flags : List ℕ
   flags = ones (length codes)
 
   one-each : length codes ≡ length flags
   one-each = sym (length-replicate (length codes) 1)
 
-  closed : MakesUnless n (wholeEdit n (cond (anyKept flags) (droppedAhead flags) 0) (keptCommands codes flags)) (tailKept n flags) (sieved n codes flags)
-  closed = sieved-closed n sound codes flags one-each (sym one-each ∙ coded)
+  closed : MakesUnless n (rangeEdit n range (cond (anyKept flags) (droppedAhead flags) 0) (keptCommands codes flags)) (tailKept h n flags) (sieved h n codes flags)
+  closed = sieved-behind n sound k codes flags one-each (sym one-each ∙ coded)
 
-  same-edit : wholeEdit n (cond (anyKept flags) (droppedAhead flags) 0) (keptCommands codes flags) ≡ mapEdit n codes
-  unfolding mapEdit
+  same-edit : rangeEdit n range (cond (anyKept flags) (droppedAhead flags) 0) (keptCommands codes flags) ≡ rangeEdit n range 0 (allReplacing codes)
   same-edit =
       let none : _≡_ {A = ℕ} (cond (anyKept flags) 0 0) 0 = true-or-false (anyKept flags) (λ t. rw t) (λ u. rw u) in
       rw (none-dropped (length codes), none, all-commands codes)
 
-  same-tail : tailKept n flags ≡ ltb 0 (headChars n)
+  same-tail : tailKept h n flags ≡ ltb 0 (headChars h n)
   unfolding tailKept
   same-tail =
-      let left : length codes - (chars (n .normalized) - headChars n) ≡ headChars n = omega (arith, split-chars n sound codes flags one-each (sym one-each ∙ coded)) in
-      rw (drop-ones (chars (n .normalized) - headChars n) (length codes), left) (any-ones (headChars n))
+      let left : length codes - (chars (n .normalized) - headChars h n) ≡ headChars h n = omega (arith, split-chars n sound k codes flags one-each (sym one-each ∙ coded)) in
+      rw (drop-ones (chars (n .normalized) - headChars h n) (length codes), left) (any-ones (headChars h n))
 
-  no-head : ltb 0 (headChars n) ≡ false → (headChars n ≡ 0) × (headBytes n ≡ 0)
+  no-head : ltb 0 (headChars h n) ≡ false → (headChars h n ≡ 0) × (h ≡ 0)
   no-head none =
-      let charless : headChars n ≡ 0 = omega (arith, ltb-false 0 (headChars n) none) in (
+      let charless : headChars h n ≡ 0 = omega (arith, ltb-false 0 (headChars h n) none) in (
         charless,
-        le-or-lt (headBytes n) 0
+        le-or-lt h 0
             (λ is. omega arith)
             (λ some.
-            let formed = formed-take (n .normalized) (headBytes n) (normalized-formed n sound) (head-stands n sound) in
-            let long : length (take (headBytes n) (n .normalized)) ≡ headBytes n = length-take-le (headBytes n) (n .normalized) (head-most n sound) in
-            let first = leads-at (take (headBytes n) (n .normalized)) (take (headBytes n) (n .normalized)) refl 0 formed (boundary-zero _ formed) (omega arith) in
-            absurd (omega (arith, first, charless, head-leads n sound codes flags one-each (sym one-each ∙ coded)))),
+            let formed = formed-take (n .normalized) h (normalized-formed n sound) (k .stands) in
+            let long : length (take h (n .normalized)) ≡ h = length-take-le h (n .normalized) (behind-most n sound k) in
+            let first = leads-at (take h (n .normalized)) (take h (n .normalized)) refl 0 formed (boundary-zero _ formed) (omega arith) in
+            absurd (omega (arith, first, charless, head-leads n sound k codes flags one-each (sym one-each ∙ coded)))),
       )
 
-  -- a head that has bytes has letters
-  pub head-told : ltb 0 (headChars n) ≡ ltb 0 (headBytes n)
+  -- a head that has bytes has characters
+  pub head-told : ltb 0 (headChars h n) ≡ ltb 0 h
   unfolding headChars charsFrom chars
   head-told =
-      true-or-false (ltb 0 (headChars n))
+      true-or-false (ltb 0 (headChars h n))
       (λ t.
-      t ∙ sym (lt-ltb 0 (headBytes n)
-      (le-or-lt (headBytes n) 0
-      (λ none. let zero : headBytes n ≡ 0 = omega arith in let z : ltb 0 (headChars n) ≡ false = rw zero in clash (ltb 0 (headChars n)) t z)
+      t ∙ sym (lt-ltb 0 h
+      (le-or-lt h 0
+      (λ none. let zero : h ≡ 0 = omega arith in let z : ltb 0 (headChars h n) ≡ false = rw zero in clash (ltb 0 (headChars h n)) t z)
       (λ some. some))))
-      (λ u. u ∙ sym (le-ltb 0 (headBytes n) (omega (arith, no-head u .1))))
+      (λ u. u ∙ sym (le-ltb 0 h (omega (arith, no-head u .1))))
 
   column-mapped : (xs : List ℕ) → length xs ≡ length (n .normalized) → sifted flags (ofChars (n .normalized) xs) ≡ ofChars (n .normalized) xs
   column-mapped xs long =
       all-sifted (length codes) (ofChars (n .normalized) xs) (omega (arith, length-chars (n .normalized) xs long, chars-leads (n .normalized) (normalized-formed n sound)))
 
-  same-note : ltb 0 (headChars n) ≡ false → sieved n codes flags ≡ mapped n codes
+  same-note : ltb 0 (headChars h n) ≡ false → sieved h n codes flags ≡ mapped n codes
   unfolding sieved mapped
   same-note none =
       let zero = no-head none in
-      rw (zero .1, zero .0, all-sifted (length codes) codes (omega arith), column-mapped (n .starts) (length-starts n sound), column-mapped (n .ends) (length-ends n sound))
+      rw (zero .0, zero .1, all-sifted (length codes) codes (omega arith), column-mapped (n .starts) (length-starts n sound), column-mapped (n .ends) (length-ends n sound))
+
+  mapped-behind : MakesUnless n (rangeEdit n range 0 (allReplacing codes)) (ltb 0 (headChars h n)) (mapped n codes)
+  mapped-behind =
+      let made = rw (same-edit, same-tail) at closed in
+      record { lies = made .lies; exhausts = made .exhausts; leaves = λ fed. made .leaves fed ∙ same-note fed }
 
 pub mapped-closed : MappedClosed
-mapped-closed n codes sound coded =
-    let k = rw (same-edit n sound codes coded, same-tail n sound codes coded) at (closed n sound codes coded) in
-    record { lies = k .lies; exhausts = k .exhausts; leaves = λ fed. k .leaves fed ∙ same-note n sound codes coded fed }
+unfolding mapEdit
+mapped-closed n codes sound coded = mapped-behind n sound (whole-behind n sound) codes coded

@@ -13,8 +13,9 @@ use Rattle.code_point_blocks.specs.Codes.{textOf}
 use Rattle.map_columns.specs.Spreading.{ofChars, spread}
 use Rattle.utf8.specs.Formed.{charRange}
 use Rattle.edit_steps.specs.Edits.{starved, Edit, firstPosition, transformed}
+use Rattle.transform.specs.Transforming.{rangeEdit}
 use Rattle.edits.specs.Characters.{codesOf}
-use Rattle.edits.specs.Whole.{wholeEdit, clearEdit, mapEdit, anyKept, filterEdit}
+use Rattle.edits.specs.Whole.{wholeRange, clearEdit, mapEdit, anyKept, filterEdit}
 
 -- an edit that neither 5 nor 7 refuses, and the note that it makes
 pub record Makes (n : Note) (e : Edit) (made : Note) : Type 0 where
@@ -32,7 +33,8 @@ pub record MakesUnless (n : Note) (e : Edit) (short : Bool) (made : Note) : Type
 abbrev pub WholePlaced : Type 0
 WholePlaced =
     (n : Note) (skip : ℕ) (cs : List Command) → Sound n
-    → charRange (n .normalized) (wholeEdit n skip cs .from) (wholeEdit n skip cs .to) ≡ true
+    → charRange (n .normalized) (rangeEdit n (wholeRange n) skip cs .from) (rangeEdit n (wholeRange n) skip cs .to)
+    ≡ true
 
 -- how many alignments, one after the other from the first on, have no width
 unfoldable pub widthless : List ℕ → List ℕ → ℕ
@@ -40,26 +42,26 @@ widthless [] ends = 0
 widthless (s ∷ starts) [] = 0
 widthless (s ∷ starts) (e ∷ ends) = cond (eqb s e) (suc (widthless starts ends)) 0
 
--- THE HEAD: the cleaned text before the first alignment that has width, all of it where none has; in bytes and letters
+-- THE HEAD, which an edit of the whole transcript leaves: the cleaned text before the first alignment that has width,
+-- all of it where none has; how many bytes it has
 abbrev pub headBytes : Note → ℕ
 headBytes n = widthless (n .starts) (n .ends)
-
-unfoldable pub headChars : Note → ℕ
-headChars n = chars (take (headBytes n) (n .normalized))
 
 -- CLAIM: the head ends between two characters.
 abbrev pub HeadWhole : Type 0
 HeadWhole = (n : Note) → Sound n → boundary (n .normalized) (headBytes n) ≡ true
 
+-- what follows holds for a head of any length h that ends between two characters; how many characters it has
+unfoldable pub headChars : ℕ → Note → ℕ
+headChars h n = chars (take h (n .normalized))
+
 -- CLEAR: the head stays, with its alignments
-unfoldable pub cleared : Note → Note
-cleared n =
-    lent (n .original) (take (headBytes n) (n .normalized)) (take (headBytes n) (n .starts))
-    (take (headBytes n) (n .ends)) (n .original-shift)
+unfoldable pub cleared : ℕ → Note → Note
+cleared h n = lent (n .original) (take h (n .normalized)) (take h (n .starts)) (take h (n .ends)) (n .original-shift)
 
 -- CLAIM: so does `clear` leave every sound note; it is never refused for what it does (5, 7).
 abbrev pub ClearedClosed : Type 0
-ClearedClosed = (n : Note) → Sound n → Makes n (clearEdit n) (cleared n)
+ClearedClosed = (n : Note) → Sound n → Makes n (clearEdit n) (cleared (headBytes n) n)
 
 -- MAP: the code points, each with the alignment of the character that it replaces
 unfoldable pub mapped : Note → List ℕ → Note
@@ -71,7 +73,7 @@ mapped n codes =
 abbrev pub MappedClosed : Type 0
 MappedClosed =
     (n : Note) (codes : List ℕ) → Sound n → length codes ≡ chars (n .normalized)
-    → MakesUnless n (mapEdit n codes) (ltb 0 (headChars n)) (mapped n codes)
+    → MakesUnless n (mapEdit n codes) (ltb 0 (headChars (headBytes n) n)) (mapped n codes)
 
 -- the elements whose flag is not 0
 unfoldable pub sifted : List ℕ → List ℕ → List ℕ
@@ -79,26 +81,24 @@ sifted [] xs = []
 sifted (k ∷ ks) [] = []
 sifted (k ∷ ks) (x ∷ xs) = cond (eqb k 0) (sifted ks xs) (x ∷ sifted ks xs)
 
--- FILTER, with any code points in the place of the characters: the head stays, and behind it stand the kept ones, each
--- with the alignment of the character that stands as many letters further as the head has
-unfoldable pub sieved : Note → List ℕ → List ℕ → Note
-sieved n codes flags =
-    lent (n .original) (take (headBytes n) (n .normalized) ++ textOf (sifted flags codes))
-    (take (headBytes n) (n .starts)
-    ++ spread (sifted flags codes) (sifted flags (drop (headChars n) (ofChars (n .normalized) (n .starts)))))
-    (take (headBytes n) (n .ends)
-    ++ spread (sifted flags codes) (sifted flags (drop (headChars n) (ofChars (n .normalized) (n .ends)))))
+-- FILTER, with any code points in the place of the characters: the head stays, and after it come the kept ones, each
+-- with the alignment of the character that is as many characters further as the head has
+unfoldable pub sieved : ℕ → Note → List ℕ → List ℕ → Note
+sieved h n codes flags =
+    lent (n .original) (take h (n .normalized) ++ textOf (sifted flags codes))
+    (take h (n .starts)
+    ++ spread (sifted flags codes) (sifted flags (drop (headChars h n) (ofChars (n .normalized) (n .starts)))))
+    (take h (n .ends)
+    ++ spread (sifted flags codes) (sifted flags (drop (headChars h n) (ofChars (n .normalized) (n .ends)))))
     (n .original-shift)
 
-abbrev pub filtered : Note → List ℕ → Note
-filtered n flags = sieved n (codesOf (n .normalized)) flags
-
 -- one of the last characters, as many as the head has, is kept
-unfoldable pub tailKept : Note → List ℕ → Bool
-tailKept n flags = anyKept (drop (chars (n .normalized) - headChars n) flags)
+unfoldable pub tailKept : ℕ → Note → List ℕ → Bool
+tailKept h n flags = anyKept (drop (chars (n .normalized) - headChars h n) flags)
 
 -- CLAIM: so does `filter` leave every sound note; but it refuses where such a character is kept (7).
 abbrev pub FilteredClosed : Type 0
 FilteredClosed =
     (n : Note) (flags : List ℕ) → Sound n → length flags ≡ chars (n .normalized)
-    → MakesUnless n (filterEdit n flags) (tailKept n flags) (filtered n flags)
+    → MakesUnless n (filterEdit n flags) (tailKept (headBytes n) n flags)
+    (sieved (headBytes n) n (codesOf (n .normalized)) flags)

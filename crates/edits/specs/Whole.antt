@@ -11,16 +11,16 @@ use Rattle.utf8.specs.Chars.{chars}
 use Rattle.note.specs.declared.Refusal.{Refusal}
 use Rattle.note.specs.declared.Refusal.the-variants.{BadScript, CountMismatch}
 use Rattle.note.specs.declared.Verdict.{Verdict}
-use Rattle.note.specs.declared.Verdict.the-variants.{Accepted, Refused as Rejected}
-use Rattle.note.specs.Refusals.{none, meets, also, after}
-use Rattle.note.specs.Notes.{Note}
+use Rattle.note.specs.Refusals.{none, meets, also, verdict, unlessRefused, least, after, OnThree}
+use Rattle.note.specs.Notes.{Note, limit}
 use Rattle.utf8.specs.CharRanges.{charStart}
 use Rattle.note.specs.Faults.{noteFaults, stringFaults}
 use Rattle.convert.specs.declared.Range.{Range}
 use Rattle.script.specs.declared.Command.{Command}
 use Rattle.code_point_blocks.specs.Codes.{allScalar}
-use Rattle.edit_steps.specs.Edits.{Edit, unchanging}
-use Rattle.transform.specs.Transforming.{target, editOf, editFaults, wholeOriginal}
+use Rattle.edit_steps.specs.Edits.{edit, Edit, transformed, unchanging}
+use Rattle.transform.specs.declared.Editing.{Editing}
+use Rattle.transform.specs.Transforming.{rangeEdit, editFaults, NoteCall, wholeOriginal}
 use Rattle.edits.specs.declared.Clearing.{Clearing}
 use Rattle.edits.specs.declared.Clearing.the-variants.{Cleared, Refused}
 use Rattle.edits.specs.Characters.{codeAt, codesOf}
@@ -28,9 +28,6 @@ use Rattle.edits.specs.Characters.{codeAt, codesOf}
 -- the range that `filter`, `map` and `clear` edit: the whole transcript
 abbrev pub wholeRange : Note → Range
 wholeRange n = wholeOriginal (n .original)
-
-abbrev pub wholeEdit : Note → ℕ → List Command → Edit
-wholeEdit n skip cs = editOf (target (n .starts) (n .ends) (wholeRange n)) skip cs
 
 -- a character that replaces one, with so many removed behind it, and one that is added
 abbrev pub replacing : ℕ → ℕ → Command
@@ -49,50 +46,44 @@ allAdding (c ∷ cs) = adding c ∷ allAdding cs
 
 -- MAP: a code point for each character
 unfoldable pub mapEdit : Note → List ℕ → Edit
-mapEdit n codes = wholeEdit n 0 (allReplacing codes)
+mapEdit n codes = rangeEdit n (wholeRange n) 0 (allReplacing codes)
 
 -- code points are scalar values, one for each cleaned character
 abbrev pub codesFaults : List ℕ → List ℕ → Refusal → Bool
 codesFaults text codes =
     meets BadScript (not (allScalar codes)) (meets CountMismatch (not (eqb (length codes) (chars text))) none)
 
-abbrev pub mapFaults : ℕ → Note → List ℕ → ℕ → Refusal → Bool
-mapFaults most n codes room =
-    also (also (noteFaults most n) (codesFaults (n .normalized) codes))
-    (editFaults most (n .normalized) (mapEdit n codes) room)
+abbrev pub MapCall : Note → List ℕ → OnThree Editing
+MapCall n codes = NoteCall n (codesFaults (n .normalized) codes) (mapEdit n codes)
 
 -- CLEAR: no command, and as many characters skipped as the text has bytes
 unfoldable pub clearEdit : Note → Edit
-clearEdit n = wholeEdit n (length (n .normalized)) []
+clearEdit n = rangeEdit n (wholeRange n) (length (n .normalized)) []
 
 abbrev pub clearFaults : ℕ → Note → ℕ → Refusal → Bool
 clearFaults most n room = also (noteFaults most n) (editFaults most (n .normalized) (clearEdit n) room)
 
--- the answer of `clear`: how long the cleaned text was and is, or the refusal
-abbrev pub clearing : Verdict → ℕ → ℕ → Clearing
-clearing Accepted before left = Cleared before left
-clearing (Rejected k) before left = Refused k
-
+-- what `clear` answers, how long the cleaned text was and is, and what it leaves in the buffers: the verdict, the note
+-- and what is made of it, the buffers before, the answer, the buffers after
 pub record Emptied (says : Verdict) (n made : Note) (out₀ starts₀ ends₀ : List ℕ) (r : Clearing)
     (out starts ends : List ℕ) : Type 0 where
-  pub answer : r ≡ clearing says (length (n .normalized)) (length (made .normalized))
+  pub answer : r ≡ unlessRefused Refused says (Cleared (length (n .normalized)) (length (made .normalized)))
   pub text-is : out ≡ after says (made .normalized) out₀
   pub starts-are : starts ≡ after says (made .starts) starts₀
   pub ends-are : ends ≡ after says (made .ends) ends₀
 
+abbrev pub ClearCall : Note → OnThree Clearing
+ClearCall n out₀ starts₀ ends₀ =
+    Emptied (verdict (clearFaults limit n (least (length out₀) (length starts₀) (length ends₀)))) n
+    (transformed n (clearEdit n)) out₀ starts₀ ends₀
+
 -- APPEND: the last character replaces itself, the string's are added
 unfoldable pub appendEdit : Note → List ℕ → Edit
 appendEdit n string =
-    cond (eqb (length (n .normalized)) 0)
-    (record { from = 0; to = 0; skip = 0; commands = allAdding (codesOf string) })
-    (record {
-      from = charStart (n .normalized) (length (n .normalized) - 1);
-      to = length (n .normalized);
-      skip = 0;
-      commands =
-          replacing 0 (codeAt (n .normalized) (charStart (n .normalized) (length (n .normalized) - 1)))
-          ∷ allAdding (codesOf string);
-    })
+    cond (eqb (length (n .normalized)) 0) (edit 0 0 0 (allAdding (codesOf string)))
+    (edit (charStart (n .normalized) (length (n .normalized) - 1)) (length (n .normalized)) 0
+    (replacing 0 (codeAt (n .normalized) (charStart (n .normalized) (length (n .normalized) - 1)))
+    ∷ allAdding (codesOf string)))
 
 -- PREPEND: the string's first character replaces the text's first one, the others are added, and so is that first one
 abbrev pub replacingFirst : List ℕ → List Command
@@ -102,17 +93,15 @@ replacingFirst (c ∷ cs) = replacing 0 c ∷ allAdding cs
 unfoldable pub prependEdit : Note → List ℕ → Edit
 prependEdit n string =
     cond (eqb (length (n .normalized)) 0) unchanging
-    (record {
-      from = 0;
-      to = announced (getD (n .normalized) 0 0);
-      skip = 0;
-      commands = replacingFirst (codesOf string) ++ (adding (codeAt (n .normalized) 0) ∷ []);
-    })
+    (edit 0 (announced (getD (n .normalized) 0 0)) 0
+    (replacingFirst (codesOf string) ++ (adding (codeAt (n .normalized) 0) ∷ [])))
 
 -- both judge the note and the string, then the edit
-abbrev pub joinFaults : ℕ → Note → List ℕ → Edit → ℕ → Refusal → Bool
-joinFaults most n string e room =
-    also (also (noteFaults most n) (stringFaults string)) (editFaults most (n .normalized) e room)
+abbrev pub AppendCall : Note → List ℕ → OnThree Editing
+AppendCall n string = NoteCall n (stringFaults string) (appendEdit n string)
+
+abbrev pub PrependCall : Note → List ℕ → OnThree Editing
+PrependCall n string = NoteCall n (stringFaults string) (prependEdit n string)
 
 -- FILTER: a flag for each character, 0 drops it; a kept one removes the dropped ones behind it, and what is dropped
 -- before the first kept one is skipped
@@ -132,9 +121,9 @@ keptCommands (c ∷ cs) (k ∷ ks) =
 
 unfoldable pub filterEdit : Note → List ℕ → Edit
 filterEdit n flags =
-    wholeEdit n (cond (anyKept flags) (droppedAhead flags) 0) (keptCommands (codesOf (n .normalized)) flags)
+    rangeEdit n (wholeRange n) (cond (anyKept flags) (droppedAhead flags) 0)
+    (keptCommands (codesOf (n .normalized)) flags)
 
-abbrev pub filterFaults : ℕ → Note → List ℕ → ℕ → Refusal → Bool
-filterFaults most n flags room =
-    also (also (noteFaults most n) (meets CountMismatch (not (eqb (length flags) (chars (n .normalized)))) none))
-    (editFaults most (n .normalized) (filterEdit n flags) room)
+abbrev pub FilterCall : Note → List ℕ → OnThree Editing
+FilterCall n flags =
+    NoteCall n (meets CountMismatch (not (eqb (length flags) (chars (n .normalized)))) none) (filterEdit n flags)

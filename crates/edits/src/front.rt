@@ -1,4 +1,4 @@
-// The head of a note (RULES 8): how many alignments stand before the first one that has width.
+// The head of a note (RULES 8): how many alignments are before the first one that has width.
 // Each function here is an inner one: the note is accepted, so that there is an end for each start.
 use buffers::Offset;
 use buffers::equality::same_offsets;

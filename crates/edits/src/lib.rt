@@ -10,11 +10,8 @@ use checks::least_room;
 use front::widthless;
 use note::Refusal;
 use note::Verdict;
-ghost use lib.ListN.{length};
-ghost use Rattle.note.specs.Notes.{lent, limit};
-ghost use Rattle.note.specs.Refusals.{least, verdict};
-ghost use Rattle.edit_steps.specs.Edits.{transformed};
-ghost use Rattle.edits.specs.Whole.{clearEdit, clearFaults, Emptied};
+ghost use Rattle.note.specs.Notes.{lent};
+ghost use Rattle.edits.specs.Whole.{ClearCall};
 
 // What `clear` answers: how many bytes the cleaned text had, and how many are left; or why nothing is cleared.
 pub enum Clearing {
@@ -33,19 +30,9 @@ pub fn clear(
     out_starts: &mut [Offset],
     out_ends: &mut [Offset],
 ) -> Clearing
-    ensures { λ r. ⌜ Emptied
-        (verdict (clearFaults limit
+    ensures { λ r. ⌜ ClearCall
         (lent (now (original .entry)) (now (normalized .entry)) (now (starts .entry)) (now (ends .entry))
         «original_shift»)
-        (least (length (now (out .entry))) (length (now («out_starts» .entry))) (length (now («out_ends» .entry))))))
-        (lent (now (original .entry)) (now (normalized .entry)) (now (starts .entry)) (now (ends .entry))
-        «original_shift»)
-        (transformed
-        (lent (now (original .entry)) (now (normalized .entry)) (now (starts .entry)) (now (ends .entry))
-        «original_shift»)
-        (clearEdit
-        (lent (now (original .entry)) (now (normalized .entry)) (now (starts .entry)) (now (ends .entry))
-        «original_shift»)))
         (now (out .entry)) (now («out_starts» .entry)) (now («out_ends» .entry))
         r (now (out .exit)) (now («out_starts» .exit)) (now («out_ends» .exit)) ⌝ }
 {

@@ -6,6 +6,7 @@ use checks::least_room;
 use code_points::judge;
 use map_columns::lay_codes;
 use note::LIMIT;
+use note::NormalizedByte;
 use note::Refusal;
 use note::Verdict;
 use transform::Editing;
@@ -13,12 +14,9 @@ use utf8::count::count_leads;
 ghost use mathlib.Core.Path.{_≡_};
 ghost use lib.Dec.{ltb};
 ghost use lib.ListN.{length};
-ghost use Rattle.note.specs.Notes.{lent, limit};
-ghost use Rattle.note.specs.Refusals.{least, verdict};
-ghost use Rattle.edit_steps.specs.Edits.{transformed};
-ghost use Rattle.transform.specs.Transforming.{Rewritten};
+ghost use Rattle.note.specs.Notes.{lent};
 ghost use Rattle.edits.specs.Plain.{widthless};
-ghost use Rattle.edits.specs.Whole.{mapEdit, mapFaults};
+ghost use Rattle.edits.specs.Whole.{MapCall};
 
 // Whether the note has a head: its first alignment has no width. An inner function: there is an end for each start.
 fn has_head(starts: &[Offset], ends: &[Offset]) -> bool
@@ -44,19 +42,10 @@ pub fn map(
     out_starts: &mut [Offset],
     out_ends: &mut [Offset],
 ) -> Editing
-    ensures { λ r. ⌜ Rewritten
-        (verdict (mapFaults limit
+    ensures { λ r. ⌜ MapCall
         (lent (now (original .entry)) (now (normalized .entry)) (now (starts .entry)) (now (ends .entry))
         «original_shift»)
         (now (codes .entry))
-        (least (length (now (out .entry))) (length (now («out_starts» .entry))) (length (now («out_ends» .entry))))))
-        (transformed
-        (lent (now (original .entry)) (now (normalized .entry)) (now (starts .entry)) (now (ends .entry))
-        «original_shift»)
-        (mapEdit
-        (lent (now (original .entry)) (now (normalized .entry)) (now (starts .entry)) (now (ends .entry))
-        «original_shift»)
-        (now (codes .entry))))
         (now (out .entry)) (now («out_starts» .entry)) (now («out_ends» .entry))
         r (now (out .exit)) (now («out_starts» .exit)) (now («out_ends» .exit)) ⌝ }
 {
@@ -84,7 +73,7 @@ pub fn map(
                 normalized,
                 starts,
                 ends,
-                0,
+                NormalizedByte(0),
                 codes,
                 out,
                 out_starts,

@@ -8,7 +8,7 @@ use lib.ListN.{length}
 use Rattle.buffers.specs.Same.{same}
 use Rattle.note.specs.declared.Verdict.{Verdict}
 use Rattle.note.specs.declared.Verdict.the-variants.{Accepted, Refused as Rejected}
-use Rattle.note.specs.Refusals.{verdict}
+use Rattle.note.specs.Refusals.{verdict, unlessRefused}
 use Rattle.note.specs.Notes.{Note, limit}
 use Rattle.note.specs.Starting.{starting}
 use Rattle.convert.specs.declared.Range.{Range}
@@ -20,6 +20,7 @@ use Rattle.char_offsets.specs.declared.CharOffsets.{CharOffsets}
 use Rattle.char_offsets.specs.declared.CharOffsets.the-variants.{Chars, Refused as Unmapped}
 use Rattle.char_offsets.specs.Positions.{charOffsets}
 use Rattle.pattern.specs.Entries.{placesOf}
+use Rattle.find.specs.Finding.{foundBytes}
 use Rattle.replace.specs.Replacing.{PublishedNote, replaced, replaceFaults}
 use Rattle.behaviors.specs.declared.SplitDelimiterBehavior.{SplitDelimiterBehavior}
 use Rattle.behaviors.specs.declared.SplitDelimiterBehavior.the-variants.{
@@ -33,7 +34,9 @@ use Rattle.split.specs.Splitting.{PieceColumns, cutBy, splitFaults}
 use Rattle.edit_steps.specs.Edits.{transformed}
 use Rattle.edits.specs.declared.Clearing.{Clearing}
 use Rattle.edits.specs.declared.Clearing.the-variants.{Cleared, Refused as Uncleared}
-use Rattle.edits.specs.Whole.{prependEdit, joinFaults, clearEdit, clearFaults, clearing}
+use Rattle.note.specs.Faults.{stringFaults}
+use Rattle.transform.specs.Transforming.{callFaults}
+use Rattle.edits.specs.Whole.{prependEdit, clearEdit, clearFaults}
 
 -- whether an answer is this range, of this text
 abbrev pub sameRange : Range → Range → Bool
@@ -74,6 +77,10 @@ cutsInto n list behavior from to =
     (length (cutBy n list behavior Kept .alignment-starts))))
     && areSpans (cutBy n list behavior Kept) from to
 
+-- by the list that finding a literal in its text gives
+abbrev pub cutsAt : Note → List ℕ → SplitDelimiterBehavior → List ℕ → List ℕ → Bool
+cutsAt n literal behavior from to = cutsInto n (foundBytes (n .normalized) literal) behavior from to
+
 -- whether a note has this text with these alignments
 abbrev pub holds : Note → List ℕ → List ℕ → List ℕ → Bool
 holds n text starts ends = same (n .normalized) text && same (n .starts) starts && same (n .ends) ends
@@ -101,20 +108,15 @@ nest a b = starting (0x6E ∷ 0x65 ∷ 0x73 ∷ 0x74 ∷ 0x20 ∷ a ∷ b ∷ []
 unfoldable pub blank : List ℕ
 blank = 11 ∷ 0 ∷ 0 ∷ 5 ∷ 0 ∷ 12 ∷ 5 ∷ 0 ∷ 7 ∷ 0 ∷ []
 
--- `the-final--countdown`, and the list of its hyphens
+-- `the-final--countdown`
 unfoldable pub final : Note
 final =
     starting (0x74 ∷ 0x68 ∷ 0x65 ∷ 0x2D ∷ 0x66 ∷ 0x69 ∷ 0x6E ∷ 0x61 ∷ 0x6C ∷ 0x2D ∷ 0x2D
     ∷ 0x63 ∷ 0x6F ∷ 0x75 ∷ 0x6E ∷ 0x74 ∷ 0x64 ∷ 0x6F ∷ 0x77 ∷ 0x6E ∷ [])
 
-unfoldable pub hyphens : List ℕ
-hyphens =
-    11 ∷ 0 ∷ 0 ∷ 3 ∷ 0 ∷ 12 ∷ 3 ∷ 0 ∷ 4 ∷ 0 ∷ 11 ∷ 4 ∷ 0 ∷ 9 ∷ 0
-    ∷ 12 ∷ 9 ∷ 0 ∷ 10 ∷ 0 ∷ 12 ∷ 10 ∷ 0 ∷ 11 ∷ 0 ∷ 11 ∷ 11 ∷ 0 ∷ 20 ∷ 0 ∷ []
-
 unfoldable pub worked : List Bool
 worked =
-    -- converting on `aéb`: a byte of é is all of é; half of é is no letter; an end far past the text; an empty range
+    -- converting on `aéb`: a byte of é is all of é; half of é is no character; an end far past the text; an empty range
     gives (convertOffsets limit aéb (inNormalized 1 2)) (inOriginal 1 3)
     ∷ gives (convertOffsets limit aéb (inOriginal 1 2)) (inNormalized 1 1)
     ∷ gives (convertOffsets limit aéb (inOriginal 0 9)) (inNormalized 0 4)
@@ -131,17 +133,19 @@ worked =
     -- an empty matched place at the beginning of `ab`, filled by `x`
     ∷ publishes (starting (0x61 ∷ 0x62 ∷ [])) (12 ∷ 0 ∷ 0 ∷ 0 ∷ 0 ∷ 11 ∷ 0 ∷ 0 ∷ 2 ∷ 0 ∷ []) (0x78 ∷ [])
     (0x78 ∷ 0x61 ∷ 0x62 ∷ []) (0 ∷ 0 ∷ 1 ∷ []) (0 ∷ 1 ∷ 2 ∷ [])
-    -- `the-final--countdown` cut at its hyphens: the, final, countdown; then every place; the-, final-, -, countdown;
+    -- `the-final--countdown` cut at `-`: the, final, countdown; then every place; the-, final-, -, countdown;
     -- and the, -, final, --, countdown
-    ∷ cutsInto final hyphens Removed (0 ∷ 4 ∷ 11 ∷ []) (3 ∷ 9 ∷ 20 ∷ [])
-    ∷ cutsInto final hyphens Isolated (0 ∷ 3 ∷ 4 ∷ 9 ∷ 10 ∷ 11 ∷ []) (3 ∷ 4 ∷ 9 ∷ 10 ∷ 11 ∷ 20 ∷ [])
-    ∷ cutsInto final hyphens MergedWithPrevious (0 ∷ 4 ∷ 10 ∷ 11 ∷ []) (4 ∷ 10 ∷ 11 ∷ 20 ∷ [])
-    ∷ cutsInto final hyphens Contiguous (0 ∷ 3 ∷ 4 ∷ 9 ∷ 11 ∷ []) (3 ∷ 4 ∷ 9 ∷ 11 ∷ 20 ∷ [])
-    -- `prepend("")` on `aé` keeps the text, and its first letter loses its alignment; `clear` then leaves that letter
-    ∷ accepts (verdict (joinFaults limit aé [] (prependEdit aé []) 3))
+    ∷ cutsAt final (0x2D ∷ []) Removed (0 ∷ 4 ∷ 11 ∷ []) (3 ∷ 9 ∷ 20 ∷ [])
+    ∷ cutsAt final (0x2D ∷ []) Isolated (0 ∷ 3 ∷ 4 ∷ 9 ∷ 10 ∷ 11 ∷ []) (3 ∷ 4 ∷ 9 ∷ 10 ∷ 11 ∷ 20 ∷ [])
+    ∷ cutsAt final (0x2D ∷ []) MergedWithPrevious (0 ∷ 4 ∷ 10 ∷ 11 ∷ []) (4 ∷ 10 ∷ 11 ∷ 20 ∷ [])
+    ∷ cutsAt final (0x2D ∷ []) Contiguous (0 ∷ 3 ∷ 4 ∷ 9 ∷ 11 ∷ []) (3 ∷ 4 ∷ 9 ∷ 11 ∷ 20 ∷ [])
+    -- `prepend("")` on `aé` keeps the text, and its first character loses its alignment; `clear`
+    -- then leaves that character
+    ∷ accepts (verdict (callFaults limit aé (stringFaults []) (prependEdit aé []) 3))
     ∷ holds prependedNothing (0x61 ∷ 0xC3 ∷ 0xA9 ∷ []) (0 ∷ 1 ∷ 1 ∷ []) (0 ∷ 3 ∷ 3 ∷ [])
-    ∷ clears (clearing (verdict (clearFaults limit prependedNothing 1)) (length (prependedNothing .normalized))
-    (length (transformed prependedNothing (clearEdit prependedNothing) .normalized))) 3 1
+    ∷ clears (unlessRefused Uncleared (verdict (clearFaults limit prependedNothing 1))
+    (Cleared (length (prependedNothing .normalized))
+    (length (transformed prependedNothing (clearEdit prependedNothing) .normalized)))) 3 1
     ∷ holds (transformed prependedNothing (clearEdit prependedNothing)) (0x61 ∷ []) (0 ∷ []) (0 ∷ [])
     ∷ []
 

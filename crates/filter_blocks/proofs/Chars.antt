@@ -1,4 +1,4 @@
--- Laws of filtering letter by letter: four characters are still to come, so that four bytes of any can be laid.
+-- Laws of filtering character by character: four characters are still to come, so that four bytes of any can be laid.
 use Prim.Native.Nat.{ℕ, zero, suc, _+_, _-_, _≤_, _<_}
 use mathlib.Core.Path.{_≡_, _∙_, ap, refl, sym}
 use mathlib.Core.Bool.{true, cond, not, _&&_}
@@ -142,7 +142,9 @@ module _ {s flags : List ℕ} (f : FlagEach s flags) where
       (left, omega (arith, left, chosen-most flags i (drop q s), length-drop q s))
 
 -- one column, a character on
-module _ {s xs flags d₀ : List ℕ} (ready : KeptColumnRoom s xs flags d₀) (f : FlagEach s flags) {i q at : ℕ} {d : List ℕ} (c : Counted s i q) (b : boundary s q ≡ true) (l : Reaching (chosen flags 0 s xs) (chosen flags i (drop q s) (drop q xs)) d₀ at d) (left : (4 ≤ length (chosen flags i (drop q s) (drop q s))) × (q + 4 ≤ length s)) where
+module _ {s xs flags d₀ : List ℕ} (ready : KeptColumnRoom s xs flags d₀) (f : FlagEach s flags) {i q at : ℕ} {d : List ℕ} (c : Counted s i q)
+    (b : boundary s q ≡ true) (l : Reaching (chosen flags 0 s xs) (chosen flags i (drop q s) (drop q xs)) d₀ at d)
+    (left : (4 ≤ length (chosen flags i (drop q s) (drop q s))) × (q + 4 ≤ length s)) where
   same-left : 4 ≤ length (chosen flags i (drop q s) (drop q xs))
   same-left = omega (arith, left .0, chosen-long flags i (drop q s) (drop q xs) (drop q s) (length-drop q xs ∙ rw (ready .one-each) (sym (length-drop q s))) refl)
 
@@ -205,7 +207,9 @@ module _ {s starts ends flags : List ℕ} {stop : ℕ} {out₀ starts₀ ends₀
       pub ends-four : (q + 4 ≤ length ends) × (at + 4 ≤ length ends₁)
       ends-four = four-room (r .ends-ready) (r .flagged) (k .laid .counted) (k .stands) (k .laid .ends-so-far) left
 
-      pub one-between-chars : {w size : ℕ} {out₂ starts₂ ends₂ : List ℕ} → w ≡ leadLen (getD s q 0) → out₂ ≡ splice out at (part s q (q + 4)) → starts₂ ≡ splice starts₁ at (part starts q (q + 4)) → ends₂ ≡ splice ends₁ at (part ends q (q + 4)) → size ≡ keptLen (getD flags i 0) w → KeptBetween s starts ends flags out₀ starts₀ ends₀ (q + w) (i + 1) (at + size) out₂ starts₂ ends₂
+      pub one-between-chars : {w size : ℕ} {out₂ starts₂ ends₂ : List ℕ} → w ≡ leadLen (getD s q 0) → out₂ ≡ splice out at (part s q (q + 4))
+          → starts₂ ≡ splice starts₁ at (part starts q (q + 4)) → ends₂ ≡ splice ends₁ at (part ends q (q + 4)) → size ≡ keptLen (getD flags i 0) w
+          → KeptBetween s starts ends flags out₀ starts₀ ends₀ (q + w) (i + 1) (at + size) out₂ starts₂ ends₂
       one-between-chars {w} told o st en sized =
           let wide : w ≡ announced (getD s q 0) = char-wide told in
           let char = here (r .flagged) (k .laid .counted) (k .stands) (char-there .0) in

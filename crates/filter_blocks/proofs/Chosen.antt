@@ -12,7 +12,7 @@ use lib.Seq.{drop-cons, length-take-le, take-all}
 use borrow.Author.Tests.{ne-eqb}
 use Rattle.buffers.specs.Splice.{part, splice, overlay}
 use Rattle.buffers.proofs.Cases.{le-or-lt, true-or-false}
-use Rattle.buffers.proofs.Splice.{part-append, splice-nil, store-before}
+use Rattle.buffers.proofs.Splice.{part-append, store-one}
 use Rattle.buffers.specs.Over.{Reaching}
 use Rattle.buffers.proofs.Over.{none-reached, over-exact, over-front, reaching-size, run-reached, all-reached}
 use Rattle.utf8.specs.Formed.{announced, wellFormed, continues, boundary}
@@ -22,12 +22,6 @@ use Rattle.utf8.specs.Counting.{Counted}
 use Rattle.utf8.proofs.Chars.{counted-le, lead-one, lead-zero, flag-counted, leads-append, leads-take, leads-take-add, chars-leads}
 use Rattle.filter_blocks.specs.Counting.{KeptSoFar}
 use Rattle.filter_blocks.specs.Chosen.{chosen, FlagEach, KeptEnd, KeptColumnRoom, KeptRoom, KeptLaid}
-
-store-one : (d : List ℕ) (at x : ℕ) → at < length d → set d at x ≡ splice d at (x ∷ [])
-store-one d at x h =
-    let z : at + 0 ≡ at = omega arith in
-    let before : at + length {A = ℕ} [] < length d = omega arith in
-    sym (splice-nil (set d at x) at) ∙ (rw z at (store-before d [] at x before))
 
 -- 1 for a flag that keeps, as the code adds it
 abbrev pub keeps : ℕ → ℕ
@@ -299,7 +293,8 @@ module _ (s xs flags : List ℕ) (same : length xs ≡ length s) where
       (glue (eqb (getD flags i 0) 0) (getD xs q 0 ∷ []) (part xs (q + 1) (q + 1 + k)) (chosen flags (i + 1) (drop (q + 1 + k) s) (drop (q + 1 + k) xs))
       ∙ rw (one-part xs q (q + 1 + k) (omega arith) (omega arith)))
 
-  pub char-chosen : (q i : ℕ) → wellFormed s ≡ true → boundary s q ≡ true → q < length s → chosen flags i (drop q s) (drop q xs) ≡ cond (eqb (getD flags i 0) 0) [] (part xs q (q + announced (getD s q 0))) ++ chosen flags (i + 1) (drop (q + announced (getD s q 0)) s) (drop (q + announced (getD s q 0)) xs)
+  pub char-chosen : (q i : ℕ) → wellFormed s ≡ true → boundary s q ≡ true → q < length s
+      → chosen flags i (drop q s) (drop q xs) ≡ cond (eqb (getD flags i 0) 0) [] (part xs q (q + announced (getD s q 0))) ++ chosen flags (i + 1) (drop (q + announced (getD s q 0)) s) (drop (q + announced (getD s q 0)) xs)
   char-chosen q i formed here h =
       let w : ℕ = announced (getD s q 0) in
       let char = char-at s q formed here h in

@@ -1,4 +1,4 @@
--- Laws of letters that are kept.
+-- Laws of characters that are kept.
 pub mod Chosen
 pub mod Whole
 pub mod Chars

@@ -1,10 +1,11 @@
 -- What is told and said where the whole text is filtered byte by byte.
 use Prim.Native.Nat.{ℕ, _+_, _-_, _≤_, _<_}
 use mathlib.Core.Path.{_≡_}
-use mathlib.Core.Bool.{Bool, true, false, cond, _&&_}
+use mathlib.Core.Bool.{Bool, true, false, cond, _&&_, not}
 use mathlib.Core.List.{List, [], _∷_}
 use lib.Dec.{leb, eqb}
 use lib.ListN.{length, getD, take, drop}
+use Rattle.buffers.specs.Every.{everyBelow}
 use Rattle.buffers.specs.Splice.{overlay}
 use Rattle.utf8.specs.Formed.{wellFormed}
 use Rattle.utf8.specs.Chars.{chars, leadAt, leads}
@@ -29,8 +30,8 @@ pub record KeptEnd (s flags : List ℕ) (e : ℕ) : Type 0 where
   pub before : 0 < e → eqb (getD flags (leads (take e s) - 1) 0) 0 ≡ false
 
 -- no flag drops its character
-abbrev pub EachKept : List ℕ → Type 0
-EachKept flags = (i : ℕ) → i < length flags → eqb (getD flags i 0) 0 ≡ false
+unfoldable pub allKept : List ℕ → Bool
+allKept flags = everyBelow (length flags) (λ i. not (eqb (getD flags i 0) 0))
 
 -- a column of the text, and room for what is chosen of it
 pub record KeptColumnRoom (s xs flags d : List ℕ) : Type 0 where

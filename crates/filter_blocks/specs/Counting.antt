@@ -18,7 +18,7 @@ keptCount (k ∷ ks) = cond (eqb k 0) 0 1 + keptCount ks
 
 -- how many bytes a flag keeps of so many
 unfoldable pub keptLen : ℕ → ℕ → ℕ
-keptLen flag wide = cond (eqb flag 0) 0 wide
+keptLen flag size = cond (eqb flag 0) 0 size
 
 -- behind the first r flags four characters are kept, if there are any before
 pub record BeforeFour (flags : List ℕ) (r : ℕ) : Type 0 where
@@ -33,13 +33,13 @@ pub record KeptBefore (s starts ends flags out₀ starts₀ ends₀ : List ℕ) 
   pub starts-so-far : Reaching (chosen flags 0 s starts) (chosen flags i (drop q s) (drop q starts)) starts₀ at starts₁
   pub ends-so-far : Reaching (chosen flags 0 s ends) (chosen flags i (drop q s) (drop q ends)) ends₀ at ends₁
 
--- the same, up to a bound
+-- the kept bytes before q, which is no further than a bound, stand in the buffers
 pub record KeptSoFar (s starts ends flags : List ℕ) (e : ℕ) (out₀ starts₀ ends₀ : List ℕ) (q i at : ℕ)
     (out starts₁ ends₁ : List ℕ) : Type 0 where
   pub laid : KeptBefore s starts ends flags out₀ starts₀ ends₀ q i at out starts₁ ends₁
   pub below : q ≤ e
 
--- the same between two characters
+-- the kept bytes before q, which is between two characters, stand in the buffers
 pub record KeptBetween (s starts ends flags out₀ starts₀ ends₀ : List ℕ) (q i at : ℕ) (out starts₁ ends₁ : List ℕ)
     : Type 0 where
   pub laid : KeptBefore s starts ends flags out₀ starts₀ ends₀ q i at out starts₁ ends₁
@@ -55,4 +55,5 @@ pub record KeptCharsRoom (s starts ends flags : List ℕ) (stop : ℕ) (out star
 pub record CharsKept (s starts ends flags : List ℕ) (stop : ℕ) (out₀ starts₀ ends₀ : List ℕ) (r : Filtered)
     (out starts₁ ends₁ : List ℕ) : Type 0 where
   pub flag-is : r .flag ≡ stop
-  pub between-chars : KeptBetween s starts ends flags out₀ starts₀ ends₀ (r .read) (r .flag) (r .written) out starts₁ ends₁
+  pub between-chars :
+      KeptBetween s starts ends flags out₀ starts₀ ends₀ (r .read) (r .flag) (r .written) out starts₁ ends₁

@@ -1,3 +1,3 @@
--- Letters that are kept.
+-- Characters that are kept.
 pub mod Chosen
 pub mod Counting

@@ -5,16 +5,16 @@ use buffers::copy_bytes;
 use buffers::copy_offsets;
 use buffers::lanes::select_or_zero_usize;
 use note::LIMIT;
+use note::NormalizedByte;
 use utf8::continues;
 use utf8::lead::lead_len;
 ghost use mathlib.Core.Path.{_≡_};
-ghost use mathlib.Core.Bool.{true};
-ghost use Prim.Native.Nat.{_+_, _≤_, _<_};
+ghost use Prim.Native.Nat.{_+_, _≤_};
 ghost use lib.ListN.{length};
 ghost use Rattle.buffers.specs.Splice.{part, splice};
 ghost use Rattle.note.specs.Notes.{limit};
 ghost use Rattle.filter_blocks.specs.Counting.{BeforeFour, keptLen, KeptSoFar, CharsKept, KeptCharsRoom};
-ghost use Rattle.filter_blocks.specs.Chosen.{EachKept, FlagEach, KeptEnd, KeptLaid, KeptRoom, isWhole};
+ghost use Rattle.filter_blocks.specs.Chosen.{FlagEach, allKept, KeptEnd, KeptLaid, KeptRoom, isWhole};
 
 // How far a filter is: the byte of the text and the flag that are next, and how many bytes have been written.
 pub struct Filtered {
@@ -24,15 +24,16 @@ pub struct Filtered {
 }
 
 // Whether a range is the whole text, and there is room for all of it.
-pub fn is_whole(from: usize, to: usize, size: usize, room: usize) -> bool
-    ensures { λ r. ⌜ r ≡ isWhole limit from to size room ⌝ }
+pub fn is_whole(from: NormalizedByte, to: NormalizedByte, size: usize, room: usize) -> bool
+    ensures { λ r. ⌜ r ≡ isWhole limit (from .0) (to .0) size room ⌝ }
 {
-    (from == 0) & (to == size) & (size <= LIMIT) & (size <= room)
+    let end = to.0 as usize;
+    (from.0 == 0) & (end == size) & (size <= LIMIT) & (size <= room)
 }
 
 // Whether no flag drops its character.
 pub fn all_kept(flags: &[u8]) -> bool
-    ensures { λ r. ⌜ (r ≡ true → EachKept (now (flags .entry))) ⌝ }
+    ensures { λ r. ⌜ r ≡ allKept (now (flags .entry)) ⌝ }
 {
     let mut ok = true;
     let mut i = 0;
@@ -74,13 +75,13 @@ fn before_four(flags: &[u8]) -> usize
 }
 
 // How many bytes a flag keeps of so many, without a branch.
-fn kept_len(flag: u8, wide: usize) -> usize
-    ensures { λ r. ⌜ r ≡ keptLen flag wide ⌝ }
+pub fn kept_len(flag: u8, size: usize) -> usize
+    ensures { λ r. ⌜ r ≡ keptLen flag size ⌝ }
 {
     if flag == 0 {
         return 0;
     }
-    wide
+    size
 }
 
 // The four elements of `src` from `i` on stand in `dst` from `at` on: through a local array, so that source and

@@ -24,8 +24,8 @@ use Rattle.convert.specs.declared.Converted.{Converted}
 use Rattle.convert.specs.declared.Converted.the-variants.{Found, Refused}
 use Rattle.convert.specs.Converting.{startOf, endOf}
 use Rattle.script.specs.Scripts.{commandsOf}
-use Rattle.edit_steps.specs.Edits.{skipped, Edit}
-use Rattle.transform.specs.Transforming.{target}
+use Rattle.edit_steps.specs.Edits.{skipped}
+use Rattle.convert.specs.Converting.{asNormalized}
 use Rattle.transform.proofs.Verdicts.{edit-found, edit-none}
 use Rattle.edits.specs.Whole.{wholeRange, filterEdit}
 use Rattle.filters.specs.Flags.{skips, firstKept, flagCommands}
@@ -62,7 +62,7 @@ module _ (most : ℕ) (n : Note) (flags : List ℕ) {v : Verdict} (noted : v ≡
     pub well-counted : length flags ≡ m → Accepted ≡ verdict (also (noteFaults most n) (flagFaults (n .normalized) flags))
     well-counted h = accepted-then (upTo Misaligned) (noteFaults most n) (flagFaults (n .normalized) flags) refl refl noted ok (even h)
 
-module _ (n : Note) (flags : List ℕ) {x : Converted} (is : x ≡ target (n .starts) (n .ends) (wholeRange n)) where
+module _ (n : Note) (flags : List ℕ) {x : Converted} (is : x ≡ asNormalized (n .starts) (n .ends) (wholeRange n)) where
   pub filter-found : {r : Range} {a b : ℕ} → x ≡ Found r → a ≡ startOf r → b ≡ endOf r → record { from = a; to = b; skip = skips flags; commands = flagCommands (n .normalized) flags } ≡ filterEdit n flags
   unfolding filterEdit skips flagCommands
   filter-found found from to = edit-found _ _ is found from to

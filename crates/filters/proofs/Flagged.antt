@@ -1,37 +1,38 @@
 -- What the flags keep, laid down character by character.
-use Prim.Native.Nat.{ℕ, suc, _+_, _-_, _^_, _≤_, _<_}
+use Prim.Native.Nat.{ℕ, _+_, _-_, _≤_, _<_}
 use mathlib.Core.Path.{_≡_, _∙_, ap, refl, sym}
-use mathlib.Core.Bool.{Bool, true, false, cond}
-use mathlib.Core.List.{List, [], _∷_, _++_}
+use mathlib.Core.Bool.{true, false, cond}
+use mathlib.Core.List.{List}
 use native.Mathlib.Omega.{arith}
 use lib.Dec.{eqb}
-use lib.ListN.{length, getD, take, drop, replicate}
+use lib.ListN.{length, getD, drop, replicate}
 use borrow.Author.Tests.{eq-eqb, ne-eqb}
 use Rattle.buffers.specs.Splice.{part, splice}
 use Rattle.buffers.proofs.Cases.{true-or-false, clash}
 use Rattle.buffers.proofs.Splice.{splice-nil}
 use Rattle.buffers.specs.Over.{Reaching}
-use Rattle.utf8.specs.Formed.{announced, wellFormed, boundary}
+use Rattle.utf8.specs.Formed.{announced}
 use Rattle.utf8.specs.Scalar.{bytesOf}
 use Rattle.utf8.specs.Lengths.{CharLen}
 use Rattle.script.specs.declared.Command.{Command}
 use Rattle.utf8.specs.Scalar.{lenUtf8}
 use Rattle.edit_steps.specs.declared.walking.Progress.{Progress}
-use Rattle.edit_steps.specs.Edits.{skipped, starves, moved, starved, carriedValue, characters, carriedValues, produced}
-use Rattle.edit_steps.specs.Walking.{Standing, Tabled, progressAfter}
-use Rattle.edit_steps.specs.Laying.{Room, CommandLaid, CommandsRoom, CommandsLaid}
+use Rattle.edit_steps.specs.Edits.{skipped, starves, carriedValue, characters, carriedValues}
+use Rattle.edit_steps.specs.Walking.{progressAfter}
+use Rattle.edit_steps.specs.Laying.{Room, CommandLaid, CommandsLaid}
 use Rattle.edit_steps.proofs.Positions.{standing-skipped, stepped-fed}
 use Rattle.edit_steps.proofs.Given.{Going, none-going, command-room, going-on, gone, fed}
-use Rattle.edits.specs.Characters.{codeAt, codesOf}
-use Rattle.edits.specs.Whole.{replacing, droppedAhead, keptCommands}
+use Rattle.edits.specs.Characters.{codeAt}
+use Rattle.edits.specs.Whole.{replacing, droppedAhead}
 use Rattle.edits.proofs.Characters.{code-bytes}
-use Rattle.filters.specs.Flags.{firstKept, flagCommands, flagLen, FlagsReady, FlagRoom, FlagLaid, FlagsRoom}
+use Rattle.filter_blocks.specs.Counting.{keptLen}
+use Rattle.filters.specs.Flags.{firstKept, flagCommands, FlagRoom, FlagLaid, FlagsRoom}
 use Rattle.filters.proofs.Kept.{begun-starved, begun-given, Beside, ahead, restAt, none-beside, next-beside, inside, dropped-rest, dropped-ahead, kept-rest, kept-here, kept-moves, code-wide, rest-none}
 
 -- one flag
 module _ {flag : ℕ} {s starts ends : List ℕ} {q wide p : ℕ} {out₀ starts₀ ends₀ : List ℕ} {at : ℕ} where
   pub flag-dropped : flag ≡ 0 → FlagLaid flag s starts ends q wide p out₀ starts₀ ends₀ at at out₀ starts₀ ends₀
-  unfolding flagLen
+  unfolding keptLen
   flag-dropped z =
       let e : eqb flag 0 ≡ true = eq-eqb flag 0 z in
       record {
@@ -41,19 +42,21 @@ module _ {flag : ℕ} {s starts ends : List ℕ} {q wide p : ℕ} {out₀ starts
         ends-are = rw e (sym (splice-nil ends₀ at));
       }
 
-  pub flag-kept : {out starts₁ ends₁ : List ℕ} → (flag ≡ 0 → ⊥) → out ≡ splice out₀ at (part s q (q + wide)) → starts₁ ≡ splice starts₀ at (replicate wide (getD starts p 0)) → ends₁ ≡ splice ends₀ at (replicate wide (getD ends p 0)) → FlagLaid flag s starts ends q wide p out₀ starts₀ ends₀ at (at + wide) out starts₁ ends₁
-  unfolding flagLen
+  pub flag-kept : {out starts₁ ends₁ : List ℕ} → (flag ≡ 0 → ⊥) → out ≡ splice out₀ at (part s q (q + wide))
+      → starts₁ ≡ splice starts₀ at (replicate wide (getD starts p 0)) → ends₁ ≡ splice ends₀ at (replicate wide (getD ends p 0))
+      → FlagLaid flag s starts ends q wide p out₀ starts₀ ends₀ at (at + wide) out starts₁ ends₁
+  unfolding keptLen
   flag-kept h o st en =
       let e : eqb flag 0 ≡ false = ne-eqb flag 0 h in
       record { reached = rw e; text-is = rw e o; starts-are = rw e st; ends-are = rw e en }
 
   pub kept-room : FlagRoom flag s starts ends q wide p out₀ starts₀ ends₀ at → (flag ≡ 0 → ⊥) → (at + wide ≤ length out₀) × ((at + wide ≤ length starts₀) × (at + wide ≤ length ends₀))
-  unfolding flagLen
+  unfolding keptLen
   kept-room r h =
       let e : cond (eqb flag 0) 0 wide ≡ wide = rw (ne-eqb flag 0 h) in
       (omega (arith, r .text-room, e), (omega (arith, r .starts-room, e), omega (arith, r .ends-room, e)))
 
--- the same rest in other words
+-- a rest said in other words
 laying-as : {whole rest others d₀ d : List ℕ} {at : ℕ} → rest ≡ others → Reaching whole rest d₀ at d → Reaching whole others d₀ at d
 laying-as e l = rw e at l
 
@@ -101,7 +104,7 @@ module _ {s starts ends : List ℕ} {b from : ℕ} {flags table out₀ starts₀
             (omega (arith, here, room .in-starts .found refl), omega (arith, here, room .in-ends .found refl))
 
       pub flag-room : FlagRoom (getD flags i 0) s starts ends q w p out starts₁ ends₁ written
-      unfolding flagLen c
+      unfolding keptLen c
       flag-room =
           true-or-false (eqb (getD flags i 0) 0)
           (λ drops.
@@ -125,7 +128,7 @@ module _ {s starts ends : List ℕ} {b from : ℕ} {flags table out₀ starts₀
 
       module _ {n m : ℕ} {out₂ starts₂ ends₂ : List ℕ} (l : FlagLaid (getD flags i 0) s starts ends q w p out starts₁ ends₁ written n out₂ starts₂ ends₂) (on : m ≡ skipped s b 1 p) where
         dropped-flagged : eqb (getD flags i 0) 0 ≡ true → Flagged s starts ends b from flags out₀ starts₀ ends₀ at (q + w) m n (i + 1) out₂ starts₂ ends₂
-        unfolding flagLen
+        unfolding keptLen
         dropped-flagged drops =
             let zero : n ≡ written = (rw drops at (l .reached)) ∙ omega arith in
             let text : out₂ ≡ out = (rw drops at (l .text-is)) ∙ splice-nil out written in
@@ -147,10 +150,10 @@ module _ {s starts ends : List ℕ} {b from : ℕ} {flags table out₀ starts₀
             }
 
         kept-flagged : eqb (getD flags i 0) 0 ≡ false → Flagged s starts ends b from flags out₀ starts₀ ends₀ at (q + w) m n (i + 1) out₂ starts₂ ends₂
-        unfolding flagLen c
+        unfolding keptLen c
         kept-flagged keeps =
             let g : Progress = ahead s b flags p i written in
-            let first : starves b (g .position) c ≡ false = fed s b (g .position) c (restAt s flags (q + announced (getD s q 0)) (i + 1)) (rw (kept-rest k h keeps) at (f .going .feeding)) .0 in
+            let first : starves b (g .position .0) c ≡ false = fed s b (g .position .0) c (restAt s flags (q + announced (getD s q 0)) (i + 1)) (rw (kept-rest k h keeps) at (f .going .feeding)) .0 in
             let many : n ≡ written + announced (getD s q 0) = (rw keeps at (l .reached)) ∙ ap (_+_ written) (len .long) in
             let now : ahead s b flags m (i + 1) n ≡ progressAfter s b g c = sym (stepped-fed s b g c (sym first) refl ∙ rw (kept-here k h keeps, kept-moves k h keeps, code-wide k h, on, many)) in
             record {

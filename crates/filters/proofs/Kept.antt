@@ -25,7 +25,8 @@ use Rattle.edits.specs.Characters.{codeAt, codesOf}
 use Rattle.edits.specs.Whole.{replacing, droppedAhead, anyKept, keptCommands}
 use Rattle.edits.proofs.Characters.{codes-none, codes-cons}
 use Rattle.edits.proofs.Sifted.{skipped-suc, none-commands, code-size, codes-chars}
-use Rattle.filters.specs.Flags.{skips, firstKept, flagCommands, flagStarves, flagLen, FlagsReady}
+use Rattle.filter_blocks.specs.Counting.{keptLen}
+use Rattle.filters.specs.Flags.{skips, firstKept, flagCommands, flagStarves, FlagsReady}
 
 no-flags : (cs : List ℕ) → keptCommands cs [] ≡ []
 unfolding keptCommands
@@ -62,15 +63,6 @@ module _ (flag b p : ℕ) where
   unfolding flagStarves
   wants-kept h = rw (ne-eqb flag 0 h)
 
-module _ (flag wide : ℕ) where
-  pub counts-dropped : flag ≡ 0 → 0 ≡ flagLen flag wide
-  unfolding flagLen
-  counts-dropped e = rw (eq-eqb flag 0 e)
-
-  pub counts-kept : (flag ≡ 0 → ⊥) → wide ≡ flagLen flag wide
-  unfolding flagLen
-  counts-kept h = rw (ne-eqb flag 0 h)
-
 -- the characters from q on beside the flags from i on, and a position of the range
 pub record Beside (s : List ℕ) (b : ℕ) (flags : List ℕ) (q p i : ℕ) : Type 0 where
   pub begins : boundary s q ≡ true
@@ -78,7 +70,7 @@ pub record Beside (s : List ℕ) (b : ℕ) (flags : List ℕ) (q p i : ℕ) : Ty
   pub standing : Standing s b p
 
 abbrev pub ahead : List ℕ → ℕ → List ℕ → ℕ → ℕ → ℕ → Progress
-ahead s b flags p i written = record { position = skipped s b (droppedAhead (drop i flags)) p; written = written; starved = false }
+ahead s b flags p i written = record { position = record { 0 = skipped s b (droppedAhead (drop i flags)) p }; written = written; starved = false }
 
 abbrev pub restAt : List ℕ → List ℕ → ℕ → ℕ → List Command
 restAt s flags q i = keptCommands (codesOf (drop q s)) (drop i flags)
@@ -176,7 +168,7 @@ module _ {s : List ℕ} {b from : ℕ} {flags : List ℕ} {q p written i : ℕ} 
     k : Beside s b flags q p i
     k = f .beside
 
-    -- a flagCommands one
+    -- a kept one
     module _ (keeps : eqb (getD flags i 0) 0 ≡ false) where
       c : Command
       c = replacing (droppedAhead (drop (i + 1) flags)) (codeAt s q)
@@ -194,7 +186,7 @@ module _ {s : List ℕ} {b from : ℕ} {flags : List ℕ} {q p written i : ℕ} 
       kept-passed {m} e at =
           let g : Progress = ahead s b flags p i written in
           let fed = stepped-fed s b g c test e in
-          let now : record { position = skipped s b (droppedAhead (drop (i + 1) flags)) m; written = written + announced (getD s q 0); starved = false } ≡ progressAfter s b g c =
+          let now : record { position = record { 0 = skipped s b (droppedAhead (drop (i + 1) flags)) m }; written = written + announced (getD s q 0); starved = false } ≡ progressAfter s b g c =
           sym (fed ∙ rw (kept-here k h keeps, kept-moves k h keeps, code-wide k h, at)) in
           one-passed (f .passed) (kept-rest k h keeps) test e now
 
@@ -205,8 +197,8 @@ module _ {s : List ℕ} {b from : ℕ} {flags : List ℕ} {q p written i : ℕ} 
         (λ drops. clash t e (is ∙ rw drops))
         (λ keeps. kept-starves keeps e)
 
-    pub next-filtered : {m n : ℕ} → t ≡ false → n ≡ flagLen (getD flags i 0) w → m ≡ skipped s b 1 p → Filtering s b from flags (q + w) m (written + n) (i + 1)
-    unfolding flagLen
+    pub next-filtered : {m n : ℕ} → t ≡ false → n ≡ keptLen (getD flags i 0) w → m ≡ skipped s b 1 p → Filtering s b from flags (q + w) m (written + n) (i + 1)
+    unfolding keptLen
     next-filtered {m} {n} e count at =
         true-or-false (eqb (getD flags i 0) 0)
         (λ drops.
@@ -228,8 +220,8 @@ module _ {s : List ℕ} {b from : ℕ} {flags : List ℕ} {q p written i : ℕ} 
   pub all-filtered : length flags ≤ i → Size written ≡ measured s b (firstKept s b from flags) (flagCommands s flags)
   all-filtered done = all-passed (f .passed) (rest-none s flags q done)
 
-pub counts-most : (flag wide : ℕ) {n : ℕ} → n ≡ flagLen flag wide → n ≤ wide
-unfolding flagLen
+pub counts-most : (flag wide : ℕ) {n : ℕ} → n ≡ keptLen flag wide → n ≤ wide
+unfolding keptLen
 counts-most flag wide is =
     true-or-false (eqb flag 0)
     (λ t. let z : cond (eqb flag 0) 0 wide ≡ 0 = rw t in omega (arith, is, z))

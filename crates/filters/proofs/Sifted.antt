@@ -56,7 +56,8 @@ codes-left s q i formed here h left =
     omega (arith, less)
 
 module _ {s flags : List ℕ} (f : FlagEach s flags) (xs : List ℕ) (same : length xs ≡ length s) (one : OneValue s xs) where
-  both-from : (fuel q i : ℕ) → boundary s q ≡ true → length (codesOf (drop q s)) + i ≡ length flags → length flags ≤ i + fuel → (textOf (sifted (drop i flags) (codesOf (drop q s))) ≡ chosen flags i (drop q s) (drop q s)) × (spread (sifted (drop i flags) (codesOf (drop q s))) (sifted (drop i flags) (ofChars (drop q s) (drop q xs))) ≡ chosen flags i (drop q s) (drop q xs))
+  both-from : (fuel q i : ℕ) → boundary s q ≡ true → length (codesOf (drop q s)) + i ≡ length flags → length flags ≤ i + fuel
+      → (textOf (sifted (drop i flags) (codesOf (drop q s))) ≡ chosen flags i (drop q s) (drop q s)) × (spread (sifted (drop i flags) (codesOf (drop q s))) (sifted (drop i flags) (ofChars (drop q s) (drop q xs))) ≡ chosen flags i (drop q s) (drop q xs))
   both-from zero q i here left far =
       let done : length flags ≤ i = omega arith in
       let past : length s ≤ q = le-or-lt (length s) q (λ p. p) (λ less. absurd (omega (arith, codes-left s q i (f .formed) here less left))) in

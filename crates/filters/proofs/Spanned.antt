@@ -24,7 +24,7 @@ use Rattle.edit_steps.specs.Edits.{skipped, characters, carriedValues, starved,
 use Rattle.buffers.specs.Keeping.{KeepRoom, PartKept}
 use Rattle.edit_steps.specs.Walking.{Standing}
 use Rattle.transform.specs.declared.Editing.the-variants.{Edited}
-use Rattle.transform.specs.Transforming.{editFaults, Rewritten}
+use Rattle.transform.specs.Transforming.{editFaults, Rewritten, TextCall}
 use Rattle.transform.proofs.Verdicts.{small-enough, accepted-rewritten, note-editable}
 use Rattle.code_point_blocks.specs.Codes.{textOf}
 use Rattle.map_columns.specs.Spreading.{ofChars, spread}
@@ -34,8 +34,8 @@ use Rattle.edits.specs.Plain.{sifted}
 use Rattle.edits.proofs.Head.{is-placed}
 use Rattle.edits.proofs.Shares.{starts-part, ends-part}
 use Rattle.edits.proofs.Sifted.{given-sifted, starved-sifted, column-sifted, codes-chars}
-use Rattle.filters.specs.Flags.{skips, firstKept, flagCommands, flagEdit, FlagsRewritten, OneValue, RangeReady}
-use Rattle.filter_blocks.specs.Chosen.{chosen, EachKept, FlagEach, KeptEnd, KeptRoom, KeptLaid, isWhole}
+use Rattle.filters.specs.Flags.{firstKept, flagCommands, flagEdit, OneValue, RangeReady}
+use Rattle.filter_blocks.specs.Chosen.{chosen, allKept, FlagEach, KeptEnd, KeptRoom, KeptLaid, isWhole}
 use Rattle.filters.proofs.Kept.{begun-starved, begun-given}
 use Rattle.filter_blocks.proofs.Chosen.{chosen-most}
 use Rattle.filter_blocks.proofs.Whole.{all-chosen}
@@ -137,7 +137,8 @@ module _ {s starts ends flags : List ℕ} (r : RangeReady s starts ends flags) w
           ends-room = omega (arith, short, lowest);
         }
 
-    made : {k : ℕ} {out starts₁ ends₁ : List ℕ} → KeptLaid s starts ends flags out₀ starts₀ ends₀ k out starts₁ ends₁ → Rewritten (verdict (editFaults most s e (least (length out₀) (length starts₀) (length ends₀)))) (transformed (lent [] s starts ends 0) e) out₀ starts₀ ends₀ (Edited k) out starts₁ ends₁
+    made : {k : ℕ} {out starts₁ ends₁ : List ℕ} → KeptLaid s starts ends flags out₀ starts₀ ends₀ k out starts₁ ends₁
+        → Rewritten (verdict (editFaults most s e (least (length out₀) (length starts₀) (length ends₀)))) (transformed (lent [] s starts ends 0) e) out₀ starts₀ ends₀ (Edited k) out starts₁ ends₁
     unfolding transformed e
     made l =
         accepted-rewritten (small-enough most s e (least (length out₀) (length starts₀) (length ends₀)) lies is-fed (omega (arith, ap length text-made, short, chosen-most flags 0 s, lowest)))
@@ -146,20 +147,20 @@ module _ {s starts ends flags : List ℕ} (r : RangeReady s starts ends flags) w
         (l .starts-are ∙ ap (λ (x : List ℕ). overlay x starts₀) (sym (column-made starts (r .editable .one-start) (r .one-start))))
         (l .ends-are ∙ ap (λ (x : List ℕ). overlay x ends₀) (sym (column-made ends (r .editable .one-end) (r .one-end))))
 
-    pub spanned-made : {k : ℕ} {out starts₁ ends₁ : List ℕ} → KeptLaid s starts ends flags out₀ starts₀ ends₀ k out starts₁ ends₁ → FlagsRewritten most s starts ends (flagEdit s from to flags) out₀ starts₀ ends₀ (Edited k) out starts₁ ends₁
+    pub spanned-made : {k : ℕ} {out starts₁ ends₁ : List ℕ} → KeptLaid s starts ends flags out₀ starts₀ ends₀ k out starts₁ ends₁ → TextCall most s starts ends (flagEdit s from to flags) out₀ starts₀ ends₀ (Edited k) out starts₁ ends₁
     unfolding e
     spanned-made l = rw (first, last) (made l)
 
 -- a filter that keeps all copies all
-module _ {s flags : List ℕ} (f : FlagEach s flags) (each : EachKept flags) where
+module _ {s flags : List ℕ} (f : FlagEach s flags) (all : allKept flags ≡ true) where
   module _ {starts ends out₀ starts₀ ends₀ out starts₁ ends₁ : List ℕ} (one-start : length starts ≡ length s) (one-end : length ends ≡ length s) (k : PartKept s starts ends 0 (length s) out₀ starts₀ ends₀ 0 out starts₁ ends₁) where
     column-copied : (xs d₀ d : List ℕ) → length xs ≡ length s → d ≡ splice d₀ 0 (part xs 0 (length s)) → d ≡ overlay (chosen flags 0 s xs) d₀
-    column-copied xs d₀ d same is = is ∙ rw (← same, part-end xs 0) (splice-overlay d₀ xs) ∙ ap (λ (x : List ℕ). overlay x d₀) (sym (all-chosen f each xs same))
+    column-copied xs d₀ d same is = is ∙ rw (← same, part-end xs 0) (splice-overlay d₀ xs) ∙ ap (λ (x : List ℕ). overlay x d₀) (sym (all-chosen f all xs same))
 
     pub all-copied : KeptLaid s starts ends flags out₀ starts₀ ends₀ (length s) out starts₁ ends₁
     all-copied =
         record {
-          reached = ap length (sym (all-chosen f each s refl));
+          reached = ap length (sym (all-chosen f all s refl));
           text-is = column-copied s out₀ out refl (k .text-is);
           starts-are = column-copied starts starts₀ starts₁ one-start (k .starts-are);
           ends-are = column-copied ends ends₀ ends₁ one-end (k .ends-are);

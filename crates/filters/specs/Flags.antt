@@ -8,15 +8,12 @@ use lib.ListN.{length, getD, replicate}
 use Rattle.buffers.specs.Splice.{part, splice}
 use Rattle.utf8.specs.Formed.{announced, boundary}
 use Rattle.utf8.specs.Chars.{chars}
-use Rattle.note.specs.Notes.{lent}
-use Rattle.note.specs.Refusals.{least, verdict}
 use Rattle.script.specs.declared.Command.{Command}
-use Rattle.edit_steps.specs.Edits.{skipped, Edit, transformed}
+use Rattle.edit_steps.specs.Edits.{skipped, Edit}
 use Rattle.edit_steps.specs.Walking.{Tabled}
 use Rattle.edit_steps.specs.Laying.{CommandsRoom, Editable, EditRoom}
-use Rattle.transform.specs.declared.Editing.{Editing}
-use Rattle.transform.specs.Transforming.{editFaults, Rewritten}
 use Rattle.edits.specs.Characters.{codesOf}
+use Rattle.filter_blocks.specs.Counting.{keptLen}
 use Rattle.edits.specs.Whole.{droppedAhead, anyKept, keptCommands}
 
 -- how many characters of the range are skipped at first, and where that leads
@@ -30,23 +27,13 @@ firstKept s b from flags = skipped s b (skips flags) from
 unfoldable pub flagCommands : List ℕ → List ℕ → List Command
 flagCommands s flags = keptCommands (codesOf s) flags
 
--- the edit of a range by flags, and what is left in the lent buffers of a note whose range is so edited
+-- the edit of a range by flags
 abbrev pub flagEdit : List ℕ → ℕ → ℕ → List ℕ → Edit
 flagEdit s from to flags = record { from = from; to = to; skip = skips flags; commands = flagCommands s flags }
-
-abbrev pub FlagsRewritten : ℕ → List ℕ → List ℕ → List ℕ → Edit → List ℕ → List ℕ → List ℕ → Editing
-    → List ℕ → List ℕ → List ℕ → Type 0
-FlagsRewritten most s starts ends e out₀ starts₀ ends₀ =
-    Rewritten (verdict (editFaults most s e (least (length out₀) (length starts₀) (length ends₀))))
-    (transformed (lent [] s starts ends 0) e) out₀ starts₀ ends₀
 
 -- a flag that keeps its character finds no character left at the position
 unfoldable pub flagStarves : ℕ → ℕ → ℕ → Bool
 flagStarves flag b p = not (eqb flag 0) && leb b p
-
--- how many bytes a flag keeps of so many
-unfoldable pub flagLen : ℕ → ℕ → ℕ
-flagLen flag wide = cond (eqb flag 0) 0 wide
 
 -- a flag for each character of a text, and the range's first position
 pub record FlagsReady (s : List ℕ) (b from : ℕ) (flags table : List ℕ) : Type 0 where
@@ -54,23 +41,23 @@ pub record FlagsReady (s : List ℕ) (b from : ℕ) (flags table : List ℕ) : T
   pub counted : length flags ≡ chars s
 
 -- a character's bytes from q on, a position whose alignment they take, and room for them
-pub record FlagRoom (flag : ℕ) (s starts ends : List ℕ) (q wide p : ℕ) (out starts₀ ends₀ : List ℕ) (at : ℕ)
+pub record FlagRoom (flag : ℕ) (s starts ends : List ℕ) (q size p : ℕ) (out starts₀ ends₀ : List ℕ) (at : ℕ)
     : Type 0 where
-  pub inside : q + wide ≤ length s
+  pub inside : q + size ≤ length s
   pub start-found : eqb flag 0 ≡ false → p < length starts
   pub end-found : eqb flag 0 ≡ false → p < length ends
-  pub text-room : at + flagLen flag wide ≤ length out
-  pub starts-room : at + flagLen flag wide ≤ length starts₀
-  pub ends-room : at + flagLen flag wide ≤ length ends₀
+  pub text-room : at + keptLen flag size ≤ length out
+  pub starts-room : at + keptLen flag size ≤ length starts₀
+  pub ends-room : at + keptLen flag size ≤ length ends₀
 
-pub record FlagLaid (flag : ℕ) (s starts ends : List ℕ) (q wide p : ℕ) (out₀ starts₀ ends₀ : List ℕ) (at r : ℕ)
+pub record FlagLaid (flag : ℕ) (s starts ends : List ℕ) (q size p : ℕ) (out₀ starts₀ ends₀ : List ℕ) (at r : ℕ)
     (out starts₁ ends₁ : List ℕ) : Type 0 where
-  pub reached : r ≡ at + flagLen flag wide
-  pub text-is : out ≡ splice out₀ at (cond (eqb flag 0) [] (part s q (q + wide)))
-  pub starts-are : starts₁ ≡ splice starts₀ at (cond (eqb flag 0) [] (replicate wide (getD starts p 0)))
-  pub ends-are : ends₁ ≡ splice ends₀ at (cond (eqb flag 0) [] (replicate wide (getD ends p 0)))
+  pub reached : r ≡ at + keptLen flag size
+  pub text-is : out ≡ splice out₀ at (cond (eqb flag 0) [] (part s q (q + size)))
+  pub starts-are : starts₁ ≡ splice starts₀ at (cond (eqb flag 0) [] (replicate size (getD starts p 0)))
+  pub ends-are : ends₁ ≡ splice ends₀ at (cond (eqb flag 0) [] (replicate size (getD ends p 0)))
 
--- flags none of which flagStarves a character that is not left, and room for what they keep
+-- flags none of which asks for a character that is not left, and room for what they keep
 pub record FlagsRoom (s starts ends : List ℕ) (b from : ℕ) (flags table out starts₀ ends₀ : List ℕ) (at : ℕ)
     : Type 0 where
   pub ready : FlagsReady s b from flags table

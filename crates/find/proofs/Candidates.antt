@@ -1,5 +1,5 @@
--- Laws of `Candidate` and `Absent`: positions at which a literal does not stand, told by two of its bytes, one by one and 64 at once.
-use Prim.Native.Nat.{ℕ, _+_, _-_, _≤_, _<_, max}
+-- Laws of `firstTogether` and `Absent`: positions at which a literal does not stand, told by two of its bytes, one by one and 64 at once.
+use Prim.Native.Nat.{ℕ, zero, suc, _+_, _-_, _≤_, _<_, max}
 use mathlib.Core.Path.{_≡_, _∙_, refl, sym}
 use mathlib.Core.Bool.{Bool, true, false, cond, _&&_, _||_, not}
 use mathlib.Core.List.{List}
@@ -9,45 +9,91 @@ use lib.ListN.{length, getD}
 use borrow.Author.Tests.{eq-eqb, not-true, not-false}
 use Rattle.buffers.specs.Every.{everyBelow}
 use Rattle.buffers.specs.Splice.{part}
+use Rattle.buffers.proofs.Booleans.{de-morgan}
 use Rattle.buffers.proofs.Cases.{le-or-lt, true-or-false, clash}
 use Rattle.buffers.proofs.Every.{every-suc, every-at}
 use Rattle.buffers.proofs.Splice.{part-index}
 use Rattle.find.specs.Matching.{occursAt, firstFrom}
-use Rattle.find.specs.Searching.{together, apartBelow, Candidate, Absent}
+use Rattle.find.specs.Searching.{together, apartBelow, firstTogether, Absent}
 use Rattle.find.proofs.Occurs.{occurs-inside, occurs-byte}
 use Rattle.find.proofs.FirstFrom.{first-unique}
 
+-- r is the least index from `from` up to `to` at which the two bytes stand together, or `to`
+record Least (a b : List ℕ) (x y from to r : ℕ) : Type 0 where
+  pub from-on : from ≤ r
+  pub most : r ≤ to
+  pub before : (k : ℕ) → from ≤ k → k < r → together a b x y k ≡ false
+  pub there : r < to → together a b x y r ≡ true
+
+module _ (a b : List ℕ) (x y : ℕ) where
+  first-least : (n j : ℕ) → Least a b x y j (n + j) (firstTogether a b x y n j)
+  unfolding firstTogether
+  first-least zero j =
+      record { from-on = omega arith; most = omega arith; before = λ k l m. absurd (omega arith); there = λ h. absurd (omega arith) }
+  first-least (suc n) j =
+      true-or-false (together a b x y j)
+      (λ t. rw t (record { from-on = omega arith; most = omega arith; before = λ k l m. absurd (omega arith); there = λ h. t }))
+      (λ f.
+      let rest : Least a b x y (suc j) (n + suc j) (firstTogether a b x y n (suc j)) = first-least n (suc j) in
+      rw f
+      (record {
+        from-on = omega (arith, rest .from-on);
+        most = omega (arith, rest .most);
+        before = λ k l m. le-or-lt k j (λ h. let is : k ≡ j = omega arith in rw is f) (λ h. rest .before k (omega arith) m);
+        there = λ h. rest .there (omega arith);
+      }))
+
+-- so far: of the indices below n and below r the bytes stand together at none, and at r they do where r is below 64
+pub record Candidate (a b : List ℕ) (x y n r : ℕ) : Type 0 where
+  pub most : r ≤ 64
+  pub before : (k : ℕ) → k < n → k < r → together a b x y k ≡ false
+  pub there : r < 64 → together a b x y r ≡ true
+
 -- the loop over a block, by how many indices are left from the first candidate on
 pub no-candidate : {a b : List ℕ} {x y : ℕ} → Candidate a b x y 0 64
-no-candidate = record { most = omega arith; before = λ k h l. absurd (omega arith) }
+no-candidate = record { most = omega arith; before = λ k h l. absurd (omega arith); there = λ h. absurd (omega arith) }
 
 module _ {a b : List ℕ} {x y left j : ℕ} (c : Candidate a b x y j (64 - left)) (h : j < 64) (few : left ≤ 64) {v left₁ : ℕ} (most : left₁ ≡ max left v) where
-  candidate-hit : v ≡ 64 - j → Candidate a b x y (j + 1) (64 - left₁)
-  candidate-hit e = record { most = omega arith; before = λ k l m. c .before k (omega arith) (omega arith) }
+  candidate-hit : together a b x y j ≡ true → v ≡ 64 - j → Candidate a b x y (j + 1) (64 - left₁)
+  candidate-hit t e =
+      record {
+        most = omega arith;
+        before = λ k l m. c .before k (omega arith) (omega arith);
+        there = λ l. le-or-lt v left
+            (λ k. let is : 64 - left₁ ≡ 64 - left = omega arith in rw is (c .there (omega arith)))
+            (λ k. let is : 64 - left₁ ≡ j = omega arith in rw is t);
+      }
 
   candidate-miss : together a b x y j ≡ false → v ≡ 0 → Candidate a b x y (j + 1) (64 - left₁)
   candidate-miss f e =
       record {
         most = omega arith;
         before = λ k l m. le-or-lt j k (λ top. let is : k ≡ j = omega arith in rw is f) (λ below. c .before k below (omega arith));
+        there = λ l. let is : 64 - left₁ ≡ 64 - left = omega arith in rw is (c .there (omega arith));
       }
 
   pub next-index : v ≡ cond (eqb (getD a j 0) x && eqb (getD b j 0) y) (64 - j) 0 → Candidate a b x y (j + 1) (64 - left₁) × (left₁ ≤ 64)
   unfolding together
   next-index e =
       true-or-false (eqb (getD a j 0) x && eqb (getD b j 0) y)
-      (λ t. let is : v ≡ 64 - j = rw t at e in (candidate-hit is, omega arith))
+      (λ t. let is : v ≡ 64 - j = rw t at e in (candidate-hit t is, omega arith))
       (λ f. let is : v ≡ 0 = rw f at e in (candidate-miss f is, omega arith))
 
-pub all-indices : {a b : List ℕ} {x y r j : ℕ} → Candidate a b x y j r → j ≡ 64 → Candidate a b x y 64 r
-all-indices c full = rw full at c
+module _ {a b : List ℕ} {x y r : ℕ} where
+  pub all-indices : {j : ℕ} → Candidate a b x y j r → j ≡ 64 → r ≡ firstTogether a b x y 64 0
+  all-indices {j} c full =
+      let q : ℕ = firstTogether a b x y 64 0 in
+      let l : Least a b x y 0 64 q = first-least a b x y 64 0 in
+      le-or-lt r q
+      (λ h. le-or-lt q r (λ k. omega arith) (λ k. clash (together a b x y r) (c .there (omega (arith, l .most))) (l .before r (omega arith) k)))
+      (λ h. clash (together a b x y q) (l .there (omega (arith, c .most))) (c .before q (omega (arith, c .most)) h))
+
+  pub first-candidate : r ≡ firstTogether a b x y 64 0 → Candidate a b x y 64 r
+  first-candidate is =
+      let l : Least a b x y 0 64 r = rw is (first-least a b x y 64 0) in
+      record { most = l .most; before = λ k m h. l .before k (omega arith) h; there = l .there }
 
 -- the loop that only tells whether there is one
-either-hit : (a t : Bool) → (not a || t) ≡ not (a && not t)
-either-hit true true = refl
-either-hit true false = refl
-either-hit false t = refl
-
 module _ (a b : List ℕ) (x y : ℕ) where
   pub apart-none : false ≡ not (apartBelow a b x y 0)
   unfolding apartBelow everyBelow
@@ -55,7 +101,7 @@ module _ (a b : List ℕ) (x y : ℕ) where
 
   pub apart-more : (j : ℕ) {hit : Bool} → hit ≡ not (apartBelow a b x y j) → (hit || (eqb (getD a j 0) x && eqb (getD b j 0) y)) ≡ not (apartBelow a b x y (j + 1))
   unfolding apartBelow together
-  apart-more j is = rw (is, every-suc j (λ (k : ℕ). not (together a b x y k))) (either-hit (everyBelow j (λ (k : ℕ). not (together a b x y k))) (together a b x y j))
+  apart-more j is = rw (is, every-suc j (λ (k : ℕ). not (together a b x y k))) (de-morgan (everyBelow j (λ (k : ℕ). not (together a b x y k))) (together a b x y j))
 
   pub apart-all : {j : ℕ} {hit : Bool} → hit ≡ not (apartBelow a b x y j) → j ≡ 64 → hit ≡ not (apartBelow a b x y 64)
   apart-all is full = rw full at is
@@ -65,7 +111,11 @@ module _ (a b : List ℕ) (x y : ℕ) where
   apart-candidate is f =
       let apart : ℕ → Bool = λ k. not (together a b x y k) in
       let all = not-false (everyBelow 64 apart) (sym is ∙ f) in
-      record { most = omega arith; before = λ k h l. not-true (together a b x y k) (every-at 64 apart all k h) }
+      record {
+        most = omega arith;
+        before = λ k h l. not-true (together a b x y k) (every-at 64 apart all k h);
+        there = λ h. absurd (omega arith);
+      }
 
 pub absent-none : {text literal : List ℕ} {from : ℕ} → from ≤ length text → Absent text literal from from
 absent-none h = record { onward = omega arith; most = h; not-there = λ k a b. absurd (omega arith) }

@@ -14,7 +14,7 @@ use Rattle.note.specs.declared.Refusal.{Refusal}
 use Rattle.note.specs.declared.Refusal.the-variants.{NoRoom, IllFormed}
 use Rattle.note.specs.declared.Verdict.{Verdict}
 use Rattle.note.specs.declared.Verdict.the-variants.{Accepted, Refused as Rejected}
-use Rattle.note.specs.Refusals.{also, verdict, after}
+use Rattle.note.specs.Refusals.{also, verdict, after, unlessRefused}
 use Rattle.note.specs.Notes.{limit}
 use Rattle.note.specs.Faults.{textFaults, stringFaults, roomFaults}
 use Rattle.note.specs.Rank.{upTo}
@@ -25,7 +25,7 @@ use Rattle.pattern.specs.Encoding.{placeBytes, encodedPlaces, roomFor}
 use Rattle.pattern.proofs.Encoding.{length-encoded}
 use Rattle.find.specs.declared.Matches.the-variants.{Written, Refused}
 use Rattle.find.specs.Matching.{firstFrom, placeFrom, between, matchesFrom, foundPlaces}
-use Rattle.find.specs.Finding.{foundBytes, matchesOf, findFaults, Finding}
+use Rattle.find.specs.Finding.{foundBytes, findFaults, Finding}
 use Rattle.find.specs.Searching.{firstMatch}
 use Rattle.find.proofs.FirstFrom.{first-of-none}
 use Rattle.find.proofs.MatchesFrom.{Searched, first-there, searched-more, matches-more, matches-end}
@@ -158,9 +158,9 @@ module _ (text literal : List ℕ) {p : ℕ} {q : Place} (is : p ≡ firstMatch 
   whole-listed {d₀} laid = rw whole-bytes (omega (arith, laid .reach), laid .holds ∙ splice-overlay d₀ _)
 
 module _ (most : ℕ) (text literal o : List ℕ) where
-  finding : {v : Verdict} → v ≡ verdict (findFaults most text literal (length o)) → Finding most text literal o (matchesOf v (length (foundBytes text literal))) (after v (foundBytes text literal) o)
+  finding : {v : Verdict} → v ≡ verdict (findFaults most text literal (length o)) → Finding most text literal o (unlessRefused Refused v (Written (length (foundBytes text literal)))) (after v (foundBytes text literal) o)
   finding e =
-      record { answer = ap (λ (v : Verdict). matchesOf v (length (foundBytes text literal))) e; list = ap (λ (v : Verdict). after v (foundBytes text literal) o) e }
+      record { answer = ap (λ (v : Verdict). unlessRefused Refused v (Written (length (foundBytes text literal)))) e; list = ap (λ (v : Verdict). after v (foundBytes text literal) o) e }
 
   module _ {v : Verdict} (e : v ≡ verdict (also (textFaults most text) (stringFaults literal))) where
     pub input-refused : {k : Refusal} → v ≡ Rejected k → Finding most text literal o (Refused k) o

@@ -28,7 +28,11 @@ module _ (text literal : List ℕ) (some : 0 < length literal) where
       rw (within-enough n m (p + length literal) inside (omega (arith, f .from)) (omega (arith, f .from))))
 
   -- what stands before the first match, the match, and all others from its end
-  matches-step : (at : ℕ) → at ≤ length text → matchesFrom text literal at ≡ between at (firstFrom text literal at) ++ cond (ltb (firstFrom text literal at) (length text)) (placeFrom (firstFrom text literal at) (firstFrom text literal at + length literal) true ∷ matchesFrom text literal (firstFrom text literal at + length literal)) []
+  matches-step : (at : ℕ) → at ≤ length text
+      → matchesFrom text literal at
+      ≡ between at (firstFrom text literal at) ++ cond (ltb (firstFrom text literal at) (length text))
+      (placeFrom (firstFrom text literal at) (firstFrom text literal at + length literal) true ∷ matchesFrom text literal (firstFrom text literal at + length literal))
+      []
   unfolding matchesFrom matchesWithin
   matches-step at most =
       let p : ℕ = firstFrom text literal at in

@@ -6,9 +6,7 @@ use mathlib.Core.List.{List}
 use lib.ListN.{length}
 use Rattle.utf8.specs.Formed.{wellFormed}
 use Rattle.note.specs.declared.Refusal.{Refusal}
-use Rattle.note.specs.declared.Verdict.{Verdict}
-use Rattle.note.specs.declared.Verdict.the-variants.{Accepted, Refused as Rejected}
-use Rattle.note.specs.Refusals.{also, verdict, after}
+use Rattle.note.specs.Refusals.{also, verdict, after, unlessRefused}
 use Rattle.note.specs.Notes.{limit}
 use Rattle.note.specs.Faults.{textFaults, stringFaults, roomFaults}
 use Rattle.pattern.specs.Entries.{placesOf}
@@ -33,22 +31,19 @@ FoundRead = (text literal : List ℕ) → length text ≤ limit
     → placesOf (foundBytes text literal) ≡ foundPlaces text literal
 
 -- CLAIM: always enough room. A literal of m bytes has at most n / m matches in n bytes, and something may stand
--- before each one and behind the last.
+-- before each one and after the last.
 abbrev pub LongestList : Type 0
 LongestList = (text literal : List ℕ) → 0 < length literal
     → length (foundBytes text literal) ≤ roomFor (2 * (length text / length literal) + 1)
 
--- the refusals of the call, which is lent so much room
+-- the refusals of the call, which is given so much room
 abbrev pub findFaults : ℕ → List ℕ → List ℕ → ℕ → Refusal → Bool
 findFaults most text literal room =
     also (also (textFaults most text) (stringFaults literal)) (roomFaults (length (foundBytes text literal)) room)
 
--- what is answered: the list's bytes
-abbrev pub matchesOf : Verdict → ℕ → Matches
-matchesOf Accepted n = Written n
-matchesOf (Rejected k) n = Refused k
-
--- the call: limit, text, literal, the lent bytes before, the answer, the lent bytes after
+-- the call: limit, text, literal, the passed bytes before, the answer, the passed bytes after
 pub record Finding (most : ℕ) (text literal o₀ : List ℕ) (r : Matches) (o₁ : List ℕ) : Type 0 where
-  pub answer : r ≡ matchesOf (verdict (findFaults most text literal (length o₀))) (length (foundBytes text literal))
+  pub answer :
+      r ≡ unlessRefused Refused (verdict (findFaults most text literal (length o₀)))
+      (Written (length (foundBytes text literal)))
   pub list : o₁ ≡ after (verdict (findFaults most text literal (length o₀))) (foundBytes text literal) o₀

@@ -1,5 +1,5 @@
 -- What the contracts of the inner functions of searching are said with.
-use Prim.Native.Nat.{ℕ, _≤_, _<_}
+use Prim.Native.Nat.{ℕ, zero, suc, _≤_, _<_}
 use mathlib.Core.Path.{_≡_}
 use mathlib.Core.Bool.{Bool, false, cond, _&&_, not}
 use mathlib.Core.List.{List}
@@ -16,10 +16,11 @@ together a b first last j = eqb (getD a j 0) first && eqb (getD b j 0) last
 unfoldable pub apartBelow : List ℕ → List ℕ → ℕ → ℕ → ℕ → Bool
 apartBelow a b first last n = everyBelow n (λ j. not (together a b first last j))
 
--- r is at most 64, and they do at none of n indices before it
-pub record Candidate (a b : List ℕ) (first last n r : ℕ) : Type 0 where
-  pub most : r ≤ 64
-  pub before : (k : ℕ) → k < n → k < r → together a b first last k ≡ false
+-- the least at which they do of the n indices from j on, or the end of those
+unfoldable pub firstTogether : List ℕ → List ℕ → ℕ → ℕ → ℕ → ℕ → ℕ
+firstTogether a b first last zero j = j
+firstTogether a b first last (suc n) j =
+    cond (together a b first last j) j (firstTogether a b first last n (suc j))
 
 -- the literal stands at no position from `from` up to `to`, which is one of the text's
 pub record Absent (text literal : List ℕ) (from to : ℕ) : Type 0 where

@@ -1,5 +1,5 @@
 // Finding a literal (RULES 9.4 to 9.6; Rust: `Pattern for &str`): leftmost matches without overlap, as a list that
-// covers the text. One search writes the list where the room that is lent holds any; where it may not, another one
+// covers the text. One search writes the list where the given room holds any; where it may not, another one
 // counts its places first.
 pub mod search;
 

@@ -10,7 +10,7 @@ ghost use mathlib.Core.Bool.{not};
 ghost use Prim.Native.Nat.{_+_, _≤_, _<_};
 ghost use lib.ListN.{length};
 ghost use Rattle.find.specs.Matching.{occursAt, firstFrom};
-ghost use Rattle.find.specs.Searching.{Absent, Candidate, apartBelow, firstMatch};
+ghost use Rattle.find.specs.Searching.{Absent, apartBelow, firstMatch, firstTogether};
 
 // Whether the literal stands in the text at `p`.
 pub fn occurs_at(text: &[u8], literal: &[u8], p: usize) -> bool
@@ -27,13 +27,16 @@ pub fn occurs_at(text: &[u8], literal: &[u8], p: usize) -> bool
 // No branch inside, so that the loop is vectorised; it is told by how many indices are left, since none is then 0.
 pub fn first_candidate(a: &[u8], b: &[u8], first: u8, last: u8) -> usize
     requires { ⌜ (64 ≤ length (now a)) × (64 ≤ length (now b)) ⌝ }
-    ensures { λ r. ⌜ Candidate (now (a .entry)) (now (b .entry)) first last 64 r ⌝ }
+    ensures { λ r. ⌜ r ≡ firstTogether (now (a .entry)) (now (b .entry)) first last 64 0 ⌝ }
 {
     let mut left: u8 = 0;
     let mut j: u8 = 0;
     while j < 64 {
         let k = j as usize;
-        left = max_u8(left, select_or_zero_u8((a[k] == first) & (b[k] == last), 64 - j));
+        left = max_u8(
+            left,
+            select_or_zero_u8((a[k] == first) & (b[k] == last), 64 - j),
+        );
         j += 1;
     }
     64 - left as usize

@@ -1,6 +1,6 @@
 -- How the range of a byte's character is carried from byte to byte: its start forwards, its end backwards.
-use Prim.Native.Nat.{ℕ, zero, suc, _+_, _-_, _≤_, _<_}
-use mathlib.Core.Path.{_≡_, _∙_, ap, refl, sym}
+use Prim.Native.Nat.{ℕ, _+_, _-_, _≤_, _<_}
+use mathlib.Core.Path.{_≡_, _∙_, ap, refl}
 use mathlib.Core.Bool.{true, false}
 use mathlib.Core.List.{List}
 use native.Mathlib.Omega.{arith}
@@ -10,7 +10,7 @@ use Rattle.buffers.specs.Columns.{Filled}
 use Rattle.buffers.proofs.Columns.{none-filled, filled-up, filled-down, filled-as, filled-after, filled-before, all-filled}
 use Rattle.utf8.specs.Formed.{wellFormed, continues}
 use Rattle.utf8.specs.CharRanges.{charStart, charEnd}
-use Rattle.utf8.proofs.CharRanges.{Ranged, ranged, start-carried, end-begun, end-carried}
+use Rattle.utf8.proofs.CharRanges.{Ranged, ranged, end-begun, end-carried}
 use Rattle.note.specs.Starting.{starting}
 
 -- the starts of the first i bytes stand in d, and `start` is the last of them

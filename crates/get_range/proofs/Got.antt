@@ -1,16 +1,8 @@
 -- Laws of `charRange`, `got`, `getRange` and `getRangeOriginal`, case by case as the code comes to them.
-use Prim.Native.Nat.{ℕ, _≤_, _<_}
+use Prim.Native.Nat.{ℕ}
 use mathlib.Core.Path.{_≡_, _∙_, ap, refl}
-use mathlib.Core.Bool.{Bool, true, false, _&&_}
+use mathlib.Core.Bool.{Bool, true, false}
 use mathlib.Core.List.{List}
-use lib.Dec.{leb}
-use lib.ListN.{length}
-use borrow.Author.Tests.{le-leb, lt-leb, leb-true}
-use mathlib.Mathlib.Data.Bool.Basic.{and-elim-left, and-elim-right}
-use Rattle.utf8.specs.Formed.{boundary}
-use Rattle.utf8.proofs.Boundaries.{boundary-most}
-use Rattle.note.specs.declared.OriginalByte.{OriginalByte}
-use Rattle.note.specs.declared.NormalizedByte.{NormalizedByte}
 use Rattle.note.specs.declared.Refusal.{Refusal}
 use Rattle.note.specs.declared.Refusal.the-variants.{Missing}
 use Rattle.note.specs.declared.Verdict.{Verdict}
@@ -22,7 +14,7 @@ use Rattle.convert.specs.declared.Range.{Range}
 use Rattle.convert.specs.declared.Range.the-variants.{Original, Normalized}
 use Rattle.convert.specs.declared.Converted.{Converted}
 use Rattle.convert.specs.declared.Converted.the-variants.{Found, Refused}
-use Rattle.convert.specs.Converting.{startOf, endOf, converted}
+use Rattle.convert.specs.Converting.{startOf, endOf}
 use Rattle.convert.proofs.Answered.{MissingOnly, found-or-missing, converted-missing, answered-refused, answered-accepted}
 use Rattle.convert.specs.Converting.{asNormalized, asOriginal}
 use Rattle.utf8.specs.Formed.{charRange}

@@ -1,7 +1,7 @@
 -- Laws of `partFaults` and `partOf`: what the reader's plain call answers, and the part that it hands back.
 use Prim.Native.Nat.{ℕ, _-_, _≤_}
 use mathlib.Core.Path.{_≡_, _∙_, refl, sym}
-use mathlib.Core.Bool.{Bool, cond, not}
+use mathlib.Core.Bool.{Bool, true, cond, not}
 use mathlib.Core.List.{List, []}
 use lib.ListN.{length, take, drop}
 use borrow.Author.Tests.{not-false}
@@ -9,7 +9,7 @@ use Rattle.note.specs.declared.Refusal.{Refusal}
 use Rattle.note.specs.declared.Refusal.the-variants.{Missing, IllFormed}
 use Rattle.note.specs.declared.Verdict.{Verdict}
 use Rattle.note.specs.declared.Verdict.the-variants.{Accepted, Refused}
-use Rattle.note.specs.Refusals.{also, verdict}
+use Rattle.note.specs.Refusals.{none, meets, also, verdict}
 use Rattle.note.specs.Rank.{earlier}
 use Rattle.note.specs.Faults.{textFaults}
 use Rattle.note.specs.Rank.{upTo}
@@ -17,8 +17,12 @@ use Rattle.note.proofs.FirstMet.{accepted-meets, refused-then, accepted-then, e
 use Rattle.convert.specs.declared.Range.{Range}
 use Rattle.convert.specs.Converting.{startOf, endOf}
 use Rattle.utf8.specs.Formed.{charRange}
-use Rattle.get_range.specs.Reading.{namedText, readFaults, partFaults, partOf}
-use Rattle.utf8.proofs.Boundaries.{char-range-inside}
+use Rattle.get_range.specs.Reading.{namedText, partFaults, partOf}
+use Rattle.utf8.proofs.Boundaries.{Between, char-range-between}
+
+-- the reader's own condition
+abbrev readFaults : List ℕ → ℕ → ℕ → Refusal → Bool
+readFaults s a e = meets Missing (not (charRange s a e)) none
 
 read-verdict : (s : List ℕ) (a e : ℕ) → cond (not (charRange s a e)) (Refused Missing) Accepted ≡ verdict (readFaults s a e)
 unfolding verdict
@@ -55,5 +59,7 @@ module _ (most : ℕ) (o n : List ℕ) (range : Range) where
       pub accepted-inside : (a ≤ e) × (e ≤ length s)
       unfolding partFaults
       accepted-inside =
-          rw (p, q, r)
-          (char-range-inside _ _ _ (not-false (charRange (namedText o n range) (startOf range) (endOf range)) (accepted-meets (partFaults most o n range) (sym so ∙ ok) Missing)))
+          let text : List ℕ = namedText o n range in
+          let is : charRange text (startOf range) (endOf range) ≡ true = not-false _ (accepted-meets (partFaults most o n range) (sym so ∙ ok) Missing) in
+          let range : Between text (startOf range) (endOf range) = char-range-between _ _ _ is in
+          rw (p, q, r) (range .onward, range .inside)

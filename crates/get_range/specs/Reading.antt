@@ -1,22 +1,19 @@
 -- RULES 5 (Rust: `get_range`, `get_range_original`, `str::get`), and the added reader.
 use Prim.Native.Nat.{ℕ}
-use mathlib.Core.Bool.{Bool, cond, _&&_, not}
+use mathlib.Core.Bool.{Bool, cond, not}
 use mathlib.Core.List.{List, []}
-use lib.Dec.{leb}
 use Rattle.buffers.specs.Splice.{part}
-use Rattle.utf8.specs.Formed.{boundary, charRange}
+use Rattle.utf8.specs.Formed.{charRange}
 use Rattle.note.specs.declared.Refusal.{Refusal}
 use Rattle.note.specs.declared.Refusal.the-variants.{Missing}
-use Rattle.note.specs.declared.Verdict.{Verdict}
-use Rattle.note.specs.declared.Verdict.the-variants.{Accepted, Refused as Rejected}
-use Rattle.note.specs.Refusals.{none, meets, also, verdict}
+use Rattle.note.specs.Refusals.{none, meets, also, verdict, unlessRefused}
 use Rattle.note.specs.Notes.{Note}
 use Rattle.note.specs.Faults.{textFaults}
 use Rattle.convert.specs.declared.Range.{Range}
 use Rattle.convert.specs.declared.Range.the-variants.{Original, Normalized}
 use Rattle.convert.specs.declared.Converted.{Converted}
 use Rattle.convert.specs.declared.Converted.the-variants.{Found, Refused}
-use Rattle.convert.specs.Converting.{startOf, endOf, converted, answered, asNormalized, asOriginal}
+use Rattle.convert.specs.Converting.{startOf, endOf, answered, asNormalized, asOriginal}
 
 -- RULES 5.1: what `str::get` makes of a range that may have been missed already
 unfoldable pub got : List ℕ → Converted → Converted
@@ -35,20 +32,13 @@ abbrev pub namedText : List ℕ → List ℕ → Range → List ℕ
 namedText original normalized (Original a b) = original
 namedText original normalized (Normalized a b) = normalized
 
-abbrev pub readFaults : List ℕ → ℕ → ℕ → Refusal → Bool
-readFaults s a e = meets Missing (not (charRange s a e)) none
-
 unfoldable pub partFaults : ℕ → List ℕ → List ℕ → Range → Refusal → Bool
 partFaults most original normalized range =
     also (also (textFaults most original) (textFaults most normalized))
-    (readFaults (namedText original normalized range) (startOf range) (endOf range))
+    (meets Missing (not (charRange (namedText original normalized range) (startOf range) (endOf range))) none)
 
 -- RULES 5.5: the part itself; nothing of that text where the reader is refused
-abbrev pub partUnlessRefused : Verdict → List ℕ → List ℕ
-partUnlessRefused Accepted s = s
-partUnlessRefused (Rejected k) s = []
-
 unfoldable pub partOf : ℕ → List ℕ → List ℕ → Range → List ℕ
 partOf most original normalized range =
-    partUnlessRefused (verdict (partFaults most original normalized range))
+    unlessRefused (λ k. []) (verdict (partFaults most original normalized range))
     (part (namedText original normalized range) (startOf range) (endOf range))

@@ -1,4 +1,4 @@
--- Laws of `ofLetters`: letter by letter, from any place on.
+-- Laws of `ofChars`: character by character, from any place on.
 use Prim.Native.Nat.{ℕ, zero, suc, _+_, _-_, _≤_, _<_}
 use mathlib.Core.Path.{_≡_, _∙_, ap, refl, sym}
 use mathlib.Core.Bool.{true, false}
@@ -12,7 +12,7 @@ use Rattle.utf8.specs.Chars.{leadAt, leads}
 use Rattle.utf8.proofs.Boundaries.{CharAt, char-at, boundary-begins}
 use Rattle.map_columns.specs.Spreading.{ofChars}
 
--- the letters of a column, from a place on
+-- the characters of a column, from a place on
 pub chars-drop : (k : ℕ) (s xs : List ℕ) → length xs ≡ length s → ofChars (drop k s) (drop k xs) ≡ drop (leads (take k s)) (ofChars s xs)
 unfolding ofChars leads leadAt
 chars-drop zero s xs same = refl
@@ -42,7 +42,7 @@ unfolding ofChars
 old-char b x s xs goes = rw goes
 
 module _ (s xs : List ℕ) (same : length xs ≡ length s) where
-  -- up to the end of a character no letter begins
+  -- up to the end of a character no other begins
   chars-rest : (k p : ℕ) → p + k ≤ length s → ((i : ℕ) → p ≤ i → i < p + k → continues (getD s i 0) ≡ true) → ofChars (drop p s) (drop p xs) ≡ ofChars (drop (p + k) s) (drop (p + k) xs)
   chars-rest zero p h goes = let z : p + 0 ≡ p = omega arith in rw z
   chars-rest (suc k) p h goes =

@@ -1,4 +1,4 @@
--- Laws of columns by letters.
+-- Laws of columns by characters.
 pub mod Chars
 pub mod Bytes
 pub mod Spread

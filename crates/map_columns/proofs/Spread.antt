@@ -83,7 +83,9 @@ module _ (s xs : List ℕ) (same : length xs ≡ length s) (cs : List ℕ) (i q 
 pub record Carried (s xs : List ℕ) (p : ℕ) (cs d₀ : List ℕ) (from until : ℕ) (d : List ℕ) (q at i : ℕ) : Type 0 where
   pub parts : Parts (spread cs (ofChars (drop p s) (drop p xs))) (spread (drop i cs) (ofChars (drop q s) (drop q xs))) d₀ from until at d
 
-module _ {s xs : List ℕ} {p : ℕ} {cs d₀ : List ℕ} {from until : ℕ} (r : SpreadRoom s xs cs d₀ from until) {d : List ℕ} {q at i : ℕ} (k : Carried s xs p cs d₀ from until d q at i) (h : i < length cs) (more : q < length s) {t : Bool} (is : t ≡ continues (getD s q 0)) {wide size : ℕ} (w : wide ≡ lenUtf8 (getD cs i 0)) (z : size ≡ cond (not t) wide 0) where
+module _ {s xs : List ℕ} {p : ℕ} {cs d₀ : List ℕ} {from until : ℕ} (r : SpreadRoom s xs cs d₀ from until) {d : List ℕ} {q at i : ℕ}
+    (k : Carried s xs p cs d₀ from until d q at i) (h : i < length cs) (more : q < length s) {t : Bool} (is : t ≡ continues (getD s q 0))
+    {wide size : ℕ} (w : wide ≡ lenUtf8 (getD cs i 0)) (z : size ≡ cond (not t) wide 0) where
   step : spread (drop i cs) (ofChars (drop q s) (drop q xs)) ≡ replicate size (getD xs q 0) ++ spread (drop (i + boolByte (not t)) cs) (ofChars (drop (q + 1) s) (drop (q + 1) xs))
   step = byte-left s xs (r .one-each) cs i q h more is w z
 
@@ -122,7 +124,10 @@ module _ {s starts ends : List ℕ} {p : ℕ} {cs starts₀ ends₀ : List ℕ} 
       (λ past. let none : leads (drop q s) ≡ 0 = rw (drop-of-length-le s past) in absurd (omega (arith, k .counted, r .enough, none)))
       (λ below. below)
 
-  pub one-spread : (h : i < length cs) {t : Bool} → t ≡ continues (getD s q 0) → {wide size : ℕ} → wide ≡ lenUtf8 (getD cs i 0) → size ≡ cond (not t) wide 0 → {starts₂ ends₂ : List ℕ} → Over (replicate size (getD starts q 0)) starts₁ at until starts₂ → Over (replicate size (getD ends q 0)) ends₁ at until ends₂ → Spreading s starts ends p cs starts₀ ends₀ from until starts₂ ends₂ (q + 1) (at + size) (i + boolByte (not t))
+  pub one-spread : (h : i < length cs) {t : Bool} → t ≡ continues (getD s q 0) → {wide size : ℕ} → wide ≡ lenUtf8 (getD cs i 0)
+      → size ≡ cond (not t) wide 0 → {starts₂ ends₂ : List ℕ} → Over (replicate size (getD starts q 0)) starts₁ at until starts₂
+      → Over (replicate size (getD ends q 0)) ends₁ at until ends₂
+      → Spreading s starts ends p cs starts₀ ends₀ from until starts₂ ends₂ (q + 1) (at + size) (i + boolByte (not t))
   one-spread h {t} is w z o e =
       record {
         most = omega (arith, bool-most (not t));
@@ -157,7 +162,9 @@ steady-run s xs steady p w some h same goes =
         rw z (alike i (omega arith) ∙ steady (p + i) (omega arith) (goes (suc (p + i)) (omega arith) (omega arith)))
 
 module _ (s xs : List ℕ) (same : length xs ≡ length s) (steady : Steady s xs) where
-  pub copied : (cs : List ℕ) (p : ℕ) → allScalar cs ≡ true → p + length (textOf cs) ≤ length s → ((i : ℕ) → i < length (textOf cs) → continues (getD s (p + i) 0) ≡ continues (getD (textOf cs) i 0)) → (spread cs (ofChars (drop p s) (drop p xs)) ≡ part xs p (p + length (textOf cs))) × (leads (drop p s) ≡ length cs + leads (drop (p + length (textOf cs)) s))
+  pub copied : (cs : List ℕ) (p : ℕ) → allScalar cs ≡ true → p + length (textOf cs) ≤ length s
+      → ((i : ℕ) → i < length (textOf cs) → continues (getD s (p + i) 0) ≡ continues (getD (textOf cs) i 0))
+      → (spread cs (ofChars (drop p s) (drop p xs)) ≡ part xs p (p + length (textOf cs))) × (leads (drop p s) ≡ length cs + leads (drop (p + length (textOf cs)) s))
   unfolding spread textOf allScalar lenUtf8
   copied [] p ok h alike =
       let z : p + 0 ≡ p = omega arith in

@@ -1,9 +1,10 @@
 -- What the inner functions are told and say: code points in the place of a text's characters from a byte on.
 use Prim.Native.Nat.{ℕ, suc, _+_, _≤_, _<_}
 use mathlib.Core.Path.{_≡_}
-use mathlib.Core.Bool.{true}
+use mathlib.Core.Bool.{Bool, true, Bool·beq}
 use mathlib.Core.List.{List}
 use lib.ListN.{length, getD, drop}
+use Rattle.buffers.specs.Every.{everyBelow}
 use Rattle.buffers.specs.Over.{Over}
 use Rattle.utf8.specs.Formed.{continues}
 use Rattle.utf8.specs.Chars.{leads}
@@ -16,8 +17,8 @@ abbrev pub Steady : List ℕ → List ℕ → Type 0
 Steady s xs = (q : ℕ) → suc q < length s → continues (getD s (suc q) 0) ≡ true → getD xs q 0 ≡ getD xs (suc q) 0
 
 -- characters begin at the same bytes of two texts
-abbrev pub SameLeads : List ℕ → List ℕ → Type 0
-SameLeads a b = (i : ℕ) → i < length a → continues (getD a i 0) ≡ continues (getD b i 0)
+unfoldable pub sameLeads : List ℕ → List ℕ → Bool
+sameLeads a b = everyBelow (length a) (λ i. Bool·beq (continues (getD a i 0)) (continues (getD b i 0)))
 
 -- a column of a text that has characters enough from p on, and room for what the code points carry of it
 pub record SpreadRoom (s xs : List ℕ) (codes d : List ℕ) (from until : ℕ) : Type 0 where

@@ -1,3 +1,3 @@
--- What a column has for each letter of a text.
+-- What a column has for each character of a text.
 pub mod Spreading
 pub mod Laying

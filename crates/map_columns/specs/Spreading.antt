@@ -1,4 +1,4 @@
--- What a column has for each letter of a text, and the same given to other characters.
+-- What a column has for each character of a text, and that given to other characters.
 use Prim.Native.Nat.{ℕ}
 use mathlib.Core.Bool.{cond}
 use mathlib.Core.List.{List, [], _∷_, _++_}

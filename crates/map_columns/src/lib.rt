@@ -1,18 +1,19 @@
-// Code points in the place of a text's characters: their bytes, and what a column has for each letter, given to them.
+// Code points in the place of a text's characters: their bytes, and what a column has for each character, given to
+// them.
 // Each function here is an inner one: there are characters enough, and room for the result.
 use buffers::Offset;
 use buffers::copy_offsets;
 use buffers::fill_offsets;
 use buffers::lanes::select_or_zero_usize;
 use code_points::lay_text;
+use note::NormalizedByte;
 use utf8::continues;
 use utf8::lead::len_utf8;
 ghost use mathlib.Core.Path.{_≡_};
-ghost use mathlib.Core.Bool.{true, cond};
 ghost use Prim.Native.Nat.{_+_, _≤_};
 ghost use lib.ListN.{length, replicate};
 ghost use Rattle.buffers.specs.Over.{Over};
-ghost use Rattle.map_columns.specs.Laying.{CodesLaid, CodesRoom, CharsLaid, CharsRoom, SameLeads};
+ghost use Rattle.map_columns.specs.Laying.{CodesLaid, CodesRoom, CharsLaid, CharsRoom, sameLeads};
 
 // How far the code points reach: in the text whose characters they replace, and in the buffers.
 pub struct Reached {
@@ -23,7 +24,7 @@ pub struct Reached {
 // Whether characters begin at the same bytes of two texts.
 fn same_leads(a: &[u8], b: &[u8]) -> bool
     requires { ⌜ length (now a) ≡ length (now b) ⌝ }
-    ensures { λ r. ⌜ (r ≡ true → SameLeads (now (a .entry)) (now (b .entry))) ⌝ }
+    ensures { λ r. ⌜ r ≡ sameLeads (now (a .entry)) (now (b .entry)) ⌝ }
 {
     let mut ok = true;
     let mut i = 0;
@@ -46,8 +47,8 @@ fn fill_char(value: Offset, count: usize, dst: &mut [Offset], at: usize, until: 
     fill_offsets(value, count, dst, at);
 }
 
-// What the columns have for each letter from `position` on, for each code point in its place, laid from `from` on; how
-// many bytes of the text were read. Byte by byte: no branch asks how long a character is.
+// What the columns have for each character from `position` on, for each code point in its place, laid from `from` on;
+// how many bytes of the text were read. Byte by byte: no branch asks how long a character is.
 fn lay_chars(
     text: &[u8],
     starts: &[Offset],
@@ -86,7 +87,7 @@ pub fn lay_codes(
     text: &[u8],
     starts: &[Offset],
     ends: &[Offset],
-    position: usize,
+    position: NormalizedByte,
     codes: &[u32],
     out: &mut [u8],
     out_starts: &mut [Offset],
@@ -94,19 +95,20 @@ pub fn lay_codes(
     from: usize,
     until: usize,
 ) -> Reached
-    requires { ⌜ CodesRoom (now text) (now starts) (now ends) position (now codes)
+    requires { ⌜ CodesRoom (now text) (now starts) (now ends) (position .0) (now codes)
         (now out) (now «out_starts») (now «out_ends») from until ⌝ }
-    ensures { λ r. ⌜ CodesLaid (now (text .entry)) (now (starts .entry)) (now (ends .entry)) position
+    ensures { λ r. ⌜ CodesLaid (now (text .entry)) (now (starts .entry)) (now (ends .entry)) (position .0)
         (now (codes .entry)) (now (out .entry)) (now («out_starts» .entry)) (now («out_ends» .entry)) from until
         r (now (out .exit)) (now («out_starts» .exit)) (now («out_ends» .exit)) ⌝ }
 {
+    let first = position.0 as usize;
     let written = lay_text(codes, out, from, until);
     let size = written - from;
-    if size <= text.len() - position {
-        let end = position + size;
-        if same_leads(&text[position..end], &out[from..written]) {
-            copy_offsets(&starts[position..end], out_starts, from);
-            copy_offsets(&ends[position..end], out_ends, from);
+    if size <= text.len() - first {
+        let end = first + size;
+        if same_leads(&text[first..end], &out[from..written]) {
+            copy_offsets(&starts[first..end], out_starts, from);
+            copy_offsets(&ends[first..end], out_ends, from);
             return Reached {
                 position: end,
                 written,
@@ -117,7 +119,7 @@ pub fn lay_codes(
         text,
         starts,
         ends,
-        position,
+        first,
         codes,
         out_starts,
         out_ends,

@@ -6,4 +6,4 @@ pub mod Faults
 pub mod Starting
 pub mod Stretch
 pub mod Numbers
-pub mod Uneven
+pub mod LengthFaults

@@ -2,17 +2,16 @@
 -- range or ends before it. So the note is sound, and accepted where the text is.
 use Prim.Native.Nat.{ℕ, zero, suc, _+_, _≤_, _<_}
 use mathlib.Core.Path.{_≡_, refl, sym}
-use mathlib.Core.Bool.{true, false}
+use mathlib.Core.Bool.{true}
 use mathlib.Core.List.{List}
 use mathlib.Mathlib.Data.Bool.Basic.{and-intro}
 use native.Mathlib.Omega.{arith}
 use lib.ListN.{length, getD}
 use borrow.Author.Tests.{le-leb, eq-eqb}
-use Rattle.buffers.proofs.Cases.{le-or-lt, true-or-false, clash}
+use Rattle.buffers.proofs.Cases.{true-or-false}
 use Rattle.buffers.proofs.Every.{every-all}
 use Rattle.buffers.proofs.Columns.{length-column, getD-column}
-use Rattle.utf8.specs.Formed.{wellFormed, continues, announced, boundary}
-use Rattle.utf8.proofs.Boundaries.{CharAt, char-at, boundary-zero, boundary-at, boundary-begins}
+use Rattle.utf8.specs.Formed.{wellFormed, continues}
 use Rattle.note.specs.Refusals.{verdict}
 use Rattle.note.specs.Notes.{fits, paired, textsFormed, startAt, endAt, inside, onBoundaries, shared, forward, aligned}
 use Rattle.utf8.specs.CharRanges.{charStart, charEnd}

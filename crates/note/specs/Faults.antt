@@ -33,7 +33,7 @@ stringFaults s = meets IllFormed (not (wellFormed s)) none
 abbrev pub lengthFaults : List ℕ → List ℕ → Refusal → Bool
 lengthFaults starts ends = meets LengthMismatch (not (eqb (length starts) (length ends))) none
 
--- a result of so many elements beside the room that is lent for it
+-- a result of so many elements beside the room for it
 abbrev pub roomFaults : ℕ → ℕ → Refusal → Bool
 roomFaults size room = meets NoRoom (not (leb size room)) none
 

@@ -16,7 +16,7 @@ pub record Note : Type 0 where
   pub ends : List ℕ
   pub original-shift : ℕ
 
--- the note that a call is lent in five arguments
+-- the note that a call is given in five arguments
 abbrev pub lent : List ℕ → List ℕ → List ℕ → List ℕ → ℕ → Note
 lent original normalized starts ends shift =
     record { original = original; normalized = normalized; starts = starts; ends = ends; original-shift = shift }
@@ -77,7 +77,6 @@ pub record Sound (n : Note) : Type 0 where
   pub has-alignments : aligned n ≡ true
 
 -- what a new character at a place that ends at `end` carries of a column: the number of the byte before that end, 0 at
--- the
--- text's beginning (RULES 10: what a filler carries)
+-- the text's beginning (RULES 10: what a filler carries)
 unfoldable pub beforeEnd : List ℕ → ℕ → ℕ
 beforeEnd column end = cond (eqb end 0) 0 (getD column (end - 1) 0)

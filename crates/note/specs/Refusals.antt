@@ -73,11 +73,15 @@ abbrev pub unlessRefused : {A : Type 0} → (Refusal → A) → Verdict → A �
 unlessRefused refused Accepted answer = answer
 unlessRefused refused (Refused k) answer = refused k
 
--- the room that three lent buffers have for one size
+-- a contract on three buffers: what they hold before, the answer, and what they hold after
+abbrev pub OnThree : Type 0 → Type 1
+OnThree R = List ℕ → List ℕ → List ℕ → R → List ℕ → List ℕ → List ℕ → Type 0
+
+-- the room that three buffers have for one size
 abbrev pub least : ℕ → ℕ → ℕ → ℕ
 least a b c = min a (min b c)
 
--- a lent buffer after the call: a refusal leaves it, and beyond the result it keeps its contents
+-- a buffer after the call: a refusal leaves it, and beyond the result it keeps its contents
 abbrev pub after : Verdict → List ℕ → List ℕ → List ℕ
 after Accepted result before = overlay result before
 after (Refused k) result before = before

@@ -20,7 +20,7 @@ starting s = lent s s (column (length s) (charStart s)) (column (length s) (char
 abbrev pub StartingSound : Type 0
 StartingSound = (s : List ℕ) → wellFormed s ≡ true → Sound (starting s)
 
--- CLAIM: every call that is lent the note of a fresh well-formed text within the limit accepts it.
+-- CLAIM: every call accepts the note of a fresh well-formed text within the limit.
 abbrev pub StartingAccepted : Type 0
 StartingAccepted =
     (most : ℕ) (s : List ℕ) → wellFormed s ≡ true → length s ≤ most → verdict (noteFaults most (starting s)) ≡ Accepted

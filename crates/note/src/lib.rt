@@ -1,6 +1,6 @@
 // The note's numbers, and the refusals of every call on it (RULES 1 and 2).
-pub mod verdicts;
 pub mod rewrap;
+pub mod verdicts;
 
 use buffers::Offset;
 ghost use mathlib.Core.Path.{_≡_};

@@ -11,7 +11,7 @@ use lib.ListN.{length, set, length-append, length-set}
 use Rattle.buffers.specs.Splice.{splice, Laid}
 use Rattle.buffers.proofs.Splice.{store-before, store-after, splice-nil, laid-length}
 use Rattle.buffers.proofs.Cases.{le-or-lt}
-use Rattle.numbers.specs.Decimal.{digits, decimal, field, readFrom, readDecimal, DecimalReadBack, DecimalBounded}
+use Rattle.numbers.specs.Decimal.{digits, decimal, field, digitsFrom, readDecimal, DecimalReadBack, DecimalBounded}
 
 -- more steps than there are digits change nothing
 enough : (k m n : ℕ) → n < k → n < m → digits k n ≡ digits m n
@@ -38,13 +38,13 @@ length-more : (n : ℕ) → 10 ≤ n → length (decimal n) ≡ length (decimal 
 length-more n h = ap length (decimal-more n h) ∙ length-append (decimal (n / 10)) _
 
 -- reading
-read-append : (n : ℕ) (ds es : List ℕ) → readFrom n (ds ++ es) ≡ readFrom (readFrom n ds) es
-unfolding readFrom
+read-append : (n : ℕ) (ds es : List ℕ) → digitsFrom n (ds ++ es) ≡ digitsFrom (digitsFrom n ds) es
+unfolding digitsFrom
 read-append n [] es = refl
 read-append n (d ∷ ds) es = read-append (n * 10 + (d - 0x30)) ds es
 
-read-digits : (k n : ℕ) → n < k → readFrom 0 (digits k n) ≡ n
-unfolding digits readFrom
+read-digits : (k n : ℕ) → n < k → digitsFrom 0 (digits k n) ≡ n
+unfolding digits digitsFrom
 read-digits zero n h = absurd (omega arith)
 read-digits (suc k) n h =
     le-or-lt 10 n

@@ -1,12 +1,12 @@
 -- Laws of `littleEndian` and `valueOf`: each undoes the other; lengths, bytes, and the numbers of two and of four bytes.
 use Prim.Native.Nat.{ℕ, zero, suc, _+_, _*_, _-_, _/_, _%_, _^_, _≤_, _<_}
-use mathlib.Core.Path.{_≡_, _∙_, ap, refl, sym}
-use mathlib.Core.List.{List, [], _∷_, _++_}
+use mathlib.Core.Path.{_≡_, ap, refl}
+use mathlib.Core.List.{List, [], _∷_}
 use native.Mathlib.Nat.{pow-suc, add-zero}
 use native.Mathlib.Numerals.{add-one}
 use native.Mathlib.Omega.{arith}
-use lib.ListN.{length, getD, set, take, drop, drop-of-length-le, List·getD-eq-default}
-use lib.Seq.{take-at, drop-at, take-nil, drop-cons}
+use lib.ListN.{length, getD, set, drop-of-length-le, List·getD-eq-default}
+use lib.Seq.{take-nil, drop-cons}
 use Rattle.buffers.specs.Splice.{part, splice}
 use Rattle.buffers.proofs.Cases.{le-or-lt}
 use Rattle.buffers.proofs.Splice.{splice-nil, store-after}
@@ -29,27 +29,10 @@ bytes-written-back (b ∷ bs) h =
     let others : (b + valueOf bs * 256) / 256 ≡ valueOf bs = omega arith in
     rw (first, others, bytes-written-back bs (λ i k. h (suc i) (omega arith)))
 
--- the numbers of two bytes
-pub number-read-back-2 : (n : ℕ) → n < 256 ^ 2 → valueOf (littleEndian 2 n) ≡ n
-number-read-back-2 = number-read-back 2
-
 pub length-littleEndian : (width n : ℕ) → length (littleEndian width n) ≡ width
 unfolding littleEndian
 length-littleEndian zero n = refl
 length-littleEndian (suc width) n = ap suc (length-littleEndian width (n / 256))
-
-pub littleEndian-byte : (width n i : ℕ) → getD (littleEndian width n) i 0 < 256
-unfolding littleEndian
-littleEndian-byte zero n i = omega arith
-littleEndian-byte (suc width) n zero = omega arith
-littleEndian-byte (suc width) n (suc i) = littleEndian-byte width (n / 256) i
-
--- a number in front of other bytes
-pub take-littleEndian : (width n : ℕ) (rest : List ℕ) → take width (littleEndian width n ++ rest) ≡ littleEndian width n
-take-littleEndian width n rest = take-at (littleEndian width n) rest width (length-littleEndian width n)
-
-pub drop-littleEndian : (width n : ℕ) (rest : List ℕ) → drop width (littleEndian width n ++ rest) ≡ rest
-drop-littleEndian width n rest = drop-at (littleEndian width n) rest width (length-littleEndian width n)
 
 -- the number that stands in a list, by its first byte, also where the list ends before; the one of two bytes, and the
 -- one of four, by its halves

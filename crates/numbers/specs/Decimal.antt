@@ -20,13 +20,13 @@ unfoldable pub field : ℕ → ℕ → List ℕ
 field n after = decimal n ++ (after ∷ [])
 
 -- the number that digits stand for behind those of n
-unfoldable pub readFrom : ℕ → List ℕ → ℕ
-readFrom n [] = n
-readFrom n (d ∷ ds) = readFrom (n * 10 + (d - 0x30)) ds
+unfoldable pub digitsFrom : ℕ → List ℕ → ℕ
+digitsFrom n [] = n
+digitsFrom n (d ∷ ds) = digitsFrom (n * 10 + (d - 0x30)) ds
 
 -- the number that digits stand for
 unfoldable pub readDecimal : List ℕ → ℕ
-readDecimal ds = readFrom 0 ds
+readDecimal ds = digitsFrom 0 ds
 
 -- CLAIM: every number is read back
 abbrev pub DecimalReadBack : Type 0

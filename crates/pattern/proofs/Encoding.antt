@@ -1,7 +1,7 @@
 -- Laws of `placeBytes`: reading gives back what was written.
 use Prim.Native.Nat.{ℕ, _+_, _*_, _^_, _≤_, _<_}
-use mathlib.Core.Path.{_≡_, _∙_, ap, refl, sym}
-use mathlib.Core.Bool.{Bool, true, false, cond, _&&_, _||_}
+use mathlib.Core.Path.{_≡_, _∙_, ap, refl}
+use mathlib.Core.Bool.{Bool, true, false, cond, _||_}
 use mathlib.Mathlib.Data.Bool.Basic.{and-elim-left, and-elim-right}
 use mathlib.Core.List.{List, [], _∷_, _++_, append-assoc}
 use native.Mathlib.Omega.{arith}
@@ -14,11 +14,12 @@ use borrow.Author.Tests.{le-leb, ltb-true}
 use Rattle.buffers.specs.Splice.{splice, Laid}
 use Rattle.buffers.proofs.Cases.{true-or-false}
 use Rattle.buffers.proofs.Splice.{length-splice, splice-splice}
+use Rattle.numbers.specs.Entries.{readFrom}
 use Rattle.numbers.specs.LittleEndian.{littleEndian, valueOf}
 use Rattle.numbers.proofs.LittleEndian.{number-read-back, length-littleEndian}
 use Rattle.pattern.specs.declared.Place.{Place}
 use Rattle.pattern.specs.declared.Entry.the-variants.{At}
-use Rattle.pattern.specs.Entries.{positionAt, placeAt, entryAt, placesFrom, placesOf, wholeFrom, whole}
+use Rattle.pattern.specs.Entries.{positionAt, placeAt, entryAt, placesOf, wholeList}
 use Rattle.pattern.specs.Encoding.{placeBytes, encodedPlaces, writable, allWritable, roomFor, ReadBack, RoomEnough}
 use Rattle.pattern.proofs.Entries.{Stepped, entry-step}
 
@@ -53,15 +54,15 @@ entry-written p rest e =
     entry-built _ _ _ _ _ rest (p .start .0) (p .end .0) (p .matched) (command-known (p .matched)) (command-matched (p .matched))
     (number-read-back 2 (p .start .0) (writable-start p e)) (number-read-back 2 (p .end .0) (writable-end p e))
 
--- one place, and those behind it
-read-first : (p : Place) (rest : List ℕ) → writable p ≡ true → (placesOf (placeBytes p ++ rest) ≡ p ∷ placesOf rest) × (whole (placeBytes p ++ rest) ≡ whole rest)
+-- one place, and those after it
+read-first : (p : Place) (rest : List ℕ) → writable p ≡ true → (placesOf (placeBytes p ++ rest) ≡ p ∷ placesOf rest) × (wholeList (placeBytes p ++ rest) ≡ wholeList rest)
 unfolding placeBytes littleEndian
 read-first p rest e =
     let s : Stepped (placeBytes p ++ rest) 0 p 5 = entry-step (placeBytes p ++ rest) refl (entry-written p rest e) in
     (s .places, s .wholes)
 
 pub read-back : ReadBack
-unfolding encodedPlaces allWritable placesOf placesFrom whole wholeFrom
+unfolding encodedPlaces allWritable placesOf wholeList readFrom
 read-back [] e = (refl, refl)
 read-back (p ∷ ps) e =
     let first = read-first p (encodedPlaces ps) (and-elim-left _ (allWritable ps) e) in

@@ -1,21 +1,23 @@
--- Laws of `entryAt`, `placesOf` and `whole`: a list is read entry by entry, and nobody needs to know how long one is.
-use Prim.Native.Nat.{ℕ, zero, suc, _+_, _-_, _*_, _/_, _≤_, _<_}
-use mathlib.Core.Path.{_≡_, _∙_, ap, refl, sym}
+-- Laws of `entryAt`, `placesOf` and `wholeList`: a list is read entry by entry, and nobody needs to know how long one is.
+use Prim.Native.Nat.{ℕ, zero, suc, _+_, _-_, _*_, _≤_, _<_}
+use mathlib.Core.Path.{_≡_, _∙_, refl, sym}
 use mathlib.Core.Bool.{Bool, true, false, cond, _&&_, _||_, or-true}
 use mathlib.Mathlib.Data.Bool.Basic.{and-elim-left, and-elim-right}
 use mathlib.Core.List.{List, [], _∷_}
 use native.Mathlib.Omega.{arith}
 use lib.Dec.{leb, eqb}
-use lib.ListN.{length, getD, drop, length-drop, drop-of-length-le}
-use lib.Seq.{drop-cons, drop-drop, getD-drop}
+use lib.ListN.{length, getD, drop, length-drop}
+use lib.Seq.{drop-drop, getD-drop}
 use borrow.Author.Tests.{le-leb, lt-leb, leb-true, eq-eqb, ne-eqb}
 use Rattle.buffers.proofs.Cases.{le-or-lt, true-or-false, clash}
 use Rattle.buffers.proofs.Booleans.{and-false-r}
+use Rattle.numbers.specs.Entries.{readFrom}
+use Rattle.numbers.proofs.Entries.{read-step, read-end}
 use Rattle.note.specs.declared.NormalizedByte.{NormalizedByte}
 use Rattle.pattern.specs.declared.Place.{Place}
 use Rattle.pattern.specs.declared.Entry.{Entry}
 use Rattle.pattern.specs.declared.Entry.the-variants.{At, Broken}
-use Rattle.pattern.specs.Entries.{positionAt, placeAt, entryAt, listed, isPlace, nextOf, placesFrom, placesOf, wholeFrom, whole}
+use Rattle.pattern.specs.Entries.{positionAt, placeAt, entryAt, ofEntry, entrySize, placesOf, wholeList, mostPlaces, MostPlaces}
 
 -- whether an entry is a place: its command is known, and its operands are not cut
 abbrev test : List ℕ → ℕ → Bool
@@ -77,60 +79,58 @@ entry-drop l i h =
     (λ k. rw (le-leb (i + 5) (length l) k, le-leb 5 (length (drop i l)) (omega arith)))
     (λ k. rw (lt-leb (i + 5) (length l) k, lt-leb 5 (length (drop i l)) (omega arith))))
 
-places-skip : (k : ℕ) (l : List ℕ) → placesFrom k l ≡ placesOf (drop k l)
-unfolding placesFrom placesOf
-places-skip zero l = refl
-places-skip (suc k) [] = refl
-places-skip (suc k) (b ∷ l) = places-skip k l
+-- what the entry at the front of a list puts before what is read after it
+abbrev before : List ℕ → List Place → List Place
+before l ps = ofEntry [] (λ p next. p ∷ ps) (entryAt l 0)
 
-whole-skip : (k : ℕ) (l : List ℕ) → wholeFrom k l ≡ whole (drop k l)
-unfolding wholeFrom whole
-whole-skip zero l = refl
-whole-skip (suc k) [] = refl
-whole-skip (suc k) (b ∷ l) = whole-skip k l
+abbrev too : List ℕ → Bool → Bool
+too l rest = ofEntry false (λ p next. rest) (entryAt l 0)
 
-places-cons : (l : List ℕ) (i : ℕ) → i < length l → placesOf (drop i l) ≡ listed (entryAt (drop i l) 0) (placesFrom (nextOf (entryAt (drop i l) 0) - 1) (drop (suc i) l))
-unfolding placesFrom placesOf
-places-cons l i h = ap placesOf (drop-cons l i 0 h) ∙ rw (← drop-cons l i 0 h)
+-- from an entry on that is k bytes away
+abbrev placesFrom : ℕ → List ℕ → List Place
+placesFrom k l = readFrom entrySize before [] k l
 
-whole-cons : (l : List ℕ) (i : ℕ) → i < length l → whole (drop i l) ≡ (isPlace (entryAt (drop i l) 0) && wholeFrom (nextOf (entryAt (drop i l) 0) - 1) (drop (suc i) l))
-unfolding wholeFrom whole
-whole-cons l i h = ap whole (drop-cons l i 0 h) ∙ rw (← drop-cons l i 0 h)
+abbrev wholeFrom : ℕ → List ℕ → Bool
+wholeFrom k l = readFrom entrySize too true k l
 
 -- THE STEP: from the place at i to where the next one begins
 pub record Stepped (l : List ℕ) (i : ℕ) (p : Place) (next : ℕ) : Type 0 where
   pub onward : i < next
   pub most : next ≤ length l
   pub places : placesOf (drop i l) ≡ p ∷ placesOf (drop next l)
-  pub wholes : whole (drop i l) ≡ whole (drop next l)
+  pub wholes : wholeList (drop i l) ≡ wholeList (drop next l)
 
 pub entry-step : (l : List ℕ) {i : ℕ} {e : Entry} {p : Place} {next : ℕ} → e ≡ entryAt l i → e ≡ At p next → Stepped l i p next
+unfolding placesOf wholeList
 entry-step l {i} {e} {p} {next} is at =
     let known = told l i (sym is ∙ at) in
-    let long : i + 5 ≤ length l = leb-true _ _ (and-elim-right (eqb (getD l i 0) 11 || eqb (getD l i 0) 12) _ (known .0)) in
+    let room : i + 5 ≤ length l = leb-true _ _ (and-elim-right (eqb (getD l i 0) 11 || eqb (getD l i 0) 12) _ (known .0)) in
     let first : entryAt (drop i l) 0 ≡ At p 5 = entry-drop l i (omega arith) ∙ rw (known .0, known .1 .0) in
-    let far : suc i + 4 ≡ next = omega (arith, known .1 .1) in
+    let long : entrySize (drop i l) ≡ 5 = rw first in
+    let ends : next ≡ i + 5 = omega (arith, known .1 .1) in
     record {
       onward = omega (arith, known .1 .1);
       most = omega (arith, known .1 .1);
-      places = places-cons l i (omega arith) ∙ rw (first, places-skip 4 (drop (suc i) l), drop-drop 4 (suc i) l, far);
-      wholes = whole-cons l i (omega arith) ∙ rw (first, whole-skip 4 (drop (suc i) l), drop-drop 4 (suc i) l, far);
+      places = read-step entrySize before [] l (omega arith) long (omega arith) ends ∙ rw first;
+      wholes = read-step entrySize too true l (omega arith) long (omega arith) ends ∙ rw first;
     }
 
 -- an entry that is no place
-pub entry-broken : (l : List ℕ) {i : ℕ} {e : Entry} → i < length l → e ≡ entryAt l i → e ≡ Broken → (placesOf (drop i l) ≡ []) × (whole (drop i l) ≡ false)
+pub entry-broken : (l : List ℕ) {i : ℕ} {e : Entry} → i < length l → e ≡ entryAt l i → e ≡ Broken → (placesOf (drop i l) ≡ []) × (wholeList (drop i l) ≡ false)
+unfolding placesOf wholeList
 entry-broken l {i} h is at =
     let first : entryAt (drop i l) 0 ≡ Broken = entry-drop l i h ∙ rw (told-broken l i (sym is ∙ at)) in
-    (places-cons l i h ∙ rw first, whole-cons l i h ∙ rw first)
+    let one : entrySize (drop i l) ≡ 1 = rw first in
+    (read-step entrySize before [] l h one (omega arith) refl ∙ rw first, read-step entrySize too true l h one (omega arith) refl ∙ rw first)
 
 -- the list's end
-pub entries-end : (l : List ℕ) {i : ℕ} → length l ≤ i → (placesOf (drop i l) ≡ []) × (whole (drop i l) ≡ true)
-unfolding placesFrom placesOf wholeFrom whole
-entries-end l h = (rw (drop-of-length-le l h), rw (drop-of-length-le l h))
+pub entries-end : (l : List ℕ) {i : ℕ} → length l ≤ i → (placesOf (drop i l) ≡ []) × (wholeList (drop i l) ≡ true)
+unfolding placesOf wholeList
+entries-end l h = (read-end entrySize before [] l h, read-end entrySize too true l h)
 
 -- each place has five bytes
 places-few : (k : ℕ) (l : List ℕ) → 5 * length (placesFrom k l) ≤ length l - k
-unfolding placesFrom entryAt
+unfolding readFrom entryAt
 places-few k [] = omega arith
 places-few zero (x ∷ l) =
     true-or-false (test (x ∷ l) 0)
@@ -138,13 +138,13 @@ places-few zero (x ∷ l) =
     (λ f. rw f (omega arith))
 places-few (suc k) (x ∷ l) = omega (arith, places-few k l)
 
-pub places-most : (l : List ℕ) → length (placesOf l) ≤ length l / 5
-unfolding placesOf
-places-most l = omega (arith, places-few 0 l)
+pub places-most : (l : List ℕ) {n : ℕ} → n ≡ mostPlaces l → length (placesOf l) ≤ n
+unfolding placesOf mostPlaces
+places-most l is = omega (arith, places-few 0 l)
 
 -- A LIST WITHOUT A BROKEN ENTRY has five bytes for each place, and its places stand by index
 whole-size : (k : ℕ) (l : List ℕ) → wholeFrom k l ≡ true → k ≤ length l → 5 * length (placesFrom k l) + k ≡ length l
-unfolding placesFrom wholeFrom entryAt
+unfolding readFrom entryAt
 whole-size k [] w h = omega arith
 whole-size zero (x ∷ l) w h =
     true-or-false (test (x ∷ l) 0)
@@ -154,28 +154,32 @@ whole-size zero (x ∷ l) w h =
     (λ f. clash false (rw f at w) refl)
 whole-size (suc k) (x ∷ l) w h = omega (arith, whole-size k l w (omega arith))
 
-whole-count : (l : List ℕ) → whole l ≡ true → 5 * length (placesOf l) ≡ length l
-unfolding placesOf whole
+whole-count : (l : List ℕ) → wholeList l ≡ true → 5 * length (placesOf l) ≡ length l
+unfolding placesOf wholeList
 whole-count l w = omega (arith, whole-size 0 l w (omega arith))
 
-pub places-exact : (l : List ℕ) → whole l ≡ true → length (placesOf l) ≡ length l / 5
-places-exact l w = omega (arith, whole-count l w)
+pub places-exact : (l : List ℕ) {n : ℕ} → n ≡ mostPlaces l → wholeList l ≡ true → length (placesOf l) ≡ n
+unfolding mostPlaces
+places-exact l is w = omega (arith, whole-count l w)
+
+pub most-places : MostPlaces
+most-places l = (places-most l refl, places-exact l refl)
 
 broken-at : (l : List ℕ) (i : ℕ) → test l i ≡ false → entryAt l i ≡ Broken
 unfolding entryAt
 broken-at l i f = rw f
 
-whole-step : (l : List ℕ) (i : ℕ) → i < length l → whole (drop i l) ≡ true → Stepped l i (placeAt l i) (i + 5)
+whole-step : (l : List ℕ) (i : ℕ) → i < length l → wholeList (drop i l) ≡ true → Stepped l i (placeAt l i) (i + 5)
 whole-step l i h w =
     true-or-false (test l i)
     (λ t. entry-step l refl (entry-known l i (leb-true (i + 5) (length l) (and-elim-right (eqb (getD l i 0) 11 || eqb (getD l i 0) 12) _ t)) (and-elim-left _ (leb (i + 5) (length l)) t)))
-    (λ f. clash (whole (drop i l)) w (entry-broken l h refl (broken-at l i f) .1))
+    (λ f. clash (wholeList (drop i l)) w (entry-broken l h refl (broken-at l i f) .1))
 
 record Indexed (l : List ℕ) (k : ℕ) : Type 0 where
   places : drop k (placesOf l) ≡ placesOf (drop (5 * k) l)
-  unbroken : whole (drop (5 * k) l) ≡ true
+  unbroken : wholeList (drop (5 * k) l) ≡ true
 
-indexed : (l : List ℕ) → whole l ≡ true → (k : ℕ) → k ≤ length (placesOf l) → Indexed l k
+indexed : (l : List ℕ) → wholeList l ≡ true → (k : ℕ) → k ≤ length (placesOf l) → Indexed l k
 indexed l w zero h = record { places = refl; unbroken = w }
 indexed l w (suc k) h =
     let so-far : Indexed l k = indexed l w k (omega arith) in
@@ -187,7 +191,7 @@ indexed l w (suc k) h =
       unbroken = rw far at (sym (st .wholes) ∙ so-far .unbroken);
     }
 
-module _ (l : List ℕ) (w : whole l ≡ true) (k : ℕ) (h : k < length (placesOf l)) where
+module _ (l : List ℕ) (w : wholeList l ≡ true) (k : ℕ) (h : k < length (placesOf l)) where
   pub place-inside : 5 * k + 5 ≤ length l
   place-inside = omega (arith, whole-count l w)
 

@@ -1,4 +1,4 @@
--- Laws of blocks of places: where each byte of a block can stand beside the others, and its ends stand on boundaries, its 16 places fit one behind the other.
+-- Laws of blocks of places: where each byte of a block can be beside the others, and its ends are on boundaries, its 16 places fit one after the other.
 use Prim.Native.Nat.{ℕ, zero, suc, _+_, _-_, _*_, _%_, _≤_, _<_}
 use mathlib.Core.Path.{_≡_, _∙_, ap, refl, sym}
 use mathlib.Core.Bool.{Bool, true, false, _&&_, _||_, not}
@@ -7,9 +7,10 @@ use mathlib.Core.List.{List}
 use native.Mathlib.Omega.{arith}
 use lib.Dec.{leb, ltb, eqb}
 use lib.ListN.{length, getD}
-use borrow.Author.Tests.{le-leb, lt-leb, lt-ltb, le-ltb, eq-eqb, ne-eqb, eqb-true, leb-true, not-false}
+use borrow.Author.Tests.{le-leb, lt-leb, lt-ltb, le-ltb, eq-eqb, ne-eqb, eqb-true, leb-true, not-true, not-false}
 use Rattle.buffers.specs.Every.{everyBelow}
-use Rattle.buffers.proofs.Cases.{le-or-lt}
+use Rattle.buffers.proofs.Booleans.{and-false-l, and-false-r}
+use Rattle.buffers.proofs.Cases.{le-or-lt, true-or-false}
 use Rattle.buffers.proofs.Every.{every-suc, every-at}
 use Rattle.utf8.specs.Formed.{boundary}
 use Rattle.buffers.specs.Splice.{part}
@@ -17,10 +18,11 @@ use Rattle.numbers.specs.LittleEndian.{valueOf}
 use Rattle.numbers.proofs.LittleEndian.{value-at}
 use Rattle.pattern.specs.declared.Place.{Place}
 use Rattle.pattern.specs.declared.Entry.{Entry}
-use Rattle.pattern.specs.declared.Entry.the-variants.{At}
+use Rattle.pattern.specs.declared.Entry.the-variants.{At, Broken}
+use Rattle.pattern.specs.declared.blocks.Judged.{Judged}
 use Rattle.pattern.specs.Entries.{positionAt, placeAt, entryAt}
-use Rattle.pattern.specs.Places.{fitsAt, coversFrom, covers}
-use Rattle.pattern.specs.Placed.{placedAt, placedByte, endStands, Covering}
+use Rattle.pattern.specs.Places.{fitsAt}
+use Rattle.pattern.specs.Placed.{placedAt, placedByte, endStands, blockFits, blocksEnd, judgedTo, judgedAfter, judgedBlocks, Covering, JudgedCover}
 use Rattle.pattern.proofs.Entries.{told, entry-known}
 use Rattle.pattern.proofs.Places.{fits-on, none-covered, next-covered}
 
@@ -76,7 +78,7 @@ placed-by j before a b c d small little = rw (by-bytes a b c d small little)
 
 -- a block that was judged
 pub record Fits (text l : List ℕ) (i : ℕ) : Type 0 where
-  pub behind : 5 ≤ i
+  pub after-five : 5 ≤ i
   pub inside : i + 80 ≤ length l
   pub placed-all : everyBelow 80 (placedByte l i) ≡ true
   pub stand-all : everyBelow 16 (endStands text l i) ≡ true
@@ -91,28 +93,28 @@ module _ {text l : List ℕ} {i : ℕ} (f : Fits text l i) where
     place-known : (eqb (getD l (i + 5 * k) 0) 11 || eqb (getD l (i + 5 * k) 0) 12) ≡ true
     place-known =
         let q : ℕ = i - 3 + 5 * k in
-        let is : q + 3 ≡ i + 5 * k = omega (arith, f .behind) in
+        let is : q + 3 ≡ i + 5 * k = omega (arith, f .after-five) in
         rw (← is) (command-known (5 * k) _ _ _ _ _ (at-byte (5 * k) q (omega arith) refl) (omega arith))
 
     start-same : positionAt l (i + 5 * k + 1) .0 ≡ positionAt l (i + 5 * k - 2) .0
     unfolding positionAt
     start-same =
         let q : ℕ = i + 5 * k - 2 in
-        let low : getD l (q + 3) 0 ≡ getD l q 0 = start-low (5 * k + 1) _ _ _ _ _ (at-byte (5 * k + 1) q (omega arith) (omega (arith, f .behind))) (omega arith) in
-        let high : getD l (q + 1 + 3) 0 ≡ getD l (q + 1) 0 = start-high (5 * k + 2) _ _ _ _ _ (at-byte (5 * k + 2) (q + 1) (omega arith) (omega (arith, f .behind))) (omega arith) in
-        let first : q + 3 ≡ i + 5 * k + 1 = omega (arith, f .behind) in
-        let second : q + 1 + 3 ≡ i + 5 * k + 1 + 1 = omega (arith, f .behind) in
+        let low : getD l (q + 3) 0 ≡ getD l q 0 = start-low (5 * k + 1) _ _ _ _ _ (at-byte (5 * k + 1) q (omega arith) (omega (arith, f .after-five))) (omega arith) in
+        let high : getD l (q + 1 + 3) 0 ≡ getD l (q + 1) 0 = start-high (5 * k + 2) _ _ _ _ _ (at-byte (5 * k + 2) (q + 1) (omega arith) (omega (arith, f .after-five))) (omega arith) in
+        let first : q + 3 ≡ i + 5 * k + 1 = omega (arith, f .after-five) in
+        let second : q + 1 + 3 ≡ i + 5 * k + 1 + 1 = omega (arith, f .after-five) in
         omega (arith, value-at l (i + 5 * k + 1), value-at l q, rw first at low, rw second at high)
 
     start-most : positionAt l (i + 5 * k + 1) .0 ≤ positionAt l (i + 5 * k + 3) .0
     unfolding positionAt
     start-most =
         let q : ℕ = i + 5 * k - 2 in
-        let first : q + 3 ≡ i + 5 * k + 1 = omega (arith, f .behind) in
-        let second : q + 4 ≡ i + 5 * k + 1 + 1 = omega (arith, f .behind) in
-        let third : q + 5 ≡ i + 5 * k + 3 = omega (arith, f .behind) in
-        let fourth : q + 6 ≡ i + 5 * k + 3 + 1 = omega (arith, f .behind) in
-        let below = ordered (5 * k + 1) _ _ _ _ _ (at-byte (5 * k + 1) q (omega arith) (omega (arith, f .behind))) (omega arith) in
+        let first : q + 3 ≡ i + 5 * k + 1 = omega (arith, f .after-five) in
+        let second : q + 4 ≡ i + 5 * k + 1 + 1 = omega (arith, f .after-five) in
+        let third : q + 5 ≡ i + 5 * k + 3 = omega (arith, f .after-five) in
+        let fourth : q + 6 ≡ i + 5 * k + 3 + 1 = omega (arith, f .after-five) in
+        let below = ordered (5 * k + 1) _ _ _ _ _ (at-byte (5 * k + 1) q (omega arith) (omega (arith, f .after-five))) (omega arith) in
         omega (arith, value-at l (i + 5 * k + 1), value-at l (i + 5 * k + 3), rw (first, second, third, fourth) at below)
 
     place-fits : true ≡ fitsAt text (positionAt l (i + 5 * k - 2) .0) (placeAt l (i + 5 * k))
@@ -149,21 +151,111 @@ pub stands-by : (text l : List ℕ) (i k : ℕ) {end : ℕ} {t : Bool} → end �
 unfolding endStands positionAt
 stands-by text l i k is e = e ∙ rw is
 
--- the first place, a block behind others, and the end so far
-pub first-judged : {text l : List ℕ} {entry : Entry} {p : Place} {next : ℕ} {t : Bool} → entry ≡ entryAt l 0 → entry ≡ At p next → t ≡ fitsAt text 0 p → not t ≡ false → (5 ≤ next) × Covering text l (positionAt l (next - 2) .0) next
+-- THE JUDGED BLOCKS: all before them is covered, block by block
+blocks-cover : (text l : List ℕ) (n i : ℕ) → 5 ≤ i → Covering text l (positionAt l (i - 2) .0) i → Covering text l (positionAt l (blocksEnd text l n i - 2) .0) (blocksEnd text l n i)
+unfolding blocksEnd blockFits
+blocks-cover text l zero i low j = j
+blocks-cover text l (suc n) i low j =
+    true-or-false (leb (i + 83) (length l) && (everyBelow 80 (placedByte l i) && everyBelow 16 (endStands text l i)))
+    (λ t.
+    let long : i + 83 ≤ length l = leb-true _ _ (and-elim-left _ (everyBelow 80 (placedByte l i) && everyBelow 16 (endStands text l i)) t) in
+    let fits : (everyBelow 80 (placedByte l i) && everyBelow 16 (endStands text l i)) ≡ true = and-elim-right (leb (i + 83) (length l)) _ t in
+    let block : Fits text l i = record {
+      after-five = low;
+      inside = omega arith;
+      placed-all = and-elim-left _ (everyBelow 16 (endStands text l i)) fits;
+      stand-all = and-elim-right (everyBelow 80 (placedByte l i)) _ fits;
+    } in
+    rw t (blocks-cover text l n (i + 80) (omega arith) (block-covered block j)))
+    (λ f. rw f j)
+
+first-cover : (text l : List ℕ) {p : Place} {next : ℕ} → entryAt l 0 ≡ At p next → fitsAt text 0 p ≡ true → (5 ≤ next) × Covering text l (positionAt l (next - 2) .0) next
 unfolding placeAt
-first-judged {text} {l} {p = p} {next = next} is there fit e =
-    let known = told l 0 (sym is ∙ there) in
+first-cover text l {p} {next} there fit =
+    let known = told l 0 there in
     let end : p .end ≡ positionAt l 3 = ap (λ (x : Place). x .end) (sym (known .1 .0)) in
     let far : next - 2 ≡ 3 = omega (arith, known .1 .1) in
-    (omega (arith, known .1 .1), rw (far, ← end) (next-covered (none-covered text l) is there fit e))
+    (omega (arith, known .1 .1), rw (far, ← end) (next-covered (none-covered text l) refl there (sym fit) refl))
 
-pub block-judged : {text l : List ℕ} {i : ℕ} {r t : Bool} → (5 ≤ i) × Covering text l (positionAt l (i - 2) .0) i → i + 83 ≤ length l → r ≡ everyBelow 80 (placedByte l i) → not r ≡ false → t ≡ everyBelow 16 (endStands text l i) → not t ≡ false → (5 ≤ i + 80) × Covering text l (positionAt l (i + 80 - 2) .0) (i + 80)
-block-judged {r = r} {t = t} inv long is e stand g = (
-  omega (arith, inv .0),
-  block-covered (record { behind = inv .0; inside = omega arith; placed-all = sym is ∙ not-false r e; stand-all = sym stand ∙ not-false t g }) (inv .1),
-)
+after-cover : (text l : List ℕ) (e : Entry) → entryAt l 0 ≡ e → Covering text l (judgedAfter text l e .at) (judgedAfter text l e .next)
+unfolding judgedAfter judgedTo
+after-cover text l (At p next) is =
+    true-or-false (fitsAt text 0 p)
+    (λ t. let first = first-cover text l is t in rw t (blocks-cover text l (length l) next (first .0) (first .1)))
+    (λ f. rw f (none-covered text l))
+after-cover text l Broken is = none-covered text l
 
-pub judged-to : {text l : List ℕ} {i at : ℕ} → Covering text l (positionAt l (i - 2) .0) i → at ≡ valueOf (part l (i - 2) (i - 2 + 2)) → Covering text l at i
-unfolding positionAt
-judged-to c is = rw is c
+pub judged-cover : JudgedCover
+unfolding judgedBlocks
+judged-cover text l = after-cover text l (entryAt l 0) refl
+
+pub judged-covered : {text l : List ℕ} {r : Judged} → r ≡ judgedBlocks text l → Covering text l (r .at) (r .next)
+judged-covered {text} {l} is = rw is (judged-cover text l)
+
+-- the loop: from i on the blocks end where they do from the second place on
+pub record Going (text l : List ℕ) (second i : ℕ) : Type 0 where
+  pub after-five : 5 ≤ i
+  pub most : i ≤ length l
+  pub left : ℕ
+  pub enough : length l ≤ i + left
+  pub so-far : blocksEnd text l (length l) second ≡ blocksEnd text l left i
+
+module _ (text l : List ℕ) {e : Entry} (is : e ≡ entryAt l 0) where
+  pub broken-first : e ≡ Broken → record { at = 0; next = 0 } ≡ judgedBlocks text l
+  unfolding judgedBlocks judgedAfter
+  broken-first b = rw (sym is ∙ b)
+
+  module _ {p : Place} {next : ℕ} {t : Bool} (there : e ≡ At p next) (fit : t ≡ fitsAt text 0 p) where
+    pub unfit-first : not t ≡ true → record { at = 0; next = 0 } ≡ judgedBlocks text l
+    unfolding judgedBlocks judgedAfter
+    unfit-first bad = rw (sym is ∙ there, ← fit, not-true t bad)
+
+    pub first-going : not t ≡ false → Going text l next next
+    first-going ok =
+        let first = first-cover text l (sym is ∙ there) (sym fit ∙ not-false t ok) in
+        record { after-five = first .0; most = first .1 .most; left = length l; enough = omega arith; so-far = refl }
+
+    pub blocks-judged : {i : ℕ} {r : Judged} → not t ≡ false → blocksEnd text l (length l) next ≡ i → r ≡ judgedTo l i → r ≡ judgedBlocks text l
+    unfolding judgedBlocks judgedAfter
+    blocks-judged ok ends judged = rw (sym is ∙ there, ← fit, not-false t ok, ends) judged
+
+module _ {text l : List ℕ} {second i : ℕ} (g : Going text l second i) where
+  next-block : (n : ℕ) → g .left ≡ n → i + 83 ≤ length l → blockFits text l i ≡ true → Going text l second (i + 80)
+  unfolding blocksEnd
+  next-block zero none long fits = absurd (omega (arith, g .enough))
+  next-block (suc n) some long fits =
+      record {
+        after-five = omega arith;
+        most = omega arith;
+        left = n;
+        enough = omega (arith, g .enough);
+        so-far = g .so-far ∙ rw (some, le-leb (i + 83) (length l) long, fits);
+      }
+
+  pub block-going : {t : Bool} → i + 83 ≤ length l → t ≡ blockFits text l i → not t ≡ false → Going text l second (i + 80)
+  block-going {t} long is ok = next-block (g .left) refl long (sym is ∙ not-false t ok)
+
+  block-ends : (n : ℕ) → (leb (i + 83) (length l) && blockFits text l i) ≡ false → blocksEnd text l n i ≡ i
+  unfolding blocksEnd
+  block-ends zero f = refl
+  block-ends (suc n) f = rw f
+
+  pub block-unfit : {t : Bool} → t ≡ blockFits text l i → not t ≡ true → blocksEnd text l (length l) second ≡ i
+  block-unfit {t} is bad = g .so-far ∙ block-ends (g .left) (and-false-r (leb (i + 83) (length l)) _ (sym is ∙ not-true t bad))
+
+  pub blocks-short : length l < i + 83 → blocksEnd text l (length l) second ≡ i
+  blocks-short short = g .so-far ∙ block-ends (g .left) (and-false-l _ (blockFits text l i) (lt-leb (i + 83) (length l) short))
+
+-- the places before i, and the tests of a block, as they are read
+pub to-judged : (l : List ℕ) {i v : ℕ} → v ≡ valueOf (part l (i - 2) (i - 2 + 2)) → record { at = v; next = i } ≡ judgedTo l i
+unfolding judgedTo positionAt
+to-judged l is = rw is
+
+module _ (text l : List ℕ) (i : ℕ) {r : Bool} (is : r ≡ everyBelow 80 (placedByte l i)) where
+  pub unplaced : not r ≡ true → false ≡ blockFits text l i
+  unfolding blockFits
+  unplaced bad = sym (and-false-l _ (everyBelow 16 (endStands text l i)) (sym is ∙ not-true r bad))
+
+  pub by-ends : {t : Bool} → not r ≡ false → t ≡ everyBelow 16 (endStands text l i) → t ≡ blockFits text l i
+  unfolding blockFits
+  by-ends ok stand = stand ∙ rw (sym is ∙ not-false r ok)

@@ -14,12 +14,12 @@ use Rattle.utf8.proofs.Boundaries.{boundary-most}
 use Rattle.pattern.specs.declared.Place.{Place}
 use Rattle.pattern.specs.declared.Entry.{Entry}
 use Rattle.pattern.specs.declared.Entry.the-variants.{At, Broken}
-use Rattle.pattern.specs.Entries.{entryAt, placesOf, whole}
+use Rattle.pattern.specs.Entries.{entryAt, placesOf, wholeList}
 use Rattle.pattern.specs.Places.{fitsAt, coversFrom, covers}
 use Rattle.pattern.specs.Placed.{Covering}
 use Rattle.pattern.proofs.Entries.{Stepped, entry-step, entry-broken, entries-end}
 
--- a place that fits behind one that ended at `at`
+-- a place that fits after one that ended at `at`
 pub record Span (text : List ℕ) (at : ℕ) (p : Place) : Type 0 where
   pub from : p .start .0 ≡ at
   pub onward : at ≤ p .end .0
@@ -39,7 +39,7 @@ fits-span text at p e =
       stands = b;
     }
 
--- the first place, and the others behind it
+-- the first place, and the others after it
 module _ (text : List ℕ) (at : ℕ) (p : Place) (ps : List Place) (e : coversFrom text at (p ∷ ps) ≡ true) where
   pub covers-first : fitsAt text at p ≡ true
   unfolding coversFrom
@@ -63,13 +63,13 @@ covers-length s t at (p ∷ ps) c d = covers-length s t (p .end .0) ps (covers-r
 
 -- a covering list
 module _ (text l : List ℕ) (e : covers text l ≡ true) where
-  pub covers-whole : whole l ≡ true
+  pub covers-whole : wholeList l ≡ true
   unfolding covers
   covers-whole = and-elim-left _ (coversFrom text 0 (placesOf l)) e
 
   pub covers-places : coversFrom text 0 (placesOf l) ≡ true
   unfolding covers
-  covers-places = and-elim-right (whole l) _ e
+  covers-places = and-elim-right (wholeList l) _ e
 
 -- the tests of the code
 module _ (text : List ℕ) (at : ℕ) (p : Place) where
@@ -91,7 +91,7 @@ none-covered text l = record { same = refl; most = omega arith }
 
 module _ {text l : List ℕ} {at i : ℕ} (j : Covering text l at i) where
   module _ {entry : Entry} {p : Place} {next : ℕ} {t : Bool} (is : entry ≡ entryAt l i) (there : entry ≡ At p next) (fit : t ≡ fitsAt text at p) where
-    step : covers text l ≡ (whole (drop next l) && (t && coversFrom text (p .end .0) (placesOf (drop next l))))
+    step : covers text l ≡ (wholeList (drop next l) && (t && coversFrom text (p .end .0) (placesOf (drop next l))))
     unfolding coversFrom
     step = let s : Stepped l i p next = entry-step l is there in j .same ∙ rw (s .places, s .wholes, ← fit)
 
@@ -99,10 +99,10 @@ module _ {text l : List ℕ} {at i : ℕ} (j : Covering text l at i) where
     next-covered e = record { same = step ∙ rw (not-false t e); most = entry-step l is there .most }
 
     pub not-covered : not t ≡ true → false ≡ covers text l
-    not-covered e = sym (step ∙ and-false-r (whole (drop next l)) _ (and-false-l t _ (not-true t e)))
+    not-covered e = sym (step ∙ and-false-r (wholeList (drop next l)) _ (and-false-l t _ (not-true t e)))
 
   pub broken-covered : {entry : Entry} → i < length l → entry ≡ entryAt l i → entry ≡ Broken → false ≡ covers text l
-  broken-covered h is e = sym (j .same ∙ and-false-l (whole (drop i l)) _ (entry-broken l h is e .1))
+  broken-covered h is e = sym (j .same ∙ and-false-l (wholeList (drop i l)) _ (entry-broken l h is e .1))
 
   pub all-covered : length l ≤ i → eqb at (length text) ≡ covers text l
   unfolding coversFrom

@@ -7,7 +7,7 @@ use lib.Dec.{ltb}
 use lib.ListN.{length}
 use Rattle.numbers.specs.LittleEndian.{littleEndian}
 use Rattle.pattern.specs.declared.Place.{Place}
-use Rattle.pattern.specs.Entries.{placesOf, whole}
+use Rattle.pattern.specs.Entries.{placesOf, wholeList}
 
 unfoldable pub placeBytes : Place → List ℕ
 placeBytes p = cond (p .matched) 12 11 ∷ (littleEndian 2 (p .start .0) ++ littleEndian 2 (p .end .0))
@@ -27,7 +27,7 @@ allWritable (p ∷ ps) = writable p && allWritable ps
 -- CLAIM: reading gives back what was written.
 abbrev pub ReadBack : Type 0
 ReadBack = (ps : List Place) → allWritable ps ≡ true
-    → (placesOf (encodedPlaces ps) ≡ ps) × (whole (encodedPlaces ps) ≡ true)
+    → (placesOf (encodedPlaces ps) ≡ ps) × (wholeList (encodedPlaces ps) ≡ true)
 
 -- bytes that are enough for so many places
 unfoldable pub roomFor : ℕ → ℕ

@@ -1,12 +1,13 @@
--- RULES 9: what stands at a byte of a match list. A place is a command, 11 unmatched or 12 matched, and its start and
--- its end in two
--- little-endian bytes each.
-use Prim.Native.Nat.{ℕ, zero, suc, _+_, _-_}
+-- RULES 9: what is at a byte of a match list. A place is a command, 11 unmatched or 12 matched, and its start and its
+-- end in two little-endian bytes each.
+use Prim.Native.Nat.{ℕ, _+_, _/_, _≤_}
+use mathlib.Core.Path.{_≡_}
 use mathlib.Core.Bool.{Bool, true, false, cond, _&&_, _||_}
 use mathlib.Core.List.{List, [], _∷_}
 use lib.Dec.{leb, eqb}
 use lib.ListN.{length, getD}
 use Rattle.buffers.specs.Splice.{part}
+use Rattle.numbers.specs.Entries.{readFrom}
 use Rattle.numbers.specs.LittleEndian.{valueOf}
 use Rattle.note.specs.declared.NormalizedByte.{NormalizedByte}
 use Rattle.pattern.specs.declared.Place.{Place}
@@ -25,32 +26,28 @@ unfoldable pub entryAt : List ℕ → ℕ → Entry
 entryAt l i =
     cond ((eqb (getD l i 0) 11 || eqb (getD l i 0) 12) && leb (i + 5) (length l)) (At (placeAt l i) (i + 5)) Broken
 
-abbrev pub isPlace : Entry → Bool
-isPlace (At p next) = true
-isPlace Broken = false
+-- what is said of an entry: of a place and where the next one begins, or of none
+abbrev pub ofEntry : {A : Type 0} → A → (Place → ℕ → A) → Entry → A
+ofEntry none some (At p next) = some p next
+ofEntry none some Broken = none
 
-abbrev pub nextOf : Entry → ℕ
-nextOf (At p next) = next
-nextOf Broken = 1
+-- how many bytes the entry at the front of a list has; after one that is no place nothing is read
+abbrev pub entrySize : List ℕ → ℕ
+entrySize l = ofEntry 1 (λ p next. next) (entryAt l 0)
 
-abbrev pub listed : Entry → List Place → List Place
-listed (At p next) ps = p ∷ ps
-listed Broken ps = []
-
--- the places of a list, up to an entry that is none, from an entry on that is k bytes away
-unfoldable pub placesFrom : ℕ → List ℕ → List Place
-placesFrom k [] = []
-placesFrom zero (b ∷ l) = listed (entryAt (b ∷ l) 0) (placesFrom (nextOf (entryAt (b ∷ l) 0) - 1) l)
-placesFrom (suc k) (b ∷ l) = placesFrom k l
-
+-- the places of a list, up to an entry that is none
 unfoldable pub placesOf : List ℕ → List Place
-placesOf l = placesFrom 0 l
+placesOf l = readFrom entrySize (λ l ps. ofEntry [] (λ p next. p ∷ ps) (entryAt l 0)) [] 0 l
 
 -- whether each entry of a list is a place
-unfoldable pub wholeFrom : ℕ → List ℕ → Bool
-wholeFrom k [] = true
-wholeFrom zero (b ∷ l) = isPlace (entryAt (b ∷ l) 0) && wholeFrom (nextOf (entryAt (b ∷ l) 0) - 1) l
-wholeFrom (suc k) (b ∷ l) = wholeFrom k l
+unfoldable pub wholeList : List ℕ → Bool
+wholeList l = readFrom entrySize (λ l rest. ofEntry false (λ p next. rest) (entryAt l 0)) true 0 l
 
-unfoldable pub whole : List ℕ → Bool
-whole l = wholeFrom 0 l
+-- as many places as bytes are enough for
+unfoldable pub mostPlaces : List ℕ → ℕ
+mostPlaces l = length l / 5
+
+-- CLAIM: a list has no more places, and just as many where each entry is a place.
+abbrev pub MostPlaces : Type 0
+MostPlaces = (l : List ℕ) → (length (placesOf l) ≤ mostPlaces l)
+    × (wholeList l ≡ true → length (placesOf l) ≡ mostPlaces l)

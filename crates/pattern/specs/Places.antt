@@ -9,7 +9,7 @@ use Rattle.note.specs.declared.Refusal.{Refusal}
 use Rattle.note.specs.declared.Refusal.the-variants.{BadMatches}
 use Rattle.note.specs.Refusals.{none, meets}
 use Rattle.pattern.specs.declared.Place.{Place}
-use Rattle.pattern.specs.Entries.{placesOf, whole}
+use Rattle.pattern.specs.Entries.{placesOf, wholeList}
 
 -- a place that begins at `at`, where the last one ended, and ends there or later, on a boundary of the text
 unfoldable pub fitsAt : List ℕ → ℕ → Place → Bool
@@ -22,7 +22,7 @@ coversFrom text at (p ∷ ps) = fitsAt text at p && coversFrom text (p .end .0) 
 
 -- the places of a list cover the text from its beginning, and the list has nothing else
 unfoldable pub covers : List ℕ → List ℕ → Bool
-covers text l = whole l && coversFrom text 0 (placesOf l)
+covers text l = wholeList l && coversFrom text 0 (placesOf l)
 
 -- which refusal condition a list meets beside a text
 abbrev pub listFaults : List ℕ → List ℕ → Refusal → Bool

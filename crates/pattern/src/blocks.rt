@@ -5,11 +5,10 @@ use crate::fits_at;
 use numbers::little_endian::get_u16_le;
 use utf8::is_char_boundary;
 ghost use mathlib.Core.Path.{_≡_};
-ghost use mathlib.Core.Bool.{true, _&&_};
 ghost use Prim.Native.Nat.{_+_, _≤_};
 ghost use lib.ListN.{length};
 ghost use Rattle.buffers.specs.Every.{everyBelow};
-ghost use Rattle.pattern.specs.Placed.{Covering, endStands, placedByte, placedAt};
+ghost use Rattle.pattern.specs.Placed.{blockFits, endStands, judgedBlocks, judgedTo, placedAt, placedByte};
 
 // Where the judged places of a list end, in the text and in the list.
 pub struct Judged {
@@ -17,8 +16,8 @@ pub struct Judged {
     pub next: usize,
 }
 
-// Whether `a` can be the byte `j` of a block of places, behind the byte three before it and in front of b, c, d: a
-// command is known, a start is the end before it, and is not above its own end.
+// Whether `a` can be the byte `j` of a block of places, three bytes after `before` and followed by b, c, d: a command
+// is known, a start is the end before it, and is not above its own end.
 fn placed_at(j: usize, before: u8, a: u8, b: u8, c: u8, d: u8) -> bool
     ensures { λ r. ⌜ r ≡ placedAt j before a b c d ⌝ }
 {
@@ -67,10 +66,32 @@ fn all_stand(text: &[u8], list: &[u8], i: usize) -> bool
     ok
 }
 
-// The first place of the list and the blocks behind it, as far as all of it fits; from there on a list is judged place
+// Whether the 16 places from `i` on fit after those before them.
+fn block_fits(text: &[u8], list: &[u8], i: usize) -> bool
+    requires { ⌜ (3 ≤ i) × (i + 83 ≤ length (now list)) ⌝ }
+    ensures { λ r. ⌜ r ≡ blockFits (now (text .entry)) (now (list .entry)) i ⌝ }
+{
+    if !all_placed(list, i) {
+        return false;
+    }
+    all_stand(text, list, i)
+}
+
+// The places before `i`, of which the last ends where its two bytes say.
+fn judged_to(list: &[u8], i: usize) -> Judged
+    requires { ⌜ (2 ≤ i) × (i ≤ length (now list)) ⌝ }
+    ensures { λ r. ⌜ r ≡ judgedTo (now (list .entry)) i ⌝ }
+{
+    Judged {
+        at: get_u16_le(list, i - 2) as usize,
+        next: i,
+    }
+}
+
+// The first place of the list and the blocks after it, as far as all of it fits; from there on a list is judged place
 // by place.
 pub fn judge_blocks(text: &[u8], list: &[u8]) -> Judged
-    ensures { λ r. ⌜ Covering (now (text .entry)) (now (list .entry)) (r .at) (r .next) ⌝ }
+    ensures { λ r. ⌜ r ≡ judgedBlocks (now (text .entry)) (now (list .entry)) ⌝ }
 {
     let none = Judged { at: 0, next: 0 };
     let Entry::At(first, second) = entry_at(list, 0) else {
@@ -81,16 +102,10 @@ pub fn judge_blocks(text: &[u8], list: &[u8]) -> Judged
     }
     let mut i = second;
     while i + 83 <= list.len() {
-        if !all_placed(list, i) {
-            break;
-        }
-        if !all_stand(text, list, i) {
-            break;
+        if !block_fits(text, list, i) {
+            return judged_to(list, i);
         }
         i += 80;
     }
-    Judged {
-        at: get_u16_le(list, i - 2) as usize,
-        next: i,
-    }
+    judged_to(list, i)
 }

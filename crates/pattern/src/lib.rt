@@ -12,7 +12,7 @@ ghost use mathlib.Core.Bool.{true};
 ghost use mathlib.Core.List.{_∷_};
 ghost use Prim.Native.Nat.{_+_, _≤_, _<_};
 ghost use lib.ListN.{length, drop};
-ghost use Rattle.pattern.specs.Entries.{entryAt, placesOf, positionAt, whole};
+ghost use Rattle.pattern.specs.Entries.{entryAt, mostPlaces, placesOf, positionAt, wholeList};
 ghost use Rattle.pattern.specs.Places.{covers, fitsAt};
 
 // A place of the cleaned text, and whether the pattern matched there (Rust: `(Offsets, bool)`).
@@ -71,15 +71,14 @@ pub fn entry_at(list: &[u8], i: usize) -> Entry
 
 // As many places as a list can have at most, and has where no entry is broken.
 pub fn most_places(list: &[u8]) -> usize
-    ensures { λ r. ⌜ (length (placesOf (now (list .entry))) ≤ r)
-        × (whole (now (list .entry)) ≡ true → length (placesOf (now (list .entry))) ≡ r) ⌝ }
+    ensures { λ r. ⌜ r ≡ mostPlaces (now (list .entry)) ⌝ }
 {
     list.len() / 5
 }
 
 // The place `k` of a list. An inner function: the list was judged before.
 pub fn place_at(list: &[u8], k: usize) -> Place
-    requires { ⌜ (whole (now list) ≡ true) × (k < length (placesOf (now list))) ⌝ }
+    requires { ⌜ (wholeList (now list) ≡ true) × (k < length (placesOf (now list))) ⌝ }
     ensures { λ r. ⌜ drop k (placesOf (now (list .entry))) ≡ r ∷ drop (k + 1) (placesOf (now (list .entry))) ⌝ }
 {
     let i = 5 * k;
@@ -93,7 +92,7 @@ pub fn place_at(list: &[u8], k: usize) -> Place
     }
 }
 
-// Whether a place can stand behind one that ended at `at`.
+// Whether a place can follow one that ended at `at`.
 fn fits_at(text: &[u8], at: usize, place: Place) -> bool
     ensures { λ r. ⌜ r ≡ fitsAt (now (text .entry)) at place ⌝ }
 {

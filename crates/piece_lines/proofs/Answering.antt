@@ -1,7 +1,7 @@
--- Laws of `printed`: what is printed of an input, told from what is headSize of it.
+-- Laws of `printed`: what is printed of an input, told from what is kept of it.
 use Prim.Native.Nat.{ℕ, _+_, _≤_, _<_}
 use mathlib.Core.Path.{_≡_, _∙_, ap, refl, sym}
-use mathlib.Core.Bool.{true, false, cond, not, _||_, or-true}
+use mathlib.Core.Bool.{true, false, not, or-true}
 use mathlib.Core.List.{List, _++_}
 use native.Mathlib.Omega.{arith}
 use lib.Dec.{leb}
@@ -20,8 +20,8 @@ use Rattle.behaviors.specs.declared.SplitDelimiterBehavior.{SplitDelimiterBehav
 use Rattle.behaviors.specs.declared.SplitDelimiterBehavior.the-variants.{Removed, Isolated, MergedWithPrevious, MergedWithNext, Contiguous}
 use Rattle.piece_lines.specs.declared.input.Seen.{Seen}
 use Rattle.piece_lines.specs.declared.input.Seen.the-variants.{Literal, Whole}
-use Rattle.piece_lines.specs.Input.{literalOf, behaviorLine, noteOf, shaped, longest, linesVerdict}
-use Rattle.piece_lines.specs.Printing.{behaviorOfDigit, most, refusedWord, refusal, said, told, printed}
+use Rattle.piece_lines.specs.Input.{literalOf, behaviorLine, noteOf, shaped, longest}
+use Rattle.piece_lines.specs.Printing.{behaviorOfDigit, most, refusedWord, refusal, told, printed}
 use Rattle.piece_lines.specs.Scanning.{counted, scanned, headSize, HeadKept}
 use Rattle.piece_lines.proofs.Scanning.{isWhole, whole-seen, shape-seen}
 use Rattle.piece_lines.proofs.Placed.{head-long, literal-there, note-there}
@@ -125,7 +125,7 @@ module _ {input head : List ℕ} {seen : Seen} (k : HeadKept input head seen) wh
           let third : part head (n + 3) (n + 3 + m) ≡ noteOf input = note-there k is-shaped few less {from = n + 3} {to = n + 3 + m} (omega (arith, literal-length)) (omega (arith, note-length)) in
           rw (first, third, e, digit-seen) shaped-printed
 
--- an input that is headSize, whole or up to its first bytes
+-- an input that is kept, whole or up to its first bytes
 pub kept-whole : (input : List ℕ) {seen : Seen} → length input ≤ headSize → seen ≡ scanned (Literal 0) input → HeadKept input input seen
 kept-whole input short is = record { head-is = sym (take-all headSize input short); seen-is = is }
 

@@ -1,14 +1,10 @@
--- Laws of the pieces of places that cover a text: each lies between boundaries, they have no more bytes than the text,
--- and there are no more of them than places.
+-- Laws of the pieces of places that cover a text: each lies between boundaries, and they have no more bytes than the text.
 use Prim.Native.Nat.{ℕ, zero, suc, _+_, _-_, _≤_, _<_}
-use mathlib.Core.Path.{_≡_, _∙_, ap, refl, sym}
-use mathlib.Core.Bool.{Bool, true, false, cond, _&&_}
-use mathlib.Core.List.{List, [], _∷_, _++_, map}
-use mathlib.Mathlib.Data.Bool.Basic.{and-elim-left, and-elim-right}
+use mathlib.Core.Path.{_≡_, _∙_, sym}
+use mathlib.Core.Bool.{true}
+use mathlib.Core.List.{List, [], _∷_}
 use native.Mathlib.Omega.{arith}
-use lib.Dec.{leb, eqb}
-use lib.ListN.{length, getD, length-append, length-map}
-use borrow.Author.Tests.{eqb-true, leb-true}
+use lib.ListN.{length, getD, length-map}
 use Rattle.buffers.proofs.Cases.{true-or-false}
 use Rattle.utf8.specs.Formed.{boundary}
 use Rattle.utf8.proofs.Boundaries.{boundary-most}
@@ -18,8 +14,9 @@ use Rattle.behaviors.specs.declared.SplitDelimiterBehavior.{SplitDelimiterBehav
 use Rattle.behaviors.specs.declared.EmptyPieces.{EmptyPieces}
 use Rattle.behaviors.specs.Splits.{isPiece, remaining, splits, pieces}
 use Rattle.behaviors.specs.Joining.{startsOf, endsOf}
-use Rattle.behaviors.specs.Runs.{extendedRun, over, pieceIf, runsFrom, totalLength}
-use Rattle.behaviors.proofs.Gathered.{splits-cover, runs-pieces, pieces-none}
+use Rattle.behaviors.specs.Runs.{totalLength}
+use Rattle.pattern.proofs.Places.{Span, fits-span, covers-first, covers-rest, covers-none}
+use Rattle.behaviors.proofs.Gathered.{splits-cover}
 use Rattle.piece_lines.specs.Spans.{LineSpans}
 
 -- a place of a text, from boundary to boundary
@@ -34,33 +31,16 @@ AllLie text (p ∷ ps) = Lies text p × AllLie text ps
 
 -- the first of places that cover a text
 fits-lies : (text : List ℕ) (at : ℕ) (p : Place) → boundary text at ≡ true → fitsAt text at p ≡ true → (p .start .0 ≡ at) × Lies text p
-unfolding fitsAt
 fits-lies text at p h e =
-    let both = and-elim-left (eqb (p .start .0) at && leb (p .start .0) (p .end .0)) _ e in
-    let here : p .start .0 ≡ at = eqb-true _ _ (and-elim-left (eqb (p .start .0) at) _ both) in (
-      here,
-      record {
-        from = rw here h;
-        to = and-elim-right (eqb (p .start .0) at && leb (p .start .0) (p .end .0)) _ e;
-        onward = leb-true _ _ (and-elim-right (eqb (p .start .0) at) _ both);
-      },
-    )
-
-covers-cons : (text : List ℕ) (at : ℕ) (p : Place) (ps : List Place) → coversFrom text at (p ∷ ps) ≡ true → (fitsAt text at p ≡ true) × (coversFrom text (p .end .0) ps ≡ true)
-unfolding coversFrom
-covers-cons text at p ps e = (and-elim-left (fitsAt text at p) _ e, and-elim-right (fitsAt text at p) _ e)
-
-covers-nil : (text : List ℕ) (at : ℕ) → coversFrom text at [] ≡ true → at ≡ length text
-unfolding coversFrom
-covers-nil text at e = eqb-true at (length text) e
+    let s : Span text at p = fits-span text at p e in
+    (s .from, record { from = rw (s .from) h; to = s .stands; onward = omega (arith, s .from, s .onward) })
 
 pub remaining-lie : (text : List ℕ) (at : ℕ) (empty : EmptyPieces) (ps : List Place) → boundary text at ≡ true → coversFrom text at ps ≡ true → AllLie text (remaining empty ps) × (at + totalLength (remaining empty ps) ≤ length text)
 unfolding remaining totalLength
-remaining-lie text at empty [] h e = (tt, omega (arith, covers-nil text at e))
+remaining-lie text at empty [] h e = (tt, omega (arith, covers-none text at e))
 remaining-lie text at empty (p ∷ ps) h e =
-    let parts = covers-cons text at p ps e in
-    let first = fits-lies text at p h (parts .0) in
-    let rest = remaining-lie text (p .end .0) empty ps (first .1 .to) (parts .1) in
+    let first = fits-lies text at p h (covers-first text at p ps e) in
+    let rest = remaining-lie text (p .end .0) empty ps (first .1 .to) (covers-rest text at p ps e) in
     true-or-false (isPiece empty p)
     (λ t. rw t ((first .1, rest .0), omega (arith, first .0, first .1 .onward, rest .1)))
     (λ f. rw f (rest .0, omega (arith, first .0, first .1 .onward, rest .1)))
@@ -72,24 +52,6 @@ module _ (text : List ℕ) (behavior : SplitDelimiterBehavior) (empty : EmptyPie
   pieces-lie =
       let both = remaining-lie text 0 empty (splits behavior ps) h (splits-cover text 0 behavior ps e) in
       (both .0, omega (arith, both .1))
-
--- how many there are
-given-few : (met : Bool) (run : Place) → length (pieceIf met run) ≤ 1
-unfolding pieceIf
-given-few true run = omega arith
-given-few false run = omega arith
-
-runs-few : (behavior : SplitDelimiterBehavior) (empty : EmptyPieces) (run : Place) (ps : List Place) → length (runsFrom behavior empty run ps) ≤ length ps + 1
-unfolding runsFrom
-runs-few behavior empty run [] = given-few _ run
-runs-few behavior empty run (p ∷ ps) =
-    let next = extendedRun behavior run p in
-    let first = pieceIf (over behavior empty run p) run in
-    omega (arith, length-append first (runsFrom behavior empty next ps), given-few (over behavior empty run p) run, runs-few behavior empty next ps)
-
-pub pieces-few : (behavior : SplitDelimiterBehavior) (empty : EmptyPieces) (ps : List Place) → length (pieces behavior empty ps) ≤ length ps
-pieces-few behavior empty [] = rw (pieces-none behavior empty) (omega arith)
-pieces-few behavior empty (p ∷ ps) = rw (← runs-pieces behavior empty p ps) (omega (arith, runs-few behavior empty p ps))
 
 -- in two columns
 ordered : (text : List ℕ) (ps : List Place) → AllLie text ps → (i : ℕ) → i < length (startsOf ps) → getD (startsOf ps) i 0 ≤ getD (endsOf ps) i 0

@@ -1,18 +1,18 @@
 -- Laws of the lines of pieces of a starting note: their transcript numbers are their cleaned ones.
-use Prim.Native.Nat.{ℕ, _+_, _-_, _≤_, _<_}
-use mathlib.Core.Path.{_≡_, _∙_, ap, refl, sym}
+use Prim.Native.Nat.{ℕ, _+_, _-_, _≤_}
+use mathlib.Core.Path.{_≡_, _∙_, refl}
 use mathlib.Core.Bool.{true}
-use mathlib.Core.List.{List, [], _∷_, _++_}
+use mathlib.Core.List.{List, [], _∷_}
 use native.Mathlib.Omega.{arith}
 use lib.ListN.{length, length-take, length-drop, length-map}
 use Rattle.buffers.specs.Splice.{part}
 use Rattle.utf8.specs.Formed.{wellFormed, boundary}
-use Rattle.utf8.proofs.Boundaries.{boundary-most}
+use Rattle.utf8.proofs.Boundaries.{boundary-most, between-char-range}
 use Rattle.note.specs.Notes.{limit}
 use Rattle.note.specs.Starting.{starting}
 use Rattle.note.proofs.Starting.{starting-accepted}
 use Rattle.convert.specs.declared.Converted.the-variants.{Found}
-use Rattle.convert.specs.Converting.{inOriginal, inNormalized, converted, convertOffsets}
+use Rattle.convert.specs.Converting.{inOriginal, inNormalized, convertOffsets}
 use Rattle.convert.proofs.Answered.{answered-accepted, converted-missing}
 use Rattle.convert.proofs.Itself.{converted-itself}
 use Rattle.convert.specs.Converting.{asOriginal, asNormalized}
@@ -20,9 +20,9 @@ use Rattle.slice.specs.Slicing.{sliceOf, sliced, sliceNote}
 use Rattle.slice.specs.Bytes.{normalizedSlice}
 use Rattle.pattern.specs.declared.Place.{Place}
 use Rattle.behaviors.specs.Joining.{startsOf, endsOf}
-use Rattle.piece_lines.specs.Spans.{line, spanLines, piecesWord, spansText}
+use Rattle.piece_lines.specs.Spans.{line, spanLines, spansText}
 use Rattle.piece_lines.specs.Printing.{pieceLine, pieceLines, piecesText}
-use Rattle.piece_lines.proofs.Fitting.{Lies, AllLie}
+use Rattle.piece_lines.proofs.Fitting.{AllLie}
 
 -- a piece between boundaries of a fresh text
 module _ (s : List ℕ) (p : wellFormed s ≡ true) (short : length s ≤ limit) (a b : ℕ) (at-a : boundary s a ≡ true) (at-b : boundary s b ≡ true) (on : a ≤ b) where
@@ -30,7 +30,7 @@ module _ (s : List ℕ) (p : wellFormed s ≡ true) (short : length s ≤ limit)
   unfolding asOriginal convertOffsets
   original-itself =
       answered-accepted limit (starting s) _ refl (starting-accepted limit s p short) (converted-missing _ _ (inNormalized a b))
-      ∙ converted-itself limit s p short (inNormalized a b) at-a at-b on
+      ∙ converted-itself limit s p short (inNormalized a b) (between-char-range s a b on at-a at-b)
 
   part-long : length (part s a b) ≡ b - a
   part-long = simp (length-take, length-drop) (omega (arith, boundary-most s b at-b))

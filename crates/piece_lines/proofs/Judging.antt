@@ -2,7 +2,6 @@
 -- list that it writes cuts the note.
 use Prim.Native.Nat.{ℕ, _+_, _*_, _≤_}
 use mathlib.Core.Path.{_≡_, _∙_, ap, refl, sym}
-use mathlib.Core.Bool.{true}
 use mathlib.Core.List.{List}
 use native.Mathlib.Nat.{div-le-self}
 use native.Mathlib.Omega.{arith}
@@ -16,7 +15,7 @@ use Rattle.note.specs.declared.Refusal.{Refusal}
 use Rattle.note.specs.declared.Verdict.{Verdict}
 use Rattle.note.specs.declared.Verdict.the-variants.{Accepted, Refused as Rejected}
 use Rattle.note.specs.Notes.{limit}
-use Rattle.note.specs.Refusals.{verdict}
+use Rattle.note.specs.Refusals.{verdict, unlessRefused}
 use Rattle.note.specs.Faults.{textFaults}
 use Rattle.note.specs.Starting.{starting}
 use Rattle.note.proofs.Faults.{text-short, text-formed}
@@ -27,7 +26,7 @@ use Rattle.pattern.proofs.Encoding.{room-enough}
 use Rattle.find.specs.declared.Matches.{Matches}
 use Rattle.find.specs.declared.Matches.the-variants.{Written, Refused}
 use Rattle.find.specs.Matching.{foundPlaces}
-use Rattle.find.specs.Finding.{foundBytes, findFaults, matchesOf, Finding}
+use Rattle.find.specs.Finding.{foundBytes, findFaults, Finding}
 use Rattle.find.proofs.FoundPlaces.{found-cases, found-covers, found-read, count-longest}
 use Rattle.behaviors.specs.declared.SplitDelimiterBehavior.{SplitDelimiterBehavior}
 use Rattle.behaviors.specs.declared.EmptyPieces.the-variants.{Kept}
@@ -36,11 +35,11 @@ use Rattle.piece_lines.specs.Input.{longest, linesVerdict}
 use Rattle.piece_lines.specs.Spans.{Cuttable}
 use Rattle.piece_lines.specs.Printing.{refusal, told, piecesText}
 
-matches-refused : (v : Verdict) (n : ℕ) (k : Refusal) → Refused k ≡ matchesOf v n → v ≡ Rejected k
+matches-refused : (v : Verdict) (n : ℕ) (k : Refusal) → Refused k ≡ unlessRefused Refused v (Written n) → v ≡ Rejected k
 matches-refused Accepted n k e = let z : _≡_ {A = ℕ} 0 1 = cc in absurd (omega arith)
 matches-refused (Rejected j) n k e = cc
 
-matches-written : (v : Verdict) (n m : ℕ) → Written m ≡ matchesOf v n → (v ≡ Accepted) × (m ≡ n)
+matches-written : (v : Verdict) (n m : ℕ) → Written m ≡ unlessRefused Refused v (Written n) → (v ≡ Accepted) × (m ≡ n)
 matches-written Accepted n m e = (refl, cc)
 matches-written (Rejected j) n m e = let z : _≡_ {A = ℕ} 0 1 = cc in absurd (omega arith)
 

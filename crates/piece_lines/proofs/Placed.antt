@@ -1,5 +1,5 @@
--- Laws of `shaped`: where the lines of an input stand in what is headSize of it.
-use Prim.Native.Nat.{ℕ, suc, _+_, _-_, _≤_, _<_}
+-- Laws of `shaped`: where the lines of an input are in what is kept of it.
+use Prim.Native.Nat.{ℕ, _+_, _-_, _≤_}
 use mathlib.Core.Path.{_≡_, _∙_, ap, refl, sym}
 use mathlib.Core.Bool.{true, _&&_}
 use mathlib.Core.List.{List, [], _∷_, _++_, append-assoc}
@@ -11,7 +11,7 @@ use lib.Seq.{take-all, take-at, drop-at}
 use Rattle.buffers.specs.Splice.{part}
 use borrow.Author.Tests.{eqb-true}
 use Rattle.piece_lines.specs.declared.input.Seen.{Seen}
-use Rattle.piece_lines.specs.Input.{runs, joinedLines, lineAt, literalOf, noteOf, behaviorLine, choice, shaped, longest}
+use Rattle.piece_lines.specs.Input.{runs, joinedLines, lineAt, literalOf, noteOf, behaviorLine, shaped, longest}
 use Rattle.piece_lines.specs.Scanning.{headSize, HeadKept}
 use Rattle.piece_lines.proofs.Runs.{runs-joined}
 
@@ -69,7 +69,7 @@ third-part a c e {from = from} {to = to} is f g =
     let size : to - from ≡ length c = omega arith in
     rw (← is, size, append-assoc a c e, drop-at a (c ++ e) from (sym f)) (take-at c e (length c) refl)
 
--- three lines that are not too long are headSize whole
+-- three lines that are not too long are kept whole
 module _ {input head : List ℕ} {seen : Seen} (k : HeadKept input head seen) (t : shaped input ≡ true) (short : length (literalOf input) ≤ longest) (brief : length (noteOf input) ≤ longest) where
   all : front input ++ noteOf input ++ (0x0A ∷ []) ≡ input
   all = input-is input t

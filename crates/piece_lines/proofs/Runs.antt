@@ -1,8 +1,8 @@
--- Laws of `runs` and `joinedLines`: the first run apart, one byte more, and the runs joinedLines again.
+-- Laws of `runs` and `joinedLines`: the first run apart, one byte more, and the runs joined again.
 use Prim.Native.Nat.{ℕ}
-use mathlib.Core.Path.{_≡_, _∙_, ap, refl, sym}
-use mathlib.Core.Bool.{true, false, cond}
-use mathlib.Core.List.{List, [], _∷_, _++_}
+use mathlib.Core.Path.{_≡_, _∙_, ap, refl}
+use mathlib.Core.Bool.{true, false}
+use mathlib.Core.List.{List, [], _∷_}
 use lib.Dec.{eqb}
 use borrow.Author.Tests.{eqb-true}
 use Rattle.buffers.proofs.Cases.{true-or-false}

@@ -1,8 +1,8 @@
 -- Laws of `seenAfter` and `scanned`: bytes that come in chunks, and what the scan of a whole input says of its runs.
-use Prim.Native.Nat.{ℕ, suc, _+_, _≤_, _<_, min}
+use Prim.Native.Nat.{ℕ, suc, _+_, _≤_, _<_}
 use mathlib.Core.Path.{_≡_, _∙_, ap, refl, sym}
 use mathlib.Core.Bool.{Bool, true, false, cond, _&&_, and-false}
-use mathlib.Core.List.{List, [], _∷_, _++_}
+use mathlib.Core.List.{List, [], _∷_}
 use native.Mathlib.Nat.{add-zero}
 use native.Mathlib.Numerals.{add-one}
 use native.Mathlib.Omega.{arith}
@@ -15,7 +15,7 @@ use Rattle.piece_lines.specs.declared.input.Seen.{Seen}
 use Rattle.piece_lines.specs.declared.input.Seen.the-variants.{Literal, Behavior, Chosen, Note, Whole, Shapeless}
 use Rattle.piece_lines.specs.Input.{runs, lineAt, literalOf, behaviorLine, noteOf, choice, shaped}
 use Rattle.piece_lines.specs.Scanning.{counted, seenAfter, scanned, ScannedOn}
-use Rattle.piece_lines.proofs.Runs.{First, first-run, runs-end, runs-more}
+use Rattle.piece_lines.proofs.Runs.{first-run}
 
 pub scanned-on : ScannedOn
 unfolding scanned
@@ -200,7 +200,7 @@ abbrev Told : Bool → List (List ℕ) → Seen → Type 0
 Told true ls s = s ≡ Whole (counted (length (getD ls 0 []))) (getD (getD ls 1 []) 0 0) (counted (length (getD ls 2 [])))
 Told false ls s = isWhole s ≡ false
 
--- another number of LFs, bytes behind the last, more or fewer than one byte in the second line
+-- another number of LFs, bytes after the last, more or fewer than one byte in the second line
 module _ (ls : List (List ℕ)) (s : Seen) (other : isWhole s ≡ false) where
   untold : threeLines ls ≡ false → Told (threeLines ls) ls s
   untold e = rw e other

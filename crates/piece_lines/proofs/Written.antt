@@ -1,5 +1,5 @@
--- Laws of the lines that are laid: a word and a number, a line, and the lines of spans one behind the other.
-use Prim.Native.Nat.{ℕ, suc, _+_, _-_, _≤_, _<_}
+-- Laws of the lines that are laid: a word and a number, a line, and the lines of spans one after the other.
+use Prim.Native.Nat.{ℕ, _+_, _-_, _≤_, _<_}
 use mathlib.Core.Path.{_≡_, _∙_, ap, refl, sym}
 use mathlib.Core.List.{List, [], _∷_, _++_}
 use native.Mathlib.Numerals.{add-one}
@@ -15,7 +15,7 @@ use Rattle.piece_lines.specs.Spans.{line, spanLines, piecesWord, spansTe
 pub copied : {p d d₁ : List ℕ} {at : ℕ} → d₁ ≡ splice d at p → Laid p d at (at + length p) d₁
 copied e = record { reach = refl; holds = e }
 
--- a word, and a number behind it
+-- a word, and a number after it
 module _ (word : List ℕ) (n : ℕ) (d : List ℕ) (room : length (word ++ field n 0x0A) ≤ length d) where
   pub word-room : 0 + length word ≤ length d
   word-room = omega (arith, length-append word (field n 0x0A))

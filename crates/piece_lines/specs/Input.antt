@@ -1,7 +1,7 @@
 -- RULES 14.4: the input of `pieces`, three lines, and when it is refused.
-use Prim.Native.Nat.{ℕ, _+_, _≤_}
+use Prim.Native.Nat.{ℕ, _+_}
 use mathlib.Core.Path.{_≡_}
-use mathlib.Core.Bool.{Bool, true, cond, _&&_}
+use mathlib.Core.Bool.{Bool, cond, _&&_}
 use mathlib.Core.List.{List, [], _∷_, _++_}
 use lib.Dec.{leb, eqb}
 use lib.ListN.{length, getD}
@@ -14,7 +14,7 @@ abbrev pub inFront : ℕ → List (List ℕ) → List (List ℕ)
 inFront b [] = (b ∷ []) ∷ []
 inFront b (l ∷ ls) = (b ∷ l) ∷ ls
 
--- the runs of bytes before, between and behind the LFs
+-- the runs of bytes before, between and after the LFs
 unfoldable pub runs : List ℕ → List (List ℕ)
 runs [] = [] ∷ []
 runs (b ∷ bs) = cond (eqb b 0x0A) ([] ∷ runs bs) (inFront b (runs bs))
@@ -46,7 +46,7 @@ noteOf = lineAt 2
 abbrev pub choice : ℕ → Bool
 choice b = leb 0x31 b && leb b 0x35
 
--- three LFs and nothing behind the third; the second line is one digit
+-- three LFs and nothing after the third; the second line is one digit
 unfoldable pub shaped : List ℕ → Bool
 shaped input =
     eqb (length (runs input)) 4 && eqb (length (lineAt 3 input)) 0

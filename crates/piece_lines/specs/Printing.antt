@@ -1,6 +1,5 @@
 -- RULES 14.5: what `pieces` prints.
 use Prim.Native.Nat.{ℕ, _+_, _*_, _≤_}
-use mathlib.Core.Path.{_≡_}
 use mathlib.Core.Bool.{cond}
 use mathlib.Core.List.{List, [], _∷_, _++_}
 use lib.Dec.{eqb}
@@ -8,9 +7,7 @@ use lib.ListN.{length, getD}
 use Rattle.numbers.specs.Decimal.{field}
 use Rattle.note.specs.declared.Refusal.{Refusal}
 use Rattle.note.specs.declared.Refusal.the-variants.{BadScript}
-use Rattle.note.specs.declared.Verdict.{Verdict}
-use Rattle.note.specs.declared.Verdict.the-variants.{Accepted, Refused}
-use Rattle.note.specs.Refusals.{numberOf}
+use Rattle.note.specs.Refusals.{numberOf, unlessRefused}
 use Rattle.note.specs.Notes.{Note}
 use Rattle.note.specs.Starting.{starting}
 use Rattle.slice.specs.Bytes.{normalizedSlice}
@@ -57,15 +54,12 @@ pieceLines n (p ∷ ps) = pieceLine (normalizedSlice n (p .start .0) (p .end .0)
 unfoldable pub piecesText : Note → List Place → List ℕ
 piecesText n ps = piecesWord ++ field (length ps) 0x0A ++ pieceLines n ps
 
-abbrev pub said : Verdict → List ℕ → List ℕ
-said Accepted text = text
-said (Refused k) text = refusal k
-
 -- what is printed of a literal, a behaviour and a note: a refusal, or the pieces of its starting note, empty ones too
 -- (Rust: `NormalizedString::split`)
 unfoldable pub told : List ℕ → SplitDelimiterBehavior → List ℕ → List ℕ
 told literal behavior note =
-    said (linesVerdict literal note) (piecesText (starting note) (pieces behavior Kept (foundPlaces note literal)))
+    unlessRefused refusal (linesVerdict literal note)
+    (piecesText (starting note) (pieces behavior Kept (foundPlaces note literal)))
 
 -- WHAT IS PRINTED of an input
 unfoldable pub printed : List ℕ → List ℕ

@@ -1,4 +1,4 @@
--- The input as it comes in, chunk after chunk: what has to be headSize of all that was read.
+-- The input as it comes in, chunk after chunk: what has to be kept of all that was read.
 use Prim.Native.Nat.{ℕ, _+_, min}
 use mathlib.Core.Path.{_≡_}
 use mathlib.Core.Bool.{cond}
@@ -38,12 +38,12 @@ ScannedOn = (s : Seen) (a b : List ℕ) → scanned s (a ++ b) ≡ scanned (scan
 abbrev pub headSize : ℕ
 headSize = longest + longest + 4
 
--- what is headSize of an input: its first bytes, and what the scan says
+-- what is kept of an input: its first bytes, and what the scan says
 pub record HeadKept (input head : List ℕ) (seen : Seen) : Type 0 where
   pub head-is : head ≡ take headSize input
   pub seen-is : seen ≡ scanned (Literal 0) input
 
--- there is an input of which this is headSize
+-- there is an input of which this is kept
 pub record Keeps (head : List ℕ) (seen : Seen) : Type 0 where
   pub input : List ℕ
   pub is-kept : HeadKept input head seen

@@ -1,5 +1,5 @@
 // The program `pieces` (RULES 14.4 to 14.6) without its reading and writing: what it prints, from what is kept of the
-// input. Inner functions of the programs: the buffer that they are lent has room for any answer, as `out_buffer` has.
+// input. Inner functions of the programs: the buffer passed to them has room for any answer, as `out_buffer` has.
 pub mod input;
 pub mod lines;
 
@@ -33,34 +33,34 @@ ghost use Rattle.piece_lines.specs.Spans.{Cuttable, spansText, LineSpans
 // The most bytes that an input has whose lines are not too long.
 pub const KEPT: usize = 2 * LONGEST + 4;
 
-// Room for the pieces of a note: a place for each match, one before each, and one behind the last.
+// The most pieces of a note: a place for each match, one before each, and one after the last.
 const SPANS: usize = 2 * LONGEST + 1;
 
-// Room for what is printed.
+// The most bytes that are printed.
 const PRINTED: usize = 13 + 13 * SPANS + LONGEST;
 
-// Zeros for what is printed.
+// Room for any answer.
 pub fn out_buffer() -> [u8; PRINTED]
     ensures { λ r. ⌜ most ≡ length r ⌝ }
 {
     [0; PRINTED]
 }
 
-// Zeros for the places of a note.
+// Room for the places of a note.
 fn list_buffer() -> [u8; MAX_PLACE_LEN * SPANS]
     ensures { λ r. ⌜ roomFor (2 * longest + 1) ≡ length r ⌝ }
 {
     [0; MAX_PLACE_LEN * SPANS]
 }
 
-// Zeros for one end of each piece.
+// Room for one end of each piece.
 fn column_buffer() -> [Offset; SPANS]
     ensures { λ r. ⌜ 2 * longest + 1 ≡ length r ⌝ }
 {
     [0; SPANS]
 }
 
-// Zeros for both ends of each piece.
+// Room for both ends of each piece.
 fn span_buffer() -> [u32; SPANS]
     ensures { λ r. ⌜ 2 * longest + 1 ≡ length r ⌝ }
 {

@@ -3,11 +3,10 @@ use buffers::Offset;
 use buffers::copy_bytes;
 use buffers::fill_bytes;
 use numbers::decimals::write_field;
-ghost use mathlib.Core.Path.{_≡_};
 ghost use mathlib.Core.List.{_++_};
 ghost use Prim.Native.Nat.{_+_, _≤_};
 ghost use lib.ListN.{length};
-ghost use Rattle.buffers.specs.Splice.{part, Laid};
+ghost use Rattle.buffers.specs.Splice.{Laid};
 ghost use Rattle.numbers.specs.Decimal.{field};
 ghost use Rattle.piece_lines.specs.Spans.{line, spanLines, LineSpans};
 

@@ -1,4 +1,4 @@
--- Laws of `Behind`: chunk after chunk, and what is headSize of an input that was read so.
+-- Laws of `Behind`: chunk after chunk, and what is kept of an input that was read so.
 use Prim.Native.Nat.{ℕ, _+_, _≤_, _<_}
 use mathlib.Core.Path.{_≡_, _∙_, refl, sym}
 use mathlib.Core.List.{List, [], _++_}
@@ -7,7 +7,7 @@ use lib.ListN.{length, take, length-take}
 use lib.Seq.{take-at, length-take-le}
 use Rattle.piece_lines.specs.declared.input.Seen.{Seen}
 use Rattle.piece_lines.specs.declared.input.Seen.the-variants.{Literal}
-use Rattle.piece_lines.specs.Scanning.{scanned, headSize, HeadKept, Keeps}
+use Rattle.piece_lines.specs.Scanning.{scanned, headSize, Keeps}
 use Rattle.piece_lines.proofs.Scanning.{scanned-on}
 use Rattle.piece_lines.proofs.Answering.{kept-whole}
 use Rattle.pieces_main.specs.declared.Reading.{Reading}

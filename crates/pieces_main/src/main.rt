@@ -23,7 +23,7 @@ enum Reading {
 // Reading ends after so many chunks, which no input has.
 const CHUNKS: u64 = 18446744073709551615;
 
-// Zeros for what is kept of the input.
+// Room for what is kept of the input.
 fn head_buffer() -> [u8; KEPT]
     ensures { λ r. ⌜ headSize ≡ length r ⌝ }
 {

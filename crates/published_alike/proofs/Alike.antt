@@ -12,7 +12,7 @@ use Rattle.buffers.proofs.Same.{same-refl, same-equal}
 use Rattle.note.specs.declared.Refusal.{Refusal}
 use Rattle.note.specs.declared.Verdict.{Verdict}
 use Rattle.note.specs.declared.Verdict.the-variants.{Accepted, Refused as Rejected}
-use Rattle.note.specs.Refusals.{verdict}
+use Rattle.note.specs.Refusals.{verdict, unlessRefused}
 use Rattle.note.specs.Rank.{earlier}
 use Rattle.note.specs.Notes.{Note}
 use Rattle.note.proofs.FirstMet.{accepted-first, accepted-second, earlier-of}
@@ -23,7 +23,7 @@ use Rattle.replace.proofs.Faults.{Taken, accepted-taken, taken-length}
 use Rattle.replace.proofs.Blanking.{agree-replaced, replaced-agree}
 use Rattle.published_alike.specs.declared.Comparison.the-variants.{Compared, Refused}
 use Rattle.published_alike.specs.Walk.{textAlike, columnAlike, allAlike, BothCovered}
-use Rattle.published_alike.specs.Alike.{samePublished, compareFaults, comparison, alikeAnswer, PublishedAlike, Readings}
+use Rattle.published_alike.specs.Alike.{samePublished, compareFaults, alikeAnswer, PublishedAlike, Readings}
 use Rattle.published_alike.proofs.Walk.{every-same, text-each, column-each}
 
 -- the test is equality
@@ -53,16 +53,16 @@ module _ (most : ℕ) (n m : Note) (list content : List ℕ) (ok : verdict (comp
   walk-same : allAlike (n .normalized) (n .starts) (n .ends) (m .normalized) (m .starts) (m .ends) (length content) (placesOf list) ≡ samePublished (replaced (placesOf list) content n) (replaced (placesOf list) content m)
   unfolding allAlike samePublished replaced
   walk-same =
-      let wide : ℕ = length content in
+      let contentLen : ℕ = length content in
       let tn : Taken n list = first-taken in
       let tm : Taken m list = second-taken in
       rw (
-        every-same (n .normalized) (n .normalized) (m .normalized) (λ end. content) (λ end. content) wide (textAlike (n .normalized) (m .normalized)) refl (taken-length n m list first-taken second-taken) (λ e. refl) (λ e. refl)
+        every-same (n .normalized) (n .normalized) (m .normalized) (λ end. content) (λ end. content) contentLen (textAlike (n .normalized) (m .normalized)) refl (taken-length n m list first-taken second-taken) (λ e. refl) (λ e. refl)
             (text-each content (n .normalized) (m .normalized)) 0 (placesOf list) (tn .covered),
-        every-same (n .normalized) (n .starts) (m .starts) (carried wide (n .starts)) (carried wide (m .starts)) wide (columnAlike wide (n .starts) (m .starts)) (tn .one-start) (tm .one-start ∙ (taken-length n m list first-taken second-taken))
-            (λ e. length-replicate wide _) (λ e. length-replicate wide _) (column-each wide (n .starts) (m .starts)) 0 (placesOf list) (tn .covered),
-        every-same (n .normalized) (n .ends) (m .ends) (carried wide (n .ends)) (carried wide (m .ends)) wide (columnAlike wide (n .ends) (m .ends)) (tn .one-end) (tm .one-end ∙ (taken-length n m list first-taken second-taken))
-            (λ e. length-replicate wide _) (λ e. length-replicate wide _) (column-each wide (n .ends) (m .ends)) 0 (placesOf list) (tn .covered),
+        every-same (n .normalized) (n .starts) (m .starts) (carried contentLen (n .starts)) (carried contentLen (m .starts)) contentLen (columnAlike contentLen (n .starts) (m .starts)) (tn .one-start) (tm .one-start ∙ (taken-length n m list first-taken second-taken))
+            (λ e. length-replicate contentLen _) (λ e. length-replicate contentLen _) (column-each contentLen (n .starts) (m .starts)) 0 (placesOf list) (tn .covered),
+        every-same (n .normalized) (n .ends) (m .ends) (carried contentLen (n .ends)) (carried contentLen (m .ends)) contentLen (columnAlike contentLen (n .ends) (m .ends)) (tn .one-end) (tm .one-end ∙ (taken-length n m list first-taken second-taken))
+            (λ e. length-replicate contentLen _) (λ e. length-replicate contentLen _) (column-each contentLen (n .ends) (m .ends)) 0 (placesOf list) (tn .covered),
       )
 
   coverings : BothCovered (n .normalized) (m .normalized) list × (BothCovered (n .starts) (m .starts) list × BothCovered (n .ends) (m .ends) list)
@@ -74,7 +74,7 @@ module _ (most : ℕ) (n m : Note) (list content : List ℕ) (ok : verdict (comp
     ),
   )
 
-compared-both : (v : Verdict) (t u : Bool) → comparison v t ≡ Compared u → (v ≡ Accepted) × (t ≡ u)
+compared-both : (v : Verdict) (t u : Bool) → unlessRefused Refused v (Compared t) ≡ Compared u → (v ≡ Accepted) × (t ≡ u)
 compared-both (Rejected k) t u e = let z : _≡_ {A = ℕ} 0 1 = cc in absurd (omega arith)
 compared-both Accepted t u e = (refl, cc)
 

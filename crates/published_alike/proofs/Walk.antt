@@ -1,7 +1,7 @@
 -- Laws of the walk: what each test says, how far the walk has come, and that it compares what is published.
 use Prim.Native.Nat.{ℕ, _≤_, _<_}
 use mathlib.Core.Path.{_≡_, _∙_, refl, sym}
-use mathlib.Core.Bool.{Bool, true, false, not, _&&_, _||_}
+use mathlib.Core.Bool.{Bool, true, false, not, _&&_}
 use mathlib.Core.List.{List, [], _∷_}
 use native.Mathlib.Omega.{arith}
 use lib.Dec.{eqb}
@@ -49,17 +49,17 @@ module _ (xs ys : List ℕ) (p : Place) where
   unfolding textAlike
   text-unmatched u e = rw u e
 
-  pub column-empty : (wide : ℕ) → p .matched ≡ true → wide ≡ 0 → true ≡ columnAlike wide xs ys p
+  pub column-empty : (contentLen : ℕ) → p .matched ≡ true → contentLen ≡ 0 → true ≡ columnAlike contentLen xs ys p
   unfolding columnAlike
-  column-empty wide t z = rw (t, z)
+  column-empty contentLen t z = rw (t, z)
 
-  pub column-matched : (wide : ℕ) {a b : ℕ} → p .matched ≡ true → (wide ≡ 0 → ⊥) → a ≡ beforeEnd xs (p .end .0) → b ≡ beforeEnd ys (p .end .0) → eqb a b ≡ columnAlike wide xs ys p
+  pub column-matched : (contentLen : ℕ) {a b : ℕ} → p .matched ≡ true → (contentLen ≡ 0 → ⊥) → a ≡ beforeEnd xs (p .end .0) → b ≡ beforeEnd ys (p .end .0) → eqb a b ≡ columnAlike contentLen xs ys p
   unfolding columnAlike
-  column-matched wide t some ea eb = rw (t, ne-eqb wide 0 some, ea, eb)
+  column-matched contentLen t some ea eb = rw (t, ne-eqb contentLen 0 some, ea, eb)
 
-  pub column-unmatched : (wide : ℕ) {r : Bool} → p .matched ≡ false → r ≡ samePart xs ys p → r ≡ columnAlike wide xs ys p
+  pub column-unmatched : (contentLen : ℕ) {r : Bool} → p .matched ≡ false → r ≡ samePart xs ys p → r ≡ columnAlike contentLen xs ys p
   unfolding columnAlike
-  column-unmatched wide u e = rw u e
+  column-unmatched contentLen u e = rw u e
 
 -- the walk has come to i
 pub record WalkedTo (f : Place → Bool) (xs ys list : List ℕ) (i : ℕ) : Type 0 where
@@ -118,22 +118,22 @@ module _ {f : Place → Bool} {xs ys list : List ℕ} {i : ℕ} (w : WalkedTo f 
   all-walked h = none-left (entries-end list h .0)
 
 -- the three walks, one after the other
-module _ (t xs ys u vs ws : List ℕ) (wide : ℕ) (ps : List Place) where
-  pub unlike-texts : {a : Bool} → a ≡ everyPlace (textAlike t u) ps → not a ≡ true → false ≡ allAlike t xs ys u vs ws wide ps
+module _ (t xs ys u vs ws : List ℕ) (contentLen : ℕ) (ps : List Place) where
+  pub unlike-texts : {a : Bool} → a ≡ everyPlace (textAlike t u) ps → not a ≡ true → false ≡ allAlike t xs ys u vs ws contentLen ps
   unfolding allAlike
   unlike-texts {a} e n = sym (and-false-l _ _ (and-false-l _ _ (sym e ∙ not-true a n)))
 
-  pub unlike-starts : {b : Bool} → b ≡ everyPlace (columnAlike wide xs vs) ps → not b ≡ true → false ≡ allAlike t xs ys u vs ws wide ps
+  pub unlike-starts : {b : Bool} → b ≡ everyPlace (columnAlike contentLen xs vs) ps → not b ≡ true → false ≡ allAlike t xs ys u vs ws contentLen ps
   unfolding allAlike
   unlike-starts {b} e n = sym (and-false-l _ _ (and-false-r (everyPlace (textAlike t u) ps) _ (sym e ∙ not-true b n)))
 
-  pub like-so-far : {a b r : Bool} → a ≡ everyPlace (textAlike t u) ps → not a ≡ false → b ≡ everyPlace (columnAlike wide xs vs) ps → not b ≡ false → r ≡ everyPlace (columnAlike wide ys ws) ps → r ≡ allAlike t xs ys u vs ws wide ps
+  pub like-so-far : {a b r : Bool} → a ≡ everyPlace (textAlike t u) ps → not a ≡ false → b ≡ everyPlace (columnAlike contentLen xs vs) ps → not b ≡ false → r ≡ everyPlace (columnAlike contentLen ys ws) ps → r ≡ allAlike t xs ys u vs ws contentLen ps
   unfolding allAlike
   like-so-far {a} {b} e n f k g = rw (sym e ∙ not-false a n, sym f ∙ not-false b k) g
 
 -- the walk compares what would be laid down
-module _ (text xs ys : List ℕ) (f g : ℕ → List ℕ) (wide : ℕ) (t : Place → Bool) (lx : length xs ≡ length text) (ly : length ys ≡ length text)
-    (wf : (e : ℕ) → length (f e) ≡ wide) (wg : (e : ℕ) → length (g e) ≡ wide) (each : (p : Place) → t p ≡ same (piece f p xs) (piece g p ys)) where
+module _ (text xs ys : List ℕ) (f g : ℕ → List ℕ) (contentLen : ℕ) (t : Place → Bool) (lx : length xs ≡ length text) (ly : length ys ≡ length text)
+    (wf : (e : ℕ) → length (f e) ≡ contentLen) (wg : (e : ℕ) → length (g e) ≡ contentLen) (each : (p : Place) → t p ≡ same (piece f p xs) (piece g p ys)) where
   pub every-same : (at : ℕ) (ps : List Place) → coversFrom text at ps ≡ true → everyPlace t ps ≡ same (laid f ps xs) (laid g ps ys)
   unfolding everyPlace laid same
   every-same at [] c = refl
@@ -141,7 +141,7 @@ module _ (text xs ys : List ℕ) (f g : ℕ → List ℕ) (wide : ℕ) (t : Plac
       let h : fitsAt text at p ≡ true = covers-first text at p ps c in
       rw (each p, every-same (p .end .0) ps (covers-rest text at p ps c))
       (sym (same-append (piece f p xs) (piece g p ys) (laid f ps xs) (laid g ps ys)
-      (length-piece text xs f wide at p lx wf h ∙ sym (length-piece text ys g wide at p ly wg h))))
+      (length-piece text xs f contentLen at p lx wf h ∙ sym (length-piece text ys g contentLen at p ly wg h))))
 
 pub text-each : (content xs ys : List ℕ) (p : Place) → textAlike xs ys p ≡ same (piece (λ end. content) p xs) (piece (λ end. content) p ys)
 text-each content xs ys p =
@@ -149,9 +149,9 @@ text-each content xs ys p =
     (λ t. sym (text-matched xs ys p t) ∙ sym (rw (piece-matched (λ end. content) p xs t, piece-matched (λ end. content) p ys t) (same-refl content)))
     (λ u. sym (text-unmatched xs ys p u refl) ∙ sym (rw (piece-unmatched (λ end. content) p xs u, piece-unmatched (λ end. content) p ys u)))
 
-pub column-each : (wide : ℕ) (xs ys : List ℕ) (p : Place) → columnAlike wide xs ys p ≡ same (piece (carried wide xs) p xs) (piece (carried wide ys) p ys)
+pub column-each : (contentLen : ℕ) (xs ys : List ℕ) (p : Place) → columnAlike contentLen xs ys p ≡ same (piece (carried contentLen xs) p xs) (piece (carried contentLen ys) p ys)
 unfolding columnAlike
-column-each wide xs ys p =
+column-each contentLen xs ys p =
     true-or-false (p .matched)
-    (λ t. rw (piece-matched (carried wide xs) p xs t, piece-matched (carried wide ys) p ys t, t) (same-replicate wide (beforeEnd xs (p .end .0)) (beforeEnd ys (p .end .0))))
-    (λ u. rw (piece-unmatched (carried wide xs) p xs u, piece-unmatched (carried wide ys) p ys u, u))
+    (λ t. rw (piece-matched (carried contentLen xs) p xs t, piece-matched (carried contentLen ys) p ys t, t) (same-replicate contentLen (beforeEnd xs (p .end .0)) (beforeEnd ys (p .end .0))))
+    (λ u. rw (piece-unmatched (carried contentLen xs) p xs u, piece-unmatched (carried contentLen ys) p ys u, u))

@@ -1,16 +1,13 @@
--- RULES 15: the blanking claim as a call. Lent two notes, a list and a content, it alikeAnswer whether the published notes are
--- equal, and so
--- whether the notes agree; or the first refusal that replacing would give to either, were the buffers as long as a text
--- can be.
+-- RULES 15: the blanking claim as a call. Given two notes, a list and a content, it answers whether the published notes
+-- are equal, and so whether the notes agree; or the first refusal that replacing would give to either, were the buffers
+-- as long as a text can be.
 use Prim.Native.Nat.{ℕ}
 use mathlib.Core.Path.{_≡_}
 use mathlib.Core.Bool.{Bool, true, false, _&&_}
 use mathlib.Core.List.{List}
 use Rattle.buffers.specs.Same.{same}
 use Rattle.note.specs.declared.Refusal.{Refusal}
-use Rattle.note.specs.declared.Verdict.{Verdict}
-use Rattle.note.specs.declared.Verdict.the-variants.{Accepted, Refused as Rejected}
-use Rattle.note.specs.Refusals.{also, verdict}
+use Rattle.note.specs.Refusals.{also, verdict, unlessRefused}
 use Rattle.note.specs.Notes.{Note}
 use Rattle.pattern.specs.Entries.{placesOf}
 use Rattle.replace.specs.Replacing.{PublishedNote, replaced, replaceFaults}
@@ -27,14 +24,11 @@ abbrev pub compareFaults : ℕ → Note → Note → List ℕ → List ℕ → R
 compareFaults most n m list content =
     also (replaceFaults most n list content most) (replaceFaults most m list content most)
 
-abbrev pub comparison : Verdict → Bool → Comparison
-comparison Accepted t = Compared t
-comparison (Rejected k) t = Refused k
-
+-- the answer: whether both publish the same, or the refusal
 unfoldable pub alikeAnswer : ℕ → Note → Note → List ℕ → List ℕ → Comparison
 alikeAnswer most n m list content =
-    comparison (verdict (compareFaults most n m list content))
-    (samePublished (replaced (placesOf list) content n) (replaced (placesOf list) content m))
+    unlessRefused Refused (verdict (compareFaults most n m list content))
+    (Compared (samePublished (replaced (placesOf list) content n) (replaced (placesOf list) content m)))
 
 -- the call: its answer, and both readings of it
 pub record PublishedAlike (most : ℕ) (n m : Note) (list content : List ℕ) (r : Comparison) : Type 0 where

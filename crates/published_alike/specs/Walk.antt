@@ -19,10 +19,10 @@ samePart xs ys p = same (part xs (p .start .0) (p .end .0)) (part ys (p .start .
 unfoldable pub textAlike : List ℕ → List ℕ → Place → Bool
 textAlike xs ys p = cond (p .matched) true (samePart xs ys p)
 
--- and of two columns of alignments, beside a content of `wide` bytes
+-- and of two columns of alignments, beside a content of `contentLen` bytes
 unfoldable pub columnAlike : ℕ → List ℕ → List ℕ → Place → Bool
-columnAlike wide xs ys p =
-    cond (p .matched) (eqb wide 0 || eqb (beforeEnd xs (p .end .0)) (beforeEnd ys (p .end .0))) (samePart xs ys p)
+columnAlike contentLen xs ys p =
+    cond (p .matched) (eqb contentLen 0 || eqb (beforeEnd xs (p .end .0)) (beforeEnd ys (p .end .0))) (samePart xs ys p)
 
 unfoldable pub everyPlace : (Place → Bool) → List Place → Bool
 everyPlace f [] = true
@@ -30,8 +30,9 @@ everyPlace f (p ∷ ps) = f p && everyPlace f ps
 
 -- text, starts and ends of two notes
 unfoldable pub allAlike : List ℕ → List ℕ → List ℕ → List ℕ → List ℕ → List ℕ → ℕ → List Place → Bool
-allAlike t xs ys u vs ws wide ps =
-    everyPlace (textAlike t u) ps && everyPlace (columnAlike wide xs vs) ps && everyPlace (columnAlike wide ys ws) ps
+allAlike t xs ys u vs ws contentLen ps =
+    everyPlace (textAlike t u) ps && everyPlace (columnAlike contentLen xs vs) ps
+    && everyPlace (columnAlike contentLen ys ws) ps
 
 -- a place that fits a text, of whose bytes the two lists have one each
 pub record Lying (xs ys : List ℕ) (p : Place) : Type 0 where

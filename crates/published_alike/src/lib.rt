@@ -6,8 +6,8 @@ use buffers::equality::same_offsets;
 use note::LIMIT;
 use note::Refusal;
 use note::Verdict;
-use note::verdicts::earlier;
 use note::before_end;
+use note::verdicts::earlier;
 use pattern::Entry;
 use pattern::Place;
 use pattern::entry_at;
@@ -43,17 +43,17 @@ fn text_alike(a: &[u8], b: &[u8], place: Place) -> bool
     same_bytes(&a[from..to], &b[from..to])
 }
 
-// And of two columns of alignments, beside a content of `wide` bytes.
-fn column_alike(a: &[Offset], b: &[Offset], wide: usize, place: Place) -> bool
+// And of two columns of alignments, beside a content of `content_len` bytes.
+fn column_alike(a: &[Offset], b: &[Offset], content_len: usize, place: Place) -> bool
     requires { ⌜ Lying (now a) (now b) place ⌝ }
-    ensures { λ r. ⌜ r ≡ columnAlike wide (now (a .entry)) (now (b .entry)) place ⌝ }
+    ensures { λ r. ⌜ r ≡ columnAlike «content_len» (now (a .entry)) (now (b .entry)) place ⌝ }
 {
     let start = place.start;
     let end = place.end;
     let from = start.0 as usize;
     let to = end.0 as usize;
     if place.matched {
-        if wide == 0 {
+        if content_len == 0 {
             return true;
         }
         return before_end(a, to) == before_end(b, to);
@@ -80,16 +80,16 @@ fn texts_alike(a: &[u8], b: &[u8], list: &[u8]) -> bool
     true
 }
 
-fn columns_alike(a: &[Offset], b: &[Offset], list: &[u8], wide: usize) -> bool
+fn columns_alike(a: &[Offset], b: &[Offset], list: &[u8], content_len: usize) -> bool
     requires { ⌜ BothCovered (now a) (now b) (now list) ⌝ }
-    ensures { λ r. ⌜ r ≡ everyPlace (columnAlike wide (now (a .entry)) (now (b .entry)))
+    ensures { λ r. ⌜ r ≡ everyPlace (columnAlike «content_len» (now (a .entry)) (now (b .entry)))
         (placesOf (now (list .entry))) ⌝ }
 {
     let mut i = 0;
     while i < list.len() {
         match entry_at(list, i) {
             Entry::At(place, next) => {
-                if !column_alike(a, b, wide, place) {
+                if !column_alike(a, b, content_len, place) {
                     return false;
                 }
                 i = next;
@@ -100,7 +100,7 @@ fn columns_alike(a: &[Offset], b: &[Offset], list: &[u8], wide: usize) -> bool
     true
 }
 
-// Whether two notes that a list covers publish the same beside a content of `wide` bytes.
+// Whether two notes that a list covers publish the same beside a content of `content_len` bytes.
 fn all_alike(
     normalized: &[u8],
     starts: &[Offset],
@@ -109,22 +109,22 @@ fn all_alike(
     other_starts: &[Offset],
     other_ends: &[Offset],
     list: &[u8],
-    wide: usize,
+    content_len: usize,
 ) -> bool
     requires { ⌜ BothCovered (now normalized) (now other) (now list)
         × (BothCovered (now starts) (now «other_starts») (now list)
         × BothCovered (now ends) (now «other_ends») (now list)) ⌝ }
     ensures { λ r. ⌜ r ≡ allAlike (now (normalized .entry)) (now (starts .entry)) (now (ends .entry))
         (now (other .entry)) (now («other_starts» .entry)) (now («other_ends» .entry))
-        wide (placesOf (now (list .entry))) ⌝ }
+        «content_len» (placesOf (now (list .entry))) ⌝ }
 {
     if !texts_alike(normalized, other, list) {
         return false;
     }
-    if !columns_alike(starts, other_starts, list, wide) {
+    if !columns_alike(starts, other_starts, list, content_len) {
         return false;
     }
-    columns_alike(ends, other_ends, list, wide)
+    columns_alike(ends, other_ends, list, content_len)
 }
 
 // What an answer says, without its size.

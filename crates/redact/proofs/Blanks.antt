@@ -2,7 +2,6 @@
 -- a whole.
 use Prim.Native.Nat.{ℕ, zero, suc, _+_, _-_, _*_, _/_, _≤_, _<_, min}
 use mathlib.Core.Path.{_≡_, _∙_, ap, refl, sym}
-use mathlib.Core.Bool.{Bool}
 use mathlib.Core.List.{List, [], _∷_, append-nil}
 use native.Mathlib.Nat.{mul-add, mul-comm, mul-le-mul-left, lt-of-mul-lt-mul-left, le-div-iff-mul-le}
 use native.Mathlib.Omega.{arith}
@@ -14,6 +13,7 @@ use Rattle.buffers.proofs.Splice.{length-splice, splice-overlay}
 use Rattle.validity_blocks.specs.Extremes.{largest}
 use Rattle.note.specs.Notes.{limit}
 use Rattle.note.specs.Starting.{starting}
+use Rattle.note.proofs.Starting.{length-starting-starts, length-starting-ends}
 use Rattle.find.specs.Matching.{FirstMatch, matchesFrom, foundPlaces}
 use Rattle.find.proofs.MatchesFrom.{Searched, first-there, match-inside, searched-more}
 use Rattle.find.proofs.FoundPlaces.{found-whole, searched-first, found-from}
@@ -21,49 +21,48 @@ use Rattle.replace.specs.Replacing.{piece, laid, carried}
 use Rattle.replace.specs.Sizes.{placesSize}
 use Rattle.replace.proofs.Columns.{content-padded, content-alone}
 use Rattle.redact_blocks.specs.Blanks.{resultFrom, Blankable, Bounded, AllBlanked}
-use Rattle.redact_blocks.proofs.Keeping.{starts-long, ends-long}
 use Rattle.redact.specs.Blanks.{Margin, Fitting, WholeRoom, WholeLaid, FoundLaid}
 use Rattle.redact.proofs.BlankedSize.{sizes-more, sizes-end, sizes-unmatched}
 
 -- what is left of the result, by what is left of the text
-share-bound : (g m wide r t n : ℕ) → g ≤ wide → g ≤ m → g * n ≤ m * t → g * (m + (r + n)) ≤ m * (wide + (r + t))
-share-bound g m wide r t n h k resultFrom =
-    omega (arith, mul-add g m (r + n), mul-add g r n, mul-add m wide (r + t), mul-add m r t, mul-comm g m, mul-comm g r, mul-comm m r, mul-le-mul-left m h, mul-le-mul-left r k, resultFrom)
+share-bound : (g m contentLen r t n : ℕ) → g ≤ contentLen → g ≤ m → g * n ≤ m * t → g * (m + (r + n)) ≤ m * (contentLen + (r + t))
+share-bound g m contentLen r t n h k resultFrom =
+    omega (arith, mul-add g m (r + n), mul-add g r n, mul-add m contentLen (r + t), mul-add m r t, mul-comm g m, mul-comm g r, mul-comm m r, mul-le-mul-left m h, mul-le-mul-left r k, resultFrom)
 
-module _ (text literal : List ℕ) (wide : ℕ) where
-  sizes-share : (n i p : ℕ) → length text - i < n → Searched text literal i p → min wide (length literal) * (length text - i) ≤ length literal * placesSize wide (matchesFrom text literal i)
+module _ (text literal : List ℕ) (contentLen : ℕ) where
+  sizes-share : (n i p : ℕ) → length text - i < n → Searched text literal i p → min contentLen (length literal) * (length text - i) ≤ length literal * placesSize contentLen (matchesFrom text literal i)
   sizes-share zero i p few s = absurd (omega arith)
   sizes-share (suc n) i p few s =
       let f : FirstMatch text literal i p = first-there s in
-      let g : ℕ = min wide (length literal) in
+      let g : ℕ = min contentLen (length literal) in
       le-or-lt (length text) p
       (λ end.
       let left : length text - i ≡ p - i = omega (arith, f .most) in
       let least : g ≤ length literal = omega arith in
-      rw (left, sizes-end wide s end)
+      rw (left, sizes-end contentLen s end)
       (omega (arith, mul-comm g (p - i), mul-comm (length literal) (p - i), mul-le-mul-left (p - i) least)))
       (λ more.
       let inside = match-inside s more in
       let left : length text - i ≡ length literal + ((p - i) + (length text - (p + length literal))) = omega (arith, f .from) in
-      let size : placesSize wide (matchesFrom text literal i) ≡ wide + ((p - i) + placesSize wide (matchesFrom text literal (p + length literal))) = omega (arith, sizes-more wide s more) in
+      let size : placesSize contentLen (matchesFrom text literal i) ≡ contentLen + ((p - i) + placesSize contentLen (matchesFrom text literal (p + length literal))) = omega (arith, sizes-more contentLen s more) in
       rw (left, size)
-      (share-bound g (length literal) wide (p - i) _ _ (omega arith) (omega arith)
+      (share-bound g (length literal) contentLen (p - i) _ _ (omega arith) (omega arith)
       (sizes-share n (p + length literal) _ (omega (arith, s .some, f .from)) (searched-more s more refl))))
 
   -- where the margin is left, a block is within the result
-  block-left : {margin i : ℕ} → Margin (length text) (length literal) wide margin → 0 < length literal → i ≤ length text → margin ≤ length text - i → 80 ≤ placesSize wide (matchesFrom text literal i)
+  block-left : {margin i : ℕ} → Margin (length text) (length literal) contentLen margin → 0 < length literal → i ≤ length text → margin ≤ length text - i → 80 ≤ placesSize contentLen (matchesFrom text literal i)
   block-left {i = i} w some inside room =
       let enough = w .enough (length text - i) room (omega arith) in
       let long = sizes-share (suc (length text)) i _ (omega arith) (record { some = some; most = inside; next = refl }) in
-      let more : 80 < placesSize wide (matchesFrom text literal i) = lt-of-mul-lt-mul-left (length literal) (omega (arith, enough, long, mul-comm 80 (length literal))) in
+      let more : 80 < placesSize contentLen (matchesFrom text literal i) = lt-of-mul-lt-mul-left (length literal) (omega (arith, enough, long, mul-comm 80 (length literal))) in
       omega arith
 
 -- the margin that is reckoned
-pub no-margin : (size literal wide : ℕ) → Margin size literal wide (size + 1)
-no-margin size literal wide = record { enough = λ k h few. absurd (omega arith) }
+pub no-margin : (size literal contentLen : ℕ) → Margin size literal contentLen (size + 1)
+no-margin size literal contentLen = record { enough = λ k h few. absurd (omega arith) }
 
-pub margin-share : (size literal wide : ℕ) {share : ℕ} → share ≡ min wide literal → 0 < share → Margin size literal wide (80 * literal / share + 1)
-margin-share size literal wide {share} is some =
+pub margin-share : (size literal contentLen : ℕ) {share : ℕ} → share ≡ min contentLen literal → 0 < share → Margin size literal contentLen (80 * literal / share + 1)
+margin-share size literal contentLen {share} is some =
     record {
       enough = λ k h few. rw (← is)
           (le-or-lt (share * k) (80 * literal)
@@ -97,8 +96,8 @@ module _ {text literal content : List ℕ} {first : ℕ} {out starts ends : List
       record {
         reached = none ∙ ap length (sym (laid-whole (λ end. content) text refl));
         text-is = w .text-is ∙ rw (laid-whole (λ end. content) text refl);
-        starts-are = w .starts-are ∙ rw (laid-whole (carried (length content) (starting text .starts)) (starting text .starts) (starts-long text));
-        ends-are = w .ends-are ∙ rw (laid-whole (carried (length content) (starting text .ends)) (starting text .ends) (ends-long text));
+        starts-are = w .starts-are ∙ rw (laid-whole (carried (length content) (starting text .starts)) (starting text .starts) (length-starting-starts text));
+        ends-are = w .ends-are ∙ rw (laid-whole (carried (length content) (starting text .ends)) (starting text .ends) (length-starting-ends text));
       }
 
 pub whole-laid : {text out starts ends : List ℕ} → WholeRoom text out starts ends → {out₁ starts₁ ends₁ : List ℕ} → out₁ ≡ splice out 0 text → starts₁ ≡ overlay (starting text .starts) starts → ends₁ ≡ overlay (starting text .ends) ends → WholeLaid text out starts ends out₁ starts₁ ends₁
@@ -129,16 +128,18 @@ module _ {text literal content : List ℕ} {first : ℕ} {out starts ends : List
   pub literal-short : length literal ≤ limit
   literal-short = omega (arith, first-there from-start .most, match-inside from-start (le-or-lt (length text) first (λ h. absurd (met (omega (arith, first-there from-start .most)))) (λ h. h)), f .short)
 
-  module _ {most : ℕ} {share margin until : ℕ} (known : largest text ≤ most) (w : Margin (length text) (length literal) (length content) share) (wide : (length literal + 80 ≤ margin) × (share ≤ 1024 → share ≤ margin)) (below : 1024 < share → until ≤ placesSize (length content) (foundPlaces text literal)) where
+  module _ {most : ℕ} {share margin until : ℕ} (known : largest text ≤ most) (w : Margin (length text) (length literal) (length content) share)
+      (contentLen : (length literal + 80 ≤ margin) × (share ≤ 1024 → share ≤ margin))
+      (below : 1024 < share → until ≤ placesSize (length content) (foundPlaces text literal)) where
     bounded : (padded : List ℕ) → part padded 0 (length content) ≡ content → length content ≤ length padded → Bounded text most literal content padded 0 0 margin until
     bounded padded front long =
         record {
           most-is = known;
           padded-is = front;
           padded-long = long;
-          window = wide .0;
+          window = contentLen .0;
           enough = λ j b inside left fits is. le-or-lt share 1024
-              (λ soon. let h = wide .1 soon in omega (arith, block-left text literal (length content) w (from-start .some) inside (omega arith)))
+              (λ soon. let h = contentLen .1 soon in omega (arith, block-left text literal (length content) w (from-start .some) inside (omega arith)))
               (λ late. omega (arith, below late, found-sizes));
         }
 

@@ -29,7 +29,7 @@ use Rattle.find.specs.Finding.{foundBytes}
 use Rattle.find.specs.Searching.{firstMatch}
 use Rattle.find.proofs.FoundPlaces.{found-read, found-covers}
 use Rattle.replace.specs.declared.Publication.the-variants.{Published, Refused}
-use Rattle.replace.specs.Replacing.{laid, replaced, replaceFaults, publication}
+use Rattle.replace.specs.Replacing.{replaced, replaceFaults, publication}
 use Rattle.replace.specs.Sizes.{placesSize}
 use Rattle.replace.proofs.Sizes.{length-laid}
 use Rattle.redact.specs.Redacting.{blanked, inputFaults, redactFaults, Redacted}

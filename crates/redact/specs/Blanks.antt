@@ -14,9 +14,9 @@ use Rattle.replace.specs.Replacing.{laid, carried}
 use Rattle.replace.specs.Sizes.{placesSize}
 
 -- where so many bytes of a text are left, more than 80 of the result are: each of a match's `literal` bytes gives at
--- least the smaller of two `literal`th parts, its own or that of a content of `wide` bytes
-pub record Margin (size literal wide margin : ℕ) : Type 0 where
-  pub enough : (k : ℕ) → margin ≤ k → k ≤ size → 80 * literal < min wide literal * k
+-- least the smaller of two `literal`th parts, its own or that of a content of `contentLen` bytes
+pub record Margin (size literal contentLen margin : ℕ) : Type 0 where
+  pub enough : (k : ℕ) → margin ≤ k → k ≤ size → 80 * literal < min contentLen literal * k
 
 -- a text and its first match, and room for the result
 pub record Fitting (text literal content : List ℕ) (first : ℕ) (out starts ends : List ℕ) : Type 0 where

@@ -28,7 +28,7 @@ redactFaults most text literal content room =
     also (inputFaults most text literal content)
     (roomFaults (length (blanked text literal content .text)) (min most room))
 
--- THE CALL: limit, text, literal and content, the three lent buffers before, the answer, the three after
+-- THE CALL: limit, text, literal and content, the three passed buffers before, the answer, the three after
 pub record Redacted (most : ℕ) (text literal content out₀ starts₀ ends₀ : List ℕ) (r : Publication)
     (out starts ends : List ℕ) : Type 0 where
   pub says : Verdict

@@ -52,17 +52,18 @@ fn sum(a: usize, b: usize) -> usize
     a + b
 }
 
-// How many bytes the text has once each match, from the first one on, has given way to `wide` bytes; one more than the
-// limit where they are more.
-fn blanked_size(text: &[u8], literal: &[u8], first: usize, wide: usize) -> usize
+// How many bytes the text has once each match, from the first one on, has given way to `content_len` bytes; one more
+// than the limit where they are more.
+fn blanked_size(text: &[u8], literal: &[u8], first: usize, content_len: usize) -> usize
     requires { ⌜ first ≡ firstMatch (now text) (now literal) ⌝ }
-    ensures { λ r. ⌜ r ≡ min (limit + 1) (placesSize wide (foundPlaces (now (text .entry)) (now (literal .entry)))) ⌝ }
+    ensures { λ r. ⌜ r ≡ min (limit + 1)
+        (placesSize «content_len» (foundPlaces (now (text .entry)) (now (literal .entry)))) ⌝ }
 {
     let mut total = 0;
     let mut at = 0;
     let mut p = first;
     while p < text.len() {
-        total = sum(sum(total, p - at), wide);
+        total = sum(sum(total, p - at), content_len);
         at = p + literal.len();
         p = next_match(text, literal, at);
     }
@@ -71,35 +72,36 @@ fn blanked_size(text: &[u8], literal: &[u8], first: usize, wide: usize) -> usize
 
 // Whether what is published fits so much room. Where a content is no longer than the literal the result is no longer
 // than the text: where the text fits, nothing is measured.
-fn result_fits(text: &[u8], literal: &[u8], first: usize, wide: usize, room: usize) -> bool
+fn result_fits(text: &[u8], literal: &[u8], first: usize, content_len: usize, room: usize) -> bool
     requires { ⌜ (first ≡ firstMatch (now text) (now literal)) × (room ≤ limit) ⌝ }
-    ensures { λ r. ⌜ r ≡ leb (placesSize wide (foundPlaces (now (text .entry)) (now (literal .entry)))) room ⌝ }
+    ensures { λ r. ⌜ r ≡ leb
+        (placesSize «content_len» (foundPlaces (now (text .entry)) (now (literal .entry)))) room ⌝ }
 {
-    if wide <= literal.len() {
+    if content_len <= literal.len() {
         if text.len() <= room {
             return true;
         }
     }
-    blanked_size(text, literal, first, wide) <= room
+    blanked_size(text, literal, first, content_len) <= room
 }
 
 // How many bytes have to be left of a text of so many that more than 80 of the result are: a block, and the 16 that a
-// content behind it is laid by.
-fn safe_margin(size: usize, literal: usize, wide: usize) -> usize
+// content after it is laid by.
+fn safe_margin(size: usize, literal: usize, content_len: usize) -> usize
     requires { ⌜ size ≤ limit ⌝ }
-    ensures { λ r. ⌜ Margin size literal wide r ⌝ }
+    ensures { λ r. ⌜ Margin size literal «content_len» r ⌝ }
 {
     if size < literal {
         return size + 1;
     }
-    let share = least_of_two(wide, literal);
+    let share = least_of_two(content_len, literal);
     if share == 0 {
         return size + 1;
     }
     80 * literal / share + 1
 }
 
-// The same where it is sure soon enough, and in any case as many as are searched at once.
+// The margin that blocks are laid by: `share` where it is small, and in any case as many bytes as are searched at once.
 fn margin_of(share: usize, literal: usize) -> usize
     requires { ⌜ literal ≤ limit ⌝ }
     ensures { λ r. ⌜ (literal + 80 ≤ r) × (share ≤ 1024 → share ≤ r) ⌝ }
@@ -114,17 +116,18 @@ fn margin_of(share: usize, literal: usize) -> usize
 }
 
 // Up to where blocks may be laid: no bound where the margin is enough, else the result's size.
-fn block_limit(text: &[u8], literal: &[u8], first: usize, wide: usize, share: usize) -> usize
+fn block_limit(text: &[u8], literal: &[u8], first: usize, content_len: usize, share: usize) -> usize
     requires { ⌜ first ≡ firstMatch (now text) (now literal) ⌝ }
-    ensures { λ r. ⌜ (1024 < share → r ≤ placesSize wide (foundPlaces (now (text .entry)) (now (literal .entry)))) ⌝ }
+    ensures { λ r. ⌜ (1024 < share
+        → r ≤ placesSize «content_len» (foundPlaces (now (text .entry)) (now (literal .entry)))) ⌝ }
 {
     if share <= 1024 {
         return LIMIT + 80;
     }
-    blanked_size(text, literal, first, wide)
+    blanked_size(text, literal, first, content_len)
 }
 
-// The starting note as it is, where the literal stands nowhere.
+// The starting note as it is, where the literal is nowhere.
 fn lay_whole(text: &[u8], out: &mut [u8], out_starts: &mut [Offset], out_ends: &mut [Offset])
     requires { ⌜ WholeRoom (now text) (now out) (now «out_starts») (now «out_ends») ⌝ }
     ensures { λ _. ⌜ WholeLaid (now (text .entry))
@@ -141,8 +144,8 @@ fn lay_whole(text: &[u8], out: &mut [u8], out_starts: &mut [Offset], out_ends: &
 fn max_byte(text: &[u8]) -> u8
     ensures { λ r. ⌜ largest (now (text .entry)) ≤ r ⌝ }
 {
-    let few = least_of_two(1024, text.len());
-    if 0xF0 <= largest(&text[0..few]) {
+    let front_len = least_of_two(1024, text.len());
+    if 0xF0 <= largest(&text[0..front_len]) {
         return 0xFF;
     }
     largest(text)
@@ -168,14 +171,14 @@ fn blank_found(
         lay_whole(text, out, out_starts, out_ends);
         return first;
     }
-    let most = max_byte(text);
+    let max = max_byte(text);
     let share = safe_margin(text.len(), literal.len(), content.len());
     let margin = margin_of(share, literal.len());
     let until = block_limit(text, literal, first, content.len(), share);
     if 16 < content.len() {
         return blank(
             text,
-            most,
+            max,
             literal,
             content,
             content,
@@ -190,7 +193,7 @@ fn blank_found(
     copy_bytes(content, &mut padded, 0);
     blank(
         text,
-        most,
+        max,
         literal,
         content,
         &padded,
@@ -202,7 +205,7 @@ fn blank_found(
     )
 }
 
-// Blanks every match of the literal in the starting note of the text: what is published stands in front of `out`,
+// Blanks every match of the literal in the starting note of the text: what is published is in front of `out`,
 // `out_starts` and `out_ends`. It judges, in this order: `TooLong` (the text), `IllFormed` (text, literal or content),
 // `NoRoom`.
 pub fn redact(

@@ -2,17 +2,18 @@
 -- the end; and of what is laid on by them.
 use Prim.Native.Nat.{ℕ, suc, _+_, _-_, _≤_, _<_}
 use mathlib.Core.Path.{_≡_, _∙_, ap, refl, sym}
-use mathlib.Core.Bool.{Bool, true, false, cond}
+use mathlib.Core.Bool.{true, false, cond}
 use mathlib.Core.List.{List, [], _++_, append-assoc, append-nil}
 use native.Mathlib.Omega.{arith}
 use lib.Dec.{ltb}
-use lib.ListN.{length, getD, take, drop, length-append, length-replicate, take-append-drop}
+use lib.ListN.{length, getD, take, length-append, length-replicate, take-append-drop}
 use borrow.Author.Tests.{le-ltb, lt-ltb}
 use Rattle.buffers.specs.Splice.{part, overlay}
 use Rattle.buffers.specs.Over.{Over}
 use Rattle.buffers.proofs.Cases.{le-or-lt, true-or-false}
 use Rattle.buffers.proofs.Splice.{length-part, part-append}
 use Rattle.note.specs.Starting.{starting}
+use Rattle.note.proofs.Starting.{length-starting-starts, length-starting-ends}
 use Rattle.pattern.specs.declared.Place.{Place}
 use Rattle.find.specs.Matching.{occursAt, firstFrom, FirstMatch, between, matchesFrom}
 use Rattle.find.specs.Searching.{Absent}
@@ -25,7 +26,7 @@ use Rattle.replace.specs.Sizes.{placesSize}
 use Rattle.replace.proofs.Sizes.{length-laid}
 use Rattle.redact_blocks.specs.Keeping.{StretchRoom, Stretch, ContentRoom, ContentLaid}
 use Rattle.redact_blocks.specs.Blanks.{resultFrom, Blankable, Onward, Blanked, Bounded, SearchBlockRoom, BlockPassed, AllBlanked}
-use Rattle.redact_blocks.proofs.Keeping.{starts-long, ends-long, stretch-none}
+use Rattle.redact_blocks.proofs.Keeping.{stretch-none}
 
 -- the literal does not stand past the last position at which it fits
 pub stands-not : (text literal : List ℕ) (p : ℕ) → 0 < length literal → length text - p < length literal → p ≤ length text → false ≡ occursAt text literal p
@@ -85,17 +86,22 @@ module _ (fill : ℕ → List ℕ) (text literal xs : List ℕ) where
         let f = first-there s in
         rw (matches-end s (omega (arith, f .from)), between-none {a = i} {e = firstFrom text literal i} (omega (arith, f .most)))
 
-  rest-size : (wide : ℕ) {i : ℕ} {content : List ℕ} {at : ℕ} {out starts ends : List ℕ} → Blankable text literal content i at out starts ends → {j : ℕ} → j ≤ length text → length xs ≡ length text → ((e : ℕ) → length (fill e) ≡ wide) → length (resultFrom fill text literal xs j) ≡ placesSize wide (matchesFrom text literal j)
+  rest-size : (contentLen : ℕ) {i : ℕ} {content : List ℕ} {at : ℕ} {out starts ends : List ℕ} → Blankable text literal content i at out starts ends
+      → {j : ℕ} → j ≤ length text → length xs ≡ length text → ((e : ℕ) → length (fill e) ≡ contentLen)
+      → length (resultFrom fill text literal xs j) ≡ placesSize contentLen (matchesFrom text literal j)
   unfolding resultFrom
-  rest-size wide r {j} h long wides =
-      length-laid text xs fill wide j (matchesFrom text literal j) long wides
+  rest-size contentLen r {j} h long wides =
+      length-laid text xs fill contentLen j (matchesFrom text literal j) long wides
       (covers-matches text literal (r .formed) (r .literal-formed) (suc (length text)) j _ (omega arith) (record { some = r .some; most = h; next = refl }))
 
 -- one column: nothing yet, and a run more
 onward-none : {fill : ℕ → List ℕ} {text literal xs : List ℕ} {i at : ℕ} {d : List ℕ} → Onward fill text literal xs i at d i at d
 onward-none = record { so-far = refl; beyond = refl; reach = refl; same = refl }
 
-onward-run : {fill : ℕ → List ℕ} {text literal xs : List ℕ} {i at : ℕ} {d : List ℕ} {i₁ at₁ : ℕ} {d₁ : List ℕ} (run : List ℕ) {i₂ at₂ until : ℕ} {d₂ : List ℕ} → Onward fill text literal xs i at d i₁ at₁ d₁ → resultFrom fill text literal xs i₁ ≡ run ++ resultFrom fill text literal xs i₂ → Over run d₁ at₁ until d₂ → until ≤ at + length (resultFrom fill text literal xs i) → at₂ ≡ at₁ + length run → Onward fill text literal xs i at d i₂ at₂ d₂
+onward-run : {fill : ℕ → List ℕ} {text literal xs : List ℕ} {i at : ℕ} {d : List ℕ} {i₁ at₁ : ℕ} {d₁ : List ℕ} (run : List ℕ) {i₂ at₂ until : ℕ} {d₂ : List ℕ}
+    → Onward fill text literal xs i at d i₁ at₁ d₁ → resultFrom fill text literal xs i₁ ≡ run ++ resultFrom fill text literal xs i₂
+    → Over run d₁ at₁ until d₂ → until ≤ at + length (resultFrom fill text literal xs i) → at₂ ≡ at₁ + length run
+    → Onward fill text literal xs i at d i₂ at₂ d₂
 onward-run {fill} {text} {literal} {xs} {i} {at} {d} {i₁} {at₁} {d₁} run {i₂} {at₂} {until} {d₂} o is l below here =
     let long : length (resultFrom fill text literal xs i₁) ≡ length run + length (resultFrom fill text literal xs i₂) = ap length is ∙ length-append run (resultFrom fill text literal xs i₂) in
     record {
@@ -113,10 +119,10 @@ module _ {text literal content : List ℕ} {i at : ℕ} {out starts ends : List 
   text-size h = rest-size (λ end. content) text literal text (length content) r h refl (λ e. refl)
 
   starts-size : {j : ℕ} → j ≤ length text → length (resultFrom (carried (length content) (starting text .starts)) text literal (starting text .starts) j) ≡ placesSize (length content) (matchesFrom text literal j)
-  starts-size h = rest-size (carried (length content) (starting text .starts)) text literal (starting text .starts) (length content) r h (starts-long text) (λ e. length-replicate (length content) _)
+  starts-size h = rest-size (carried (length content) (starting text .starts)) text literal (starting text .starts) (length content) r h (length-starting-starts text) (λ e. length-replicate (length content) _)
 
   ends-size : {j : ℕ} → j ≤ length text → length (resultFrom (carried (length content) (starting text .ends)) text literal (starting text .ends) j) ≡ placesSize (length content) (matchesFrom text literal j)
-  ends-size h = rest-size (carried (length content) (starting text .ends)) text literal (starting text .ends) (length content) r h (ends-long text) (λ e. length-replicate (length content) _)
+  ends-size h = rest-size (carried (length content) (starting text .ends)) text literal (starting text .ends) (length content) r h (length-starting-ends text) (λ e. length-replicate (length content) _)
 
   -- what is laid and what is to come are the whole
   pub blanked-size : at₁ + placesSize (length content) (matchesFrom text literal i₁) ≡ at + placesSize (length content) (matchesFrom text literal i)
@@ -129,14 +135,22 @@ module _ {text literal content : List ℕ} {i at : ℕ} {out starts ends : List 
         let long = ap length (rest-passed (λ end. content) text literal text (r .some) a) ∙ length-append (part text i₁ (i₁ + k)) (resultFrom (λ end. content) text literal text (i₁ + k)) in
         omega (arith, long, length-part text i₁ (i₁ + k) (a .most), text-size (b .inside), blanked-size)
 
-    pub more-bytes : {until i₂ at₂ : ℕ} {out₂ starts₂ ends₂ : List ℕ} → until ≤ at + placesSize (length content) (matchesFrom text literal i) → Stretch text i₁ (i₁ + k) out₁ starts₁ ends₁ at₁ until out₂ starts₂ ends₂ → i₂ ≡ i₁ + k → at₂ ≡ at₁ + k → Blanked text literal content i at out starts ends i₂ at₂ out₂ starts₂ ends₂
+    pub more-bytes : {until i₂ at₂ : ℕ} {out₂ starts₂ ends₂ : List ℕ} → until ≤ at + placesSize (length content) (matchesFrom text literal i)
+        → Stretch text i₁ (i₁ + k) out₁ starts₁ ends₁ at₁ until out₂ starts₂ ends₂ → i₂ ≡ i₁ + k → at₂ ≡ at₁ + k
+        → Blanked text literal content i at out starts ends i₂ at₂ out₂ starts₂ ends₂
     more-bytes {i₂ = i₂} {at₂} {out₂} {starts₂} {ends₂} below s to here =
         let on : Blanked text literal content i at out starts ends (i₁ + k) at₂ out₂ starts₂ ends₂ = record {
           onward = omega (arith, b .onward);
           inside = a .most;
           text-on = onward-run (part text i₁ (i₁ + k)) (b .text-on) (rest-passed (λ end. content) text literal text (r .some) a) (s .text-over) (omega (arith, text-size (r .inside))) (omega (arith, length-part text i₁ (i₁ + k) (a .most)));
-          starts-on = onward-run (part (starting text .starts) i₁ (i₁ + k)) (b .starts-on) (rest-passed (carried (length content) (starting text .starts)) text literal (starting text .starts) (r .some) a) (s .starts-over) (omega (arith, starts-size (r .inside))) (omega (arith, length-part (starting text .starts) i₁ (i₁ + k) (rw (starts-long text) (a .most))));
-          ends-on = onward-run (part (starting text .ends) i₁ (i₁ + k)) (b .ends-on) (rest-passed (carried (length content) (starting text .ends)) text literal (starting text .ends) (r .some) a) (s .ends-over) (omega (arith, ends-size (r .inside))) (omega (arith, length-part (starting text .ends) i₁ (i₁ + k) (rw (ends-long text) (a .most))));
+          starts-on =
+              onward-run (part (starting text .starts) i₁ (i₁ + k)) (b .starts-on)
+              (rest-passed (carried (length content) (starting text .starts)) text literal (starting text .starts) (r .some) a) (s .starts-over)
+              (omega (arith, starts-size (r .inside))) (omega (arith, length-part (starting text .starts) i₁ (i₁ + k) (rw (length-starting-starts text) (a .most))));
+          ends-on =
+              onward-run (part (starting text .ends) i₁ (i₁ + k)) (b .ends-on)
+              (rest-passed (carried (length content) (starting text .ends)) text literal (starting text .ends) (r .some) a) (s .ends-over)
+              (omega (arith, ends-size (r .inside))) (omega (arith, length-part (starting text .ends) i₁ (i₁ + k) (rw (length-starting-ends text) (a .most))));
         } in
         rw (sym to) at on
 
@@ -186,14 +200,24 @@ module _ {text literal content : List ℕ} {i at : ℕ} {out starts ends : List 
           ends-until = omega (arith, r .ends-room, b .ends-on .same);
         }
 
-    pub more-match : {padded : List ℕ} {until i₂ at₂ : ℕ} {out₂ starts₂ ends₂ : List ℕ} → part padded 0 (length content) ≡ content → until ≤ at + placesSize (length content) (matchesFrom text literal i) → ContentLaid text (i₁ + length literal) padded (length content) out₁ starts₁ ends₁ at₁ until out₂ starts₂ ends₂ → i₂ ≡ i₁ + length literal → at₂ ≡ at₁ + length content → Blanked text literal content i at out starts ends i₂ at₂ out₂ starts₂ ends₂
+    pub more-match : {padded : List ℕ} {until i₂ at₂ : ℕ} {out₂ starts₂ ends₂ : List ℕ} → part padded 0 (length content) ≡ content
+        → until ≤ at + placesSize (length content) (matchesFrom text literal i)
+        → ContentLaid text (i₁ + length literal) padded (length content) out₁ starts₁ ends₁ at₁ until out₂ starts₂ ends₂ → i₂ ≡ i₁ + length literal
+        → at₂ ≡ at₁ + length content
+        → Blanked text literal content i at out starts ends i₂ at₂ out₂ starts₂ ends₂
     more-match {i₂ = i₂} {at₂} {out₂} {starts₂} {ends₂} front below l to here =
         let on : Blanked text literal content i at out starts ends (i₁ + length literal) at₂ out₂ starts₂ ends₂ = record {
           onward = omega (arith, b .onward);
           inside = match-ends;
           text-on = onward-run content (b .text-on) (rest-matched (λ end. content) text literal text (r .some) i₁ t) (rw front at (l .text-over)) (omega (arith, text-size (r .inside))) here;
-          starts-on = onward-run (carried (length content) (starting text .starts) (i₁ + length literal)) (b .starts-on) (rest-matched (carried (length content) (starting text .starts)) text literal (starting text .starts) (r .some) i₁ t) (l .starts-over) (omega (arith, starts-size (r .inside))) (here ∙ rw (length-replicate (length content)));
-          ends-on = onward-run (carried (length content) (starting text .ends) (i₁ + length literal)) (b .ends-on) (rest-matched (carried (length content) (starting text .ends)) text literal (starting text .ends) (r .some) i₁ t) (l .ends-over) (omega (arith, ends-size (r .inside))) (here ∙ rw (length-replicate (length content)));
+          starts-on =
+              onward-run (carried (length content) (starting text .starts) (i₁ + length literal)) (b .starts-on)
+              (rest-matched (carried (length content) (starting text .starts)) text literal (starting text .starts) (r .some) i₁ t) (l .starts-over)
+              (omega (arith, starts-size (r .inside))) (here ∙ rw (length-replicate (length content)));
+          ends-on =
+              onward-run (carried (length content) (starting text .ends) (i₁ + length literal)) (b .ends-on)
+              (rest-matched (carried (length content) (starting text .ends)) text literal (starting text .ends) (r .some) i₁ t) (l .ends-over)
+              (omega (arith, ends-size (r .inside))) (here ∙ rw (length-replicate (length content)));
         } in
         rw (sym to) at on
 
@@ -226,7 +250,7 @@ passed-none h =
       stretch = stretch-none;
     }
 
--- a stage behind another
+-- a stage after another
 onward-on : {fill : ℕ → List ℕ} {text literal xs : List ℕ} {i at : ℕ} {d : List ℕ} {i₁ at₁ : ℕ} {d₁ : List ℕ} {i₂ at₂ : ℕ} {d₂ : List ℕ} → Onward fill text literal xs i at d i₁ at₁ d₁ → Onward fill text literal xs i₁ at₁ d₁ i₂ at₂ d₂ → Onward fill text literal xs i at d i₂ at₂ d₂
 onward-on {d₂ = d₂} o l =
     record {
@@ -236,7 +260,9 @@ onward-on {d₂ = d₂} o l =
       same = l .same ∙ o .same;
     }
 
-onward-all : {fill : ℕ → List ℕ} {text literal xs d : List ℕ} {i at : ℕ} {d₁ : List ℕ} → resultFrom fill text literal xs i ≡ [] → length (resultFrom fill text literal xs 0) ≤ length d → Onward fill text literal xs 0 0 d i at d₁ → (at ≡ length (resultFrom fill text literal xs 0)) × (d₁ ≡ overlay (resultFrom fill text literal xs 0) d)
+onward-all : {fill : ℕ → List ℕ} {text literal xs d : List ℕ} {i at : ℕ} {d₁ : List ℕ} → resultFrom fill text literal xs i ≡ []
+    → length (resultFrom fill text literal xs 0) ≤ length d → Onward fill text literal xs 0 0 d i at d₁
+    → (at ≡ length (resultFrom fill text literal xs 0)) × (d₁ ≡ overlay (resultFrom fill text literal xs 0) d)
 unfolding overlay
 onward-all {fill} {text} {literal} {xs} {d} {i} {at} {d₁} none room o =
     let end : at ≡ length (resultFrom fill text literal xs 0) = omega (arith, o .reach, ap length none) in
@@ -279,7 +305,9 @@ module _ {text literal content : List ℕ} {i at : ℕ} {out starts ends : List 
         ends-on = onward-on (b .ends-on) (n .ends-on);
       }
 
-pub all-laid : {text literal content out starts ends : List ℕ} {i at : ℕ} {out₁ starts₁ ends₁ : List ℕ} → Blankable text literal content 0 0 out starts ends → Blanked text literal content 0 0 out starts ends i at out₁ starts₁ ends₁ → length text ≤ i → AllBlanked text literal content out starts ends at out₁ starts₁ ends₁
+pub all-laid : {text literal content out starts ends : List ℕ} {i at : ℕ} {out₁ starts₁ ends₁ : List ℕ}
+    → Blankable text literal content 0 0 out starts ends → Blanked text literal content 0 0 out starts ends i at out₁ starts₁ ends₁ → length text ≤ i
+    → AllBlanked text literal content out starts ends at out₁ starts₁ ends₁
 all-laid {text} {literal} {content} {i = i} r b past =
     let end : i ≡ length text = omega (arith, b .inside) in
     let t = onward-all (rest-ended (λ end. content) text literal text (r .some) end) (omega (arith, text-size r b (r .inside), r .text-room)) (b .text-on) in

@@ -4,7 +4,7 @@ use mathlib.Core.Path.{_≡_, _∙_, ap, refl, sym}
 use mathlib.Core.Bool.{true, false}
 use mathlib.Core.List.{List, [], _∷_, _++_, append-nil}
 use native.Mathlib.Omega.{arith}
-use lib.ListN.{length, getD, set, take, drop, replicate, length-append, length-drop, length-replicate, length-set, List·getD-append, List·getD-eq-default}
+use lib.ListN.{length, getD, set, take, drop, replicate, length-append, length-drop, length-replicate, length-set, List·getD-append}
 use lib.Seq.{take-suc-set, drop-set-lt, drop-cons, getD-take, getD-drop, getD-append-add, ext-getD, length-take-le}
 use Rattle.buffers.specs.Splice.{part, splice}
 use Rattle.buffers.specs.Columns.{column, Filled}
@@ -24,6 +24,7 @@ use Rattle.note.specs.Notes.{limit}
 use Rattle.utf8.proofs.CharRanges.{Ranged, ranged, charStart-begins}
 use Rattle.utf8.specs.CharRanges.{charStart, charEnd}
 use Rattle.note.specs.Starting.{starting}
+use Rattle.note.proofs.Starting.{length-starting-starts, length-starting-ends}
 use Rattle.note.proofs.BeforeEnd.{before-some}
 use Rattle.replace.proofs.Columns.{content-alone}
 use Rattle.redact_blocks.specs.Keeping.{StretchRoom, Stretch, ContentRoom, ContentLaid}
@@ -88,7 +89,9 @@ module _ {text : List ℕ} {i : ℕ} {out starts ends : List ℕ} {at : ℕ} whe
         ends-over = over-one (column (length text) (charEnd text)) ends i at 0 (rw (length-column (length text) (charEnd text)) here) (omega (arith, r .ends-room)) (e ∙ sym (getD-column (length text) (charEnd text) i here));
       }
 
-  pub block-laid : StretchRoom text i (i + 64) out starts ends at → {out₁ starts₁ ends₁ : List ℕ} → out₁ ≡ splice out at (part text i (i + 64)) → Filled (λ k. charStart text (i + (k - at))) starts at (at + 64) starts₁ → Filled (λ k. charEnd text (i + (k - at))) ends at (at + 64) ends₁ → Stretch text i (i + 64) out starts ends at 0 out₁ starts₁ ends₁
+  pub block-laid : StretchRoom text i (i + 64) out starts ends at → {out₁ starts₁ ends₁ : List ℕ} → out₁ ≡ splice out at (part text i (i + 64))
+      → Filled (λ k. charStart text (i + (k - at))) starts at (at + 64) starts₁ → Filled (λ k. charEnd text (i + (k - at))) ends at (at + 64) ends₁
+      → Stretch text i (i + 64) out starts ends at 0 out₁ starts₁ ends₁
   unfolding starting
   block-laid r b s e =
       record {
@@ -107,7 +110,10 @@ module _ (s : List ℕ) (e : largest s < 0x80) where
   unfolding continuationRun
   plain-end k p h = end-ahead s k p h ∙ rw (no-continues (k + 1)) (omega arith)
 
-  pub plain-laid : {i : ℕ} {out starts ends : List ℕ} {at : ℕ} → StretchRoom s i (i + 64) out starts ends at → {out₁ starts₁ ends₁ : List ℕ} → out₁ ≡ splice out at (part s i (i + 64)) → Filled (λ k. i + (k - at)) starts at (at + 64) starts₁ → Filled (λ k. i + 1 + (k - at)) ends at (at + 64) ends₁ → Stretch s i (i + 64) out starts ends at 0 out₁ starts₁ ends₁
+  pub plain-laid : {i : ℕ} {out starts ends : List ℕ} {at : ℕ} → StretchRoom s i (i + 64) out starts ends at → {out₁ starts₁ ends₁ : List ℕ}
+      → out₁ ≡ splice out at (part s i (i + 64)) → Filled (λ k. i + (k - at)) starts at (at + 64) starts₁
+      → Filled (λ k. i + 1 + (k - at)) ends at (at + 64) ends₁
+      → Stretch s i (i + 64) out starts ends at 0 out₁ starts₁ ends₁
   plain-laid {i} {at = at} r b up next =
       block-laid r b
       (filled-as _ _ _ _ _ _ up (λ k from to. sym (charStart-begins s (i + (k - at)) (no-continues (i + (k - at))))))
@@ -120,10 +126,10 @@ range-small text i p h short s e = let r : Ranged text i = ranged text i p h in 
 pub byte-small : {text : List ℕ} {i : ℕ} {out starts ends : List ℕ} {at a b : ℕ} → StretchRoom text i (i + 1) out starts ends at → a ≡ charStart text i → b ≡ charEnd text i → (a ≤ limit) × (b ≤ limit)
 byte-small {text} {i} r = range-small text i (r .formed) (omega (arith, r .inside)) (r .short)
 
-pub padded-first : {text : List ℕ} {end : ℕ} {padded : List ℕ} {wide until : ℕ} {out starts ends : List ℕ} {at a : ℕ} → ContentRoom text end padded wide until out starts ends at → a ≡ charStart text (end - 1) → a ≤ limit
+pub padded-first : {text : List ℕ} {end : ℕ} {padded : List ℕ} {contentLen until : ℕ} {out starts ends : List ℕ} {at a : ℕ} → ContentRoom text end padded contentLen until out starts ends at → a ≡ charStart text (end - 1) → a ≤ limit
 padded-first {text} {end} r is = range-small text (end - 1) (r .formed) (omega (arith, r .some, r .inside)) (r .short) is refl .0
 
-pub padded-small : {text : List ℕ} {end : ℕ} {padded : List ℕ} {wide until : ℕ} {out starts ends : List ℕ} {at a b : ℕ} → ContentRoom text end padded wide until out starts ends at → a ≡ charStart text (end - 1) → b ≡ charEnd text (end - 1) → (a ≤ limit) × (b ≤ limit)
+pub padded-small : {text : List ℕ} {end : ℕ} {padded : List ℕ} {contentLen until : ℕ} {out starts ends : List ℕ} {at a b : ℕ} → ContentRoom text end padded contentLen until out starts ends at → a ≡ charStart text (end - 1) → b ≡ charEnd text (end - 1) → (a ≤ limit) × (b ≤ limit)
 padded-small {text} {end} r = range-small text (end - 1) (r .formed) (omega (arith, r .some, r .inside)) (r .short)
 
 -- nothing yet, and the front of a block
@@ -150,25 +156,22 @@ over-part xs i n k {d₀} {d} {at} few inside room o =
     rw (part-front xs i (i + k) (i + n) (omega arith)) at
     (over-front (i + k - i) (over-below (at + n) (omega arith) o) (omega arith) room (omega arith))
 
--- the columns of a starting note, beside its text
-pub starts-long : (text : List ℕ) → length (starting text .starts) ≡ length text
-unfolding starting
-starts-long text = length-column (length text) (charStart text)
-
-pub ends-long : (text : List ℕ) → length (starting text .ends) ≡ length text
-unfolding starting
-ends-long text = length-column (length text) (charEnd text)
-
-pub stretch-front : {text : List ℕ} {i : ℕ} {out₀ starts₀ ends₀ : List ℕ} {at : ℕ} {out starts ends : List ℕ} (k : ℕ) → k ≤ 64 → StretchRoom text i (i + 64) out₀ starts₀ ends₀ at → Stretch text i (i + 64) out₀ starts₀ ends₀ at 0 out starts ends → Stretch text i (i + k) out₀ starts₀ ends₀ at (at + 64) out starts ends
+pub stretch-front : {text : List ℕ} {i : ℕ} {out₀ starts₀ ends₀ : List ℕ} {at : ℕ} {out starts ends : List ℕ} (k : ℕ) → k ≤ 64
+    → StretchRoom text i (i + 64) out₀ starts₀ ends₀ at → Stretch text i (i + 64) out₀ starts₀ ends₀ at 0 out starts ends
+    → Stretch text i (i + k) out₀ starts₀ ends₀ at (at + 64) out starts ends
 stretch-front {text} {i} k few r s =
     record {
       text-over = over-part text i 64 k few (r .inside) (omega (arith, r .text-room)) (s .text-over);
-      starts-over = over-part (starting text .starts) i 64 k few (rw (starts-long text) (r .inside)) (omega (arith, r .starts-room)) (s .starts-over);
-      ends-over = over-part (starting text .ends) i 64 k few (rw (ends-long text) (r .inside)) (omega (arith, r .ends-room)) (s .ends-over);
+      starts-over = over-part (starting text .starts) i 64 k few (rw (length-starting-starts text) (r .inside)) (omega (arith, r .starts-room)) (s .starts-over);
+      ends-over = over-part (starting text .ends) i 64 k few (rw (length-starting-ends text) (r .inside)) (omega (arith, r .ends-room)) (s .ends-over);
     }
 
 -- a content, each byte of which carries the range of the byte before the match's end
-pub padded-laid : {text : List ℕ} {end : ℕ} {padded : List ℕ} {wide until : ℕ} {out starts ends : List ℕ} {at : ℕ} → ContentRoom text end padded wide until out starts ends at → {x y : ℕ} {out₁ starts₁ ends₁ : List ℕ} → x ≡ charStart text (end - 1) → y ≡ charEnd text (end - 1) → Over (part padded 0 wide) out at until out₁ → Over (replicate wide x) starts at until starts₁ → Over (replicate wide y) ends at until ends₁ → ContentLaid text end padded wide out starts ends at until out₁ starts₁ ends₁
+pub padded-laid : {text : List ℕ} {end : ℕ} {padded : List ℕ} {contentLen until : ℕ} {out starts ends : List ℕ} {at : ℕ}
+    → ContentRoom text end padded contentLen until out starts ends at → {x y : ℕ} {out₁ starts₁ ends₁ : List ℕ} → x ≡ charStart text (end - 1)
+    → y ≡ charEnd text (end - 1) → Over (part padded 0 contentLen) out at until out₁ → Over (replicate contentLen x) starts at until starts₁
+    → Over (replicate contentLen y) ends at until ends₁
+    → ContentLaid text end padded contentLen out starts ends at until out₁ starts₁ ends₁
 unfolding starting
 padded-laid {text} {end} r p q t s e =
     let last : end - 1 < length text = omega (arith, r .some, r .inside) in
@@ -178,7 +181,11 @@ padded-laid {text} {end} r p q t s e =
       ends-over = rw (before-some (column (length text) (charEnd text)) end (r .some), getD-column (length text) (charEnd text) (end - 1) last) (rw q at e);
     }
 
-pub padded-exact : {text : List ℕ} {end : ℕ} {content : List ℕ} {out starts ends : List ℕ} {at : ℕ} → ContentRoom text end content (length content) 0 out starts ends at → {x y : ℕ} {out₁ starts₁ ends₁ : List ℕ} → x ≡ charStart text (end - 1) → y ≡ charEnd text (end - 1) → out₁ ≡ splice out at content → starts₁ ≡ splice starts at (replicate (length content) x) → ends₁ ≡ splice ends at (replicate (length content) y) → ContentLaid text end content (length content) out starts ends at 0 out₁ starts₁ ends₁
+pub padded-exact : {text : List ℕ} {end : ℕ} {content : List ℕ} {out starts ends : List ℕ} {at : ℕ}
+    → ContentRoom text end content (length content) 0 out starts ends at → {x y : ℕ} {out₁ starts₁ ends₁ : List ℕ} → x ≡ charStart text (end - 1)
+    → y ≡ charEnd text (end - 1) → out₁ ≡ splice out at content → starts₁ ≡ splice starts at (replicate (length content) x)
+    → ends₁ ≡ splice ends at (replicate (length content) y)
+    → ContentLaid text end content (length content) out starts ends at 0 out₁ starts₁ ends₁
 padded-exact {content = content} {out} {starts} {ends} {at} r {x} {y} p q t s e =
     padded-laid r p q
     (rw (content-alone content) (over-exact content out at 0 (r .text-room) t))

@@ -32,12 +32,13 @@ pub record Blankable (text literal content : List ℕ) (i at : ℕ) (out starts 
   pub ends-room : at + placesSize (length content) (matchesFrom text literal i) ≤ length ends
 
 -- a column d that is laid before `at`, with the text from i on to come, is laid on to d₁, before at₁ and from i₁ on;
--- behind all of the result it is as it was
+-- after all of the result it is as it was
 pub record Onward (fill : ℕ → List ℕ) (text literal xs : List ℕ) (i at : ℕ) (d : List ℕ) (i₁ at₁ : ℕ) (d₁ : List ℕ)
     : Type 0 where
   pub so-far : take at₁ d₁ ++ resultFrom fill text literal xs i₁ ≡ take at d ++ resultFrom fill text literal xs i
   pub beyond :
-      drop (at + length (resultFrom fill text literal xs i)) d₁ ≡ drop (at + length (resultFrom fill text literal xs i)) d
+      drop (at + length (resultFrom fill text literal xs i)) d₁
+      ≡ drop (at + length (resultFrom fill text literal xs i)) d
   pub reach : at₁ + length (resultFrom fill text literal xs i₁) ≡ at + length (resultFrom fill text literal xs i)
   pub same : length d₁ ≡ length d
 
@@ -54,7 +55,7 @@ pub record Blanked (text literal content : List ℕ) (i at : ℕ) (out starts en
       Onward (carried (length content) (starting text .ends)) text literal (starting text .ends)
       i at ends i₁ at₁ ends₁
 
--- blocks are laid with a content in front of a filler: where so many bytes of the text are left as `margin`
+-- blocks are laid from a content and its padding: where so many bytes of the text are left as `margin`
 -- says, and 80 elements end below `until`, the result has them
 pub record Bounded (text : List ℕ) (most : ℕ) (literal content padded : List ℕ) (i at margin until : ℕ)
     : Type 0 where
@@ -92,8 +93,8 @@ pub record SearchBlockRoom (text : List ℕ) (most : ℕ) (literal : List ℕ) (
   pub high : i + length literal + 66 ≤ length text
 
 -- the literal does not stand at k positions from i on, and so much is laid; up to 64 elements are written
-pub record BlockPassed (text literal : List ℕ) (i : ℕ) (out₀ starts₀ ends₀ : List ℕ) (at k : ℕ) (out starts ends : List ℕ)
-    : Type 0 where
+pub record BlockPassed (text literal : List ℕ) (i : ℕ) (out₀ starts₀ ends₀ : List ℕ) (at k : ℕ)
+    (out starts ends : List ℕ) : Type 0 where
   pub most : k ≤ 64
   pub away : Absent text literal i (i + k)
   pub stretch : Stretch text i (i + k) out₀ starts₀ ends₀ at (at + 64) out starts ends
@@ -104,7 +105,9 @@ pub record AllBlanked (text literal content out₀ starts₀ ends₀ : List ℕ)
   pub reached : r ≡ length (resultFrom (λ end. content) text literal text 0)
   pub text-is : out ≡ overlay (resultFrom (λ end. content) text literal text 0) out₀
   pub starts-are :
-      starts ≡ overlay (resultFrom (carried (length content) (starting text .starts)) text literal (starting text .starts) 0)
+      starts
+      ≡ overlay (resultFrom (carried (length content) (starting text .starts)) text literal (starting text .starts) 0)
       starts₀
   pub ends-are :
-      ends ≡ overlay (resultFrom (carried (length content) (starting text .ends)) text literal (starting text .ends) 0) ends₀
+      ends
+      ≡ overlay (resultFrom (carried (length content) (starting text .ends)) text literal (starting text .ends) 0) ends₀

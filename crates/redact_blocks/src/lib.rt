@@ -19,8 +19,8 @@ ghost use Prim.Native.Nat.{_≤_, _<_};
 ghost use lib.ListN.{length, take};
 ghost use Rattle.buffers.specs.Same.{same};
 ghost use Rattle.find.specs.Matching.{occursAt};
-ghost use Rattle.redact_blocks.specs.Blanks.{AllBlanked, Blankable, Blanked, SearchBlockRoom, Bounded, BlockPassed};
-ghost use Rattle.redact_blocks.specs.Blanks.{FrontAt, FrontOf};
+ghost use Rattle.redact_blocks.specs.Blanks.{AllBlanked, Blankable, Blanked, BlockPassed, Bounded};
+ghost use Rattle.redact_blocks.specs.Blanks.{FrontAt, FrontOf, SearchBlockRoom};
 
 // How far a result is laid: the text's bytes before `i` are what it has before `at`.
 pub struct Reached {
@@ -73,16 +73,16 @@ pub fn blank_bytes(
     Reached { i, at }
 }
 
-// Whether the first `few` of 16 bytes are the same. No branch inside, so that the loop is vectorised.
-fn same_front(a: &[u8], b: &[u8], few: u8) -> bool
-    requires { ⌜ (16 ≤ length (now a)) × (16 ≤ length (now b)) × (few ≤ 16) ⌝ }
-    ensures { λ r. ⌜ r ≡ same (take few (now (a .entry))) (take few (now (b .entry))) ⌝ }
+// Whether the first `front_len` of 16 bytes are the same. No branch inside, so that the loop is vectorised.
+fn same_front(a: &[u8], b: &[u8], front_len: u8) -> bool
+    requires { ⌜ (16 ≤ length (now a)) × (16 ≤ length (now b)) × («front_len» ≤ 16) ⌝ }
+    ensures { λ r. ⌜ r ≡ same (take «front_len» (now (a .entry))) (take «front_len» (now (b .entry))) ⌝ }
 {
     let mut ok = true;
     let mut j: u8 = 0;
     while j < 16 {
         let k = j as usize;
-        ok = ok & ((a[k] == b[k]) | (few <= j));
+        ok = ok & ((a[k] == b[k]) | (front_len <= j));
         j += 1;
     }
     ok
@@ -94,8 +94,8 @@ fn begins(text: &[u8], literal: &[u8], front: &[u8], p: usize) -> bool
     requires { ⌜ FrontAt (now text) (now literal) (now front) p ⌝ }
     ensures { λ r. ⌜ r ≡ occursAt (now (text .entry)) (now (literal .entry)) p ⌝ }
 {
-    let few = least_of_two(16, literal.len()) as u8;
-    if !same_front(&text[p..p + 16], front, few) {
+    let front_len = least_of_two(16, literal.len()) as u8;
+    if !same_front(&text[p..p + 16], front, front_len) {
         return false;
     }
     if literal.len() <= 16 {
@@ -108,7 +108,7 @@ fn begins(text: &[u8], literal: &[u8], front: &[u8], p: usize) -> bool
 // first: the next block waits for it alone.
 fn lay_ahead(
     text: &[u8],
-    most: u8,
+    max_byte: u8,
     literal: &[u8],
     first: u8,
     last: u8,
@@ -118,7 +118,7 @@ fn lay_ahead(
     out_ends: &mut [Offset],
     at: usize,
 ) -> usize
-    requires { ⌜ SearchBlockRoom (now text) most (now literal) first last i
+    requires { ⌜ SearchBlockRoom (now text) «max_byte» (now literal) first last i
         (now out) (now «out_starts») (now «out_ends») at ⌝ }
     ensures { λ r. ⌜ BlockPassed (now (text .entry)) (now (literal .entry)) i
         (now (out .entry)) (now («out_starts» .entry)) (now («out_ends» .entry)) at r
@@ -129,7 +129,7 @@ fn lay_ahead(
     if k == 0 {
         return 0;
     }
-    lay_block(text, most, i, out, out_starts, out_ends, at);
+    lay_block(text, max_byte, i, out, out_starts, out_ends, at);
     k
 }
 
@@ -137,7 +137,7 @@ fn lay_ahead(
 // laid before `base`. `gap` is how far `at` is ahead of `i`, and the text's length: one number goes on with each block.
 pub fn blank_blocks(
     text: &[u8],
-    most: u8,
+    max_byte: u8,
     literal: &[u8],
     front: &[u8],
     content: &[u8],
@@ -152,7 +152,7 @@ pub fn blank_blocks(
 ) -> Reached
     requires { ⌜ Blankable (now text) (now literal) (now content) from base
         (now out) (now «out_starts») (now «out_ends»)
-        × Bounded (now text) most (now literal) (now content) (now padded) from base margin until
+        × Bounded (now text) «max_byte» (now literal) (now content) (now padded) from base margin until
         × (3 ≤ length (now text) → 3 ≤ from) × FrontOf (now literal) (now front) ⌝ }
     ensures { λ r. ⌜ Blanked (now (text .entry)) (now (literal .entry)) (now (content .entry)) from base
         (now (out .entry)) (now («out_starts» .entry)) (now («out_ends» .entry)) (r .i) (r .at)
@@ -160,7 +160,7 @@ pub fn blank_blocks(
 {
     let first = literal[0];
     let last = literal[literal.len() - 1];
-    let wide = content.len();
+    let len = content.len();
     let mut i = from;
     let mut gap = base + text.len() - from;
     while margin <= text.len() - i {
@@ -170,7 +170,7 @@ pub fn blank_blocks(
         }
         let k = lay_ahead(
             text,
-            most,
+            max_byte,
             literal,
             first,
             last,
@@ -185,8 +185,8 @@ pub fn blank_blocks(
             let here = at + k;
             if begins(text, literal, front, i) {
                 i += literal.len();
-                fill(text, i, padded, wide, out, out_starts, out_ends, here);
-                gap = gap + wide - literal.len();
+                fill(text, i, padded, len, out, out_starts, out_ends, here);
+                gap = gap + len - literal.len();
             } else {
                 lay_byte(text, i, out, out_starts, out_ends, here);
                 i += 1;
@@ -202,8 +202,8 @@ fn front_of(literal: &[u8]) -> [u8; 16]
     ensures { λ r. ⌜ FrontOf (now (literal .entry)) r ⌝ }
 {
     let mut front = [0u8; 16];
-    let few = least_of_two(16, literal.len());
-    copy_bytes(&literal[0..few], &mut front, 0);
+    let front_len = least_of_two(16, literal.len());
+    copy_bytes(&literal[0..front_len], &mut front, 0);
     front
 }
 
@@ -211,7 +211,7 @@ fn front_of(literal: &[u8]) -> [u8; 16]
 // left; how many bytes there are then.
 pub fn blank(
     text: &[u8],
-    most: u8,
+    max_byte: u8,
     literal: &[u8],
     content: &[u8],
     padded: &[u8],
@@ -222,7 +222,7 @@ pub fn blank(
     out_ends: &mut [Offset],
 ) -> usize
     requires { ⌜ Blankable (now text) (now literal) (now content) 0 0 (now out) (now «out_starts») (now «out_ends»)
-        × Bounded (now text) most (now literal) (now content) (now padded) 0 0 margin until ⌝ }
+        × Bounded (now text) «max_byte» (now literal) (now content) (now padded) 0 0 margin until ⌝ }
     ensures { λ r. ⌜ AllBlanked (now (text .entry)) (now (literal .entry)) (now (content .entry))
         (now (out .entry)) (now («out_starts» .entry)) (now («out_ends» .entry))
         r (now (out .exit)) (now («out_starts» .exit)) (now («out_ends» .exit)) ⌝ }
@@ -242,7 +242,7 @@ pub fn blank(
     let front = front_of(literal);
     let laid = blank_blocks(
         text,
-        most,
+        max_byte,
         literal,
         &front,
         content,

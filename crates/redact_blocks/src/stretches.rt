@@ -1,9 +1,9 @@
 // The starting note of a text, laid straight from the text: its bytes, and the alignments that it would have, counted
 // from the bytes beside them; and a content in the place of a match.
 // Each function here is an inner one: text and room were judged before.
-use buffers::blocks::copy_front_over;
 use buffers::Offset;
 use buffers::blocks::copy_bytes_block;
+use buffers::blocks::copy_front_over;
 use buffers::blocks::fill_offsets_over;
 use buffers::copy_bytes;
 use buffers::fill_offsets;
@@ -12,13 +12,9 @@ use column_blocks::plain::count_up;
 use column_blocks::runs;
 use utf8::ranges::char_end;
 use utf8::ranges::char_start;
-ghost use mathlib.Core.Path.{_≡_};
-ghost use mathlib.Core.Bool.{true};
-ghost use Prim.Native.Nat.{_+_, _-_, _≤_};
+ghost use Prim.Native.Nat.{_+_, _≤_};
 ghost use lib.ListN.{length};
-ghost use Rattle.buffers.specs.Columns.{Filled};
 ghost use Rattle.validity_blocks.specs.Extremes.{largest};
-ghost use Rattle.note.specs.Notes.{limit};
 ghost use Rattle.redact_blocks.specs.Keeping.{ContentLaid, ContentRoom, Stretch, StretchRoom};
 
 // The byte at `i` with its alignment.
@@ -42,11 +38,11 @@ pub fn lay_byte(
     out_ends[at] = end as Offset;
 }
 
-// The 64 bytes from `i` on with their alignments. No byte of the text is larger than `most`: it tells how long its
+// The 64 bytes from `i` on with their alignments. No byte of the text is larger than `max_byte`: it tells how long its
 // characters are at most.
 pub fn lay_block(
     text: &[u8],
-    most: u8,
+    max_byte: u8,
     i: usize,
     out: &mut [u8],
     out_starts: &mut [Offset],
@@ -55,18 +51,18 @@ pub fn lay_block(
 )
     requires { ⌜ StretchRoom (now text) i (i + 64) (now out) (now «out_starts») (now «out_ends») at
         × ((3 ≤ i) × (i + 67 ≤ length (now text))) ⌝ }
-    requires { ⌜ largest (now text) ≤ most ⌝ }
+    requires { ⌜ largest (now text) ≤ «max_byte» ⌝ }
     ensures { λ _. ⌜ Stretch (now (text .entry)) i (i + 64)
         (now (out .entry)) (now («out_starts» .entry)) (now («out_ends» .entry)) at 0
         (now (out .exit)) (now («out_starts» .exit)) (now («out_ends» .exit)) ⌝ }
 {
     copy_bytes_block(text, i, out, at);
-    if most < 0x80 {
+    if max_byte < 0x80 {
         count_up(i as Offset, out_starts, at);
         count_up(i as Offset + 1, out_ends, at);
         return;
     }
-    if most < 0xF0 {
+    if max_byte < 0xF0 {
         pairs::starts_block(text, i, out_starts, at);
         pairs::ends_block(text, i, out_ends, at);
         return;
@@ -75,32 +71,32 @@ pub fn lay_block(
     runs::ends_block(text, i, out_ends, at);
 }
 
-// The content, which is what `filler` has in front, in the place of a match that ends at `end`; up to 16 elements are
-// written.
+// The content, which is the first `content_len` bytes of `padded`, in the place of a match that ends at `end`; up to 16
+// elements are written.
 pub fn fill(
     text: &[u8],
     end: usize,
     padded: &[u8],
-    wide: usize,
+    content_len: usize,
     out: &mut [u8],
     out_starts: &mut [Offset],
     out_ends: &mut [Offset],
     at: usize,
 )
-    requires { ⌜ ContentRoom (now text) end (now padded) wide (at + 16)
+    requires { ⌜ ContentRoom (now text) end (now padded) «content_len» (at + 16)
         (now out) (now «out_starts») (now «out_ends») at ⌝ }
-    ensures { λ _. ⌜ ContentLaid (now (text .entry)) end (now (padded .entry)) wide
+    ensures { λ _. ⌜ ContentLaid (now (text .entry)) end (now (padded .entry)) «content_len»
         (now (out .entry)) (now («out_starts» .entry)) (now («out_ends» .entry)) at (at + 16)
         (now (out .exit)) (now («out_starts» .exit)) (now («out_ends» .exit)) ⌝ }
 {
     let first = char_start(text, end - 1) as Offset;
     let last = char_end(text, end - 1) as Offset;
-    copy_front_over(padded, wide, out, at, at + 16);
-    fill_offsets_over(first, wide, out_starts, at, at + 16);
-    fill_offsets_over(last, wide, out_ends, at, at + 16);
+    copy_front_over(padded, content_len, out, at, at + 16);
+    fill_offsets_over(first, content_len, out_starts, at, at + 16);
+    fill_offsets_over(last, content_len, out_ends, at, at + 16);
 }
 
-// The same of the content alone, by no block.
+// The content in the place of a match that ends at `end`, by no block.
 pub fn fill_exact(
     text: &[u8],
     end: usize,

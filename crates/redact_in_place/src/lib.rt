@@ -11,16 +11,18 @@ ghost use lib.ListN.{length};
 ghost use Rattle.note.specs.Notes.{limit};
 ghost use Rattle.redact_in_place.specs.InPlace.{Held, InPlace};
 
-// Room for the list of any literal's matches: one place for each, one before each, and one behind the last (RULES 9.6).
+// Room for the list of any literal's matches: one place for each match, one before each, and one after the last
+// (RULES 9.6).
 const LIST: usize = MAX_PLACE_LEN * (2 * LIMIT + 1);
 
-// Zeros for the longest text, and for one of its columns.
+// Room for the longest text.
 pub fn text_buffer() -> [u8; LIMIT]
     ensures { λ r. ⌜ limit ≡ length r ⌝ }
 {
     [0; LIMIT]
 }
 
+// Room for a column of the longest text.
 pub fn column_buffer() -> [Offset; LIMIT]
     ensures { λ r. ⌜ limit ≡ length r ⌝ }
 {

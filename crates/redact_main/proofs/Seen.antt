@@ -1,6 +1,6 @@
 -- Laws of `shown`: a text is walked character by character.
 use Prim.Native.Nat.{ℕ, suc, _+_, _≤_, _<_}
-use mathlib.Core.Path.{_≡_, _∙_, ap, refl, sym}
+use mathlib.Core.Path.{_≡_, _∙_, refl, sym}
 use mathlib.Core.Bool.{Bool, true, false, not, _&&_}
 use mathlib.Core.List.{List, [], _∷_}
 use native.Mathlib.Numerals.{add-one}
@@ -38,6 +38,6 @@ module _ {text : List ℕ} {i : ℕ} (p : Passed text i) where
   pub all-passed : length text ≤ i → true ≡ shown text
   all-passed h = sym (p .rest ∙ rw (drop-of-length-le text h, shown-none))
 
--- what the tests have said of a byte and the two behind it
+-- what the tests have said of a byte and the two after it
 pub unseen-is : (a : ℕ) {b c y z : ℕ} {t u : Bool} → y ≡ b → z ≡ c → t ≡ unseen a y z → t ≡ u → unseen a b c ≡ u
 unseen-is a yb zc is e = rw (← yb, ← zc) (sym is ∙ e)

@@ -6,7 +6,7 @@ use mathlib.Core.List.{List, [], _∷_}
 use lib.Dec.{leb, ltb, eqb}
 use lib.ListN.{getD}
 
--- a byte and the two behind it begin one of U+0000..001F, 007F..00A0, 2000..200F, 2028..202F, 205F..206F: controls,
+-- a byte and the two after it begin one of U+0000..001F, 007F..00A0, 2000..200F, 2028..202F, 205F..206F: controls,
 -- spaces other than the plain one, marks without a width, marks of direction
 unfoldable pub unseen : ℕ → ℕ → ℕ → Bool
 unseen a b c =

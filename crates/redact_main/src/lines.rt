@@ -13,7 +13,7 @@ ghost use Rattle.alignment_lines.specs.Lines.{longestLine};
 // A line for each byte of the longest text.
 const LINES: usize = LINE * LIMIT;
 
-// Zeros for so many lines.
+// Room for so many lines.
 fn lines_buffer() -> [u8; LINES]
     ensures { λ r. ⌜ longestLine * limit ≡ length r ⌝ }
 {

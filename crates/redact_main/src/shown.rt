@@ -3,7 +3,7 @@ ghost use mathlib.Core.Path.{_≡_};
 ghost use lib.ListN.{getD};
 ghost use Rattle.redact_main.specs.Shown.{unseen as Shown·unseen, shown as Shown·shown};
 
-// Whether a byte and the two behind it begin a character that is not to be seen.
+// Whether a byte and the two after it begin a character that is not to be seen.
 fn unseen(a: u8, b: u8, c: u8) -> bool
     ensures { λ r. ⌜ r ≡ Shown·unseen a b c ⌝ }
 {
@@ -13,7 +13,7 @@ fn unseen(a: u8, b: u8, c: u8) -> bool
     control | ((a == 0xE2) & (low | high))
 }
 
-// The byte at `i`, 0 behind the text.
+// The byte at `i`, 0 after the text.
 fn byte_at(text: &[u8], i: usize) -> u8
     ensures { λ r. ⌜ r ≡ getD (now (text .entry)) i 0 ⌝ }
 {

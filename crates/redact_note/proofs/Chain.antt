@@ -1,6 +1,6 @@
 -- The claims about chains: a step of two notes by `blanking`, and notes that are alike stay so.
 use Prim.Native.Nat.{ℕ}
-use mathlib.Core.Path.{_≡_, _∙_, ap, refl, sym}
+use mathlib.Core.Path.{_≡_, _∙_, ap, refl}
 use mathlib.Core.Logic.{inl, inr, ⊎-elim}
 use mathlib.Core.List.{List, [], _∷_}
 use Rattle.note.specs.Notes.{Note}
@@ -20,7 +20,11 @@ call-left {n = n} {s = s} {left = left} c =
 
 -- one step of two notes
 module _ {most : ℕ} {n m nʹ mʹ : Note} {s : Step} (c : StepCall most n s nʹ) (d : StepCall most m s mʹ) where
-  both-ways : (Equal (published (c .size) (c .out) (c .starts) (c .ends)) (published (d .size) (d .out) (d .starts) (d .ends)) → Agree n m (placesOf (s .list)) (s .content)) × (Agree n m (placesOf (s .list)) (s .content) → Equal (published (c .size) (c .out) (c .starts) (c .ends)) (published (d .size) (d .out) (d .starts) (d .ends)))
+  both-ways :
+      (Equal (published (c .size) (c .out) (c .starts) (c .ends)) (published (d .size) (d .out) (d .starts) (d .ends))
+      → Agree n m (placesOf (s .list)) (s .content))
+      × (Agree n m (placesOf (s .list)) (s .content)
+      → Equal (published (c .size) (c .out) (c .starts) (c .ends)) (published (d .size) (d .out) (d .starts) (d .ends)))
   both-ways = blanking most n m (s .list) (s .content) (c .size) (d .size) _ _ _ _ _ _ _ _ _ _ _ _ (c .replacing) (d .replacing)
 
   alike-agree : Alike nʹ mʹ → Agree n m (placesOf (s .list)) (s .content)

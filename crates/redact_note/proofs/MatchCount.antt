@@ -47,7 +47,7 @@ between-tallied a e =
     (λ h. (ap (placesSize 0) (between-none h) ∙ omega (arith, none-tallied .0), ap matchCount (between-none h) ∙ none-tallied .1))
     (λ h. (ap (placesSize 0) (between-some h) ∙ unmatched-tallied a e .0, ap matchCount (between-some h) ∙ unmatched-tallied a e .1))
 
--- from a position on, up to the next match and behind it, or up to the end
+-- from a position on, up to the next match and after it, or up to the end
 module _ {text literal : List ℕ} {at p : ℕ} (s : Searched text literal at p) where
   tally-more : p < length text → Tally (matchesFrom text literal at) ((p - at) + placesSize 0 (matchesFrom text literal (p + length literal))) (1 + matchCount (matchesFrom text literal (p + length literal)))
   tally-more h =
@@ -100,14 +100,14 @@ module _ {text literal : List ℕ} {count p : ℕ} (c : Counting text literal co
   pub next-onward : {q : ℕ} → q ≡ firstFrom text literal (p + length literal) → p < q
   next-onward next = omega (arith, c .stands h .some, first-there (searched-more (c .stands h) h next) .from)
 
--- a content of `wide` bytes for each match
-sizes-tallied : (wide : ℕ) (ps : List Place) → placesSize wide ps ≡ placesSize 0 ps + matchCount ps * wide
+-- a content of `contentLen` bytes for each match
+sizes-tallied : (contentLen : ℕ) (ps : List Place) → placesSize contentLen ps ≡ placesSize 0 ps + matchCount ps * contentLen
 unfolding placesSize placeSize matchCount
-sizes-tallied wide [] = omega arith
-sizes-tallied wide (p ∷ ps) =
+sizes-tallied contentLen [] = omega arith
+sizes-tallied contentLen (p ∷ ps) =
     true-or-false (p .matched)
-    (λ t. rw t (omega (arith, sizes-tallied wide ps, add-mul 1 (matchCount ps) wide)))
-    (λ f. rw f (omega (arith, sizes-tallied wide ps, add-mul 0 (matchCount ps) wide)))
+    (λ t. rw t (omega (arith, sizes-tallied contentLen ps, add-mul 1 (matchCount ps) contentLen)))
+    (λ f. rw f (omega (arith, sizes-tallied contentLen ps, add-mul 0 (matchCount ps) contentLen)))
 
 -- the matches and what they leave are the text
 module _ (text literal : List ℕ) where
@@ -133,9 +133,9 @@ module _ (text literal : List ℕ) where
       (λ one. let t = unmatched-tallied 0 (length text) in rw (one, t .0, t .1) (omega arith))
       (λ some all. rw all (omega (arith, rest-whole (suc (length text)) 0 (firstFrom text literal 0) (omega arith) (record { some = some; most = omega arith; next = refl }))))
 
-  pub found-size : (wide : ℕ) {count : ℕ} → count ≡ matchCount (foundPlaces text literal) → blankedSize (length text) count (length literal) wide ≡ placesSize wide (foundPlaces text literal)
+  pub found-size : (contentLen : ℕ) {count : ℕ} → count ≡ matchCount (foundPlaces text literal) → blankedSize (length text) count (length literal) contentLen ≡ placesSize contentLen (foundPlaces text literal)
   unfolding blankedSize
-  found-size wide {count} is = rw is (omega (arith, found-total, sizes-tallied wide (foundPlaces text literal)))
+  found-size contentLen {count} is = rw is (omega (arith, found-total, sizes-tallied contentLen (foundPlaces text literal)))
 
   -- an empty literal has no match, and each match of another one has a byte
   few : {count : ℕ} → count ≡ matchCount (foundPlaces text literal) → count ≤ length text
@@ -152,17 +152,17 @@ module _ (text literal : List ℕ) where
       record { short = short; few = few is; inside = omega (arith, whole) }
 
 -- the size that fits
-module _ (wide : ℕ) {size count narrow room : ℕ} (m : Matched size count narrow) (small : room ≤ limit) where
-  pub none-fits : count ≡ 0 → leb size room ≡ leb (blankedSize size count narrow wide) room
+module _ (contentLen : ℕ) {size count literalLen room : ℕ} (m : Matched size count literalLen) (small : room ≤ limit) where
+  pub none-fits : count ≡ 0 → leb size room ≡ leb (blankedSize size count literalLen contentLen) room
   unfolding blankedSize
   none-fits none =
-      let same : (size - count * narrow) + count * wide ≡ size = rw none (omega (arith, zero-mul narrow, zero-mul wide)) in
+      let same : (size - count * literalLen) + count * contentLen ≡ size = rw none (omega (arith, zero-mul literalLen, zero-mul contentLen)) in
       rw same
 
-  pub wide-over : (count ≡ 0 → ⊥) → room < wide → false ≡ leb (blankedSize size count narrow wide) room
+  pub wide-over : (count ≡ 0 → ⊥) → room < contentLen → false ≡ leb (blankedSize size count literalLen contentLen) room
   unfolding blankedSize
   wide-over some over =
-      sym (lt-leb _ room (omega (arith, one-mul wide, mul-le-mul-right {m = 1} {n = count} wide (omega arith))))
+      sym (lt-leb _ room (omega (arith, one-mul contentLen, mul-le-mul-right {m = 1} {n = count} contentLen (omega arith))))
 
-  pub product-small : wide ≤ room → count * wide ≤ limit * limit
-  product-small h = mul-le-mul {n₁ = count} {m₁ = wide} {n₂ = limit} {m₂ = limit} (omega (arith, m .few, m .short)) (omega arith)
+  pub product-small : contentLen ≤ room → count * contentLen ≤ limit * limit
+  product-small h = mul-le-mul {n₁ = count} {m₁ = contentLen} {n₂ = limit} {m₂ = limit} (omega (arith, m .few, m .short)) (omega arith)

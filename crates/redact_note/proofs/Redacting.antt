@@ -17,7 +17,7 @@ use Rattle.note.specs.declared.Refusal.{Refusal}
 use Rattle.note.specs.declared.Refusal.the-variants.{NoRoom, Misaligned}
 use Rattle.note.specs.declared.Verdict.{Verdict}
 use Rattle.note.specs.declared.Verdict.the-variants.{Accepted, Refused as Rejected}
-use Rattle.note.specs.Refusals.{none, meets, also, least, verdict, after}
+use Rattle.note.specs.Refusals.{none, meets, also, least, verdict, after, unlessRefused}
 use Rattle.note.specs.Rank.{earlier}
 use Rattle.note.specs.Notes.{Note, limit, fits}
 use Rattle.note.specs.Faults.{noteFaults, stringFaults, roomFaults}
@@ -38,26 +38,28 @@ use Rattle.replace.specs.Sizes.{placesSize}
 use Rattle.replace.specs.Laying.{Ready, AllLaid}
 use Rattle.replace.proofs.Sizes.{length-laid}
 use Rattle.replace.proofs.Faults.{ready}
-use Rattle.redact_note.specs.declared.Redaction.{Redaction}
 use Rattle.redact_note.specs.declared.Redaction.the-variants.{Published, Refused}
-use Rattle.redact_note.specs.Redacting.{matchCount, blanked, inputFaults, roomsFaults, redactFaults, redaction, NoteRedacted, BlankedCall}
-use Rattle.redact_note.specs.Blanks.{blankedSize, roomsFit, Searchable, NoteBlankable, NoteBlanked}
+use Rattle.redact_note.specs.Redacting.{matchCount, blankedNote, noteInputFaults, roomsFaults, noteRedactFaults, NoteRedacted, BlankedCall}
+use Rattle.redact_note.specs.Blanks.{blankedSize, roomsFit, NoteBlankable, NoteBlanked}
 use Rattle.redact_note.proofs.MatchCount.{found-size}
 
 -- the inputs
-pub inputs-judged : (most : ℕ) (n : Note) (literal content : List ℕ) {u v w s r : Verdict} → u ≡ verdict (noteFaults most n) → v ≡ verdict (stringFaults literal) → w ≡ verdict (stringFaults content) → s ≡ earlier v w → r ≡ earlier u s → r ≡ verdict (inputFaults most n literal content)
+pub inputs-judged : (most : ℕ) (n : Note) (literal content : List ℕ) {u v w s r : Verdict} → u ≡ verdict (noteFaults most n) → v ≡ verdict (stringFaults literal) → w ≡ verdict (stringFaults content) → s ≡ earlier v w → r ≡ earlier u s → r ≡ verdict (noteInputFaults most n literal content)
 inputs-judged most n literal content nu lv cw strings all =
     earlier-of (noteFaults most n) (also (stringFaults literal) (stringFaults content)) nu (earlier-of (stringFaults literal) (stringFaults content) lv cw strings) all
 
 -- the rooms, one after the other
-module _ (text literal : List ℕ) (wide a b : ℕ) where
-  pub no-list : {t : Bool} → t ≡ leb (length (foundBytes text literal)) a → not t ≡ true → false ≡ roomsFit limit text literal wide a b
+module _ (text literal : List ℕ) (contentLen a b : ℕ) where
+  pub no-list : {t : Bool} → t ≡ leb (length (foundBytes text literal)) a → not t ≡ true → false ≡ roomsFit limit text literal contentLen a b
   unfolding roomsFit
   no-list {t} is short = sym (and-false-l _ _ (sym is ∙ not-true t short))
 
-  pub as-result : {t u : Bool} {count room : ℕ} → t ≡ leb (length (foundBytes text literal)) a → not t ≡ false → count ≡ matchCount (foundPlaces text literal) → room ≡ min limit b → u ≡ leb (blankedSize (length text) count (length literal) wide) room → u ≡ roomsFit limit text literal wide a b
+  pub as-result : {t u : Bool} {count room : ℕ} → t ≡ leb (length (foundBytes text literal)) a → not t ≡ false
+      → count ≡ matchCount (foundPlaces text literal) → room ≡ min limit b
+      → u ≡ leb (blankedSize (length text) count (length literal) contentLen) room
+      → u ≡ roomsFit limit text literal contentLen a b
   unfolding roomsFit
-  as-result {t} is enough counted room e = rw (sym is ∙ not-false t enough, ← found-size text literal wide counted, ← room) e
+  as-result {t} is enough counted room e = rw (sym is ∙ not-false t enough, ← found-size text literal contentLen counted, ← room) e
 
 -- what accepted inputs are
 pub record Formed (n : Note) (literal content : List ℕ) : Type 0 where
@@ -72,9 +74,9 @@ unfolding fits
 normalized-short most n within =
     leb-true (length (n .normalized)) most (and-elim-right (leb (length (n .original)) most) _ (and-elim-left (leb (length (n .original)) most && leb (length (n .normalized)) most) _ within))
 
-pub inputs-formed : (n : Note) (literal content : List ℕ) {v : Verdict} → v ≡ verdict (inputFaults limit n literal content) → v ≡ Accepted → Formed n literal content
+pub inputs-formed : (n : Note) (literal content : List ℕ) {v : Verdict} → v ≡ verdict (noteInputFaults limit n literal content) → v ≡ Accepted → Formed n literal content
 inputs-formed n literal content says is =
-    let e : verdict (inputFaults limit n literal content) ≡ Accepted = sym says ∙ is in
+    let e : verdict (noteInputFaults limit n literal content) ≡ Accepted = sym says ∙ is in
     let first = accepted-first (noteFaults limit n) (also (stringFaults literal) (stringFaults content)) e in
     let strings = accepted-second (noteFaults limit n) (also (stringFaults literal) (stringFaults content)) e in
     let sound = accepted-sound limit n first in
@@ -96,18 +98,19 @@ module _ (n : Note) (literal content : List ℕ) (f : Formed n literal content) 
   unfolding verdict
   content-accepted = rw (f .content-formed)
 
-  blanked-length : length (blanked n literal content .text) ≡ placesSize (length content) (foundPlaces (n .normalized) literal)
+  blanked-length : length (blankedNote n literal content .text) ≡ placesSize (length content) (foundPlaces (n .normalized) literal)
   unfolding replaced
   blanked-length =
-      length-laid (n .normalized) (n .normalized) (λ end. content) (length content) 0 (placesOf (foundBytes (n .normalized) literal)) refl (λ e. refl) (covers-places (n .normalized) (foundBytes (n .normalized) literal) (found-covers (n .normalized) literal (f .text-formed) (f .literal-formed) (f .short)))
+      length-laid (n .normalized) (n .normalized) (λ end. content) (length content) 0 (placesOf (foundBytes (n .normalized) literal)) refl (λ e. refl)
+      (covers-places (n .normalized) (foundBytes (n .normalized) literal) (found-covers (n .normalized) literal (f .text-formed) (f .literal-formed) (f .short)))
       ∙ ap (placesSize (length content)) (found-read (n .normalized) literal (f .short))
 
   -- `replace` accepts the note with the list, where there is room
-  replace-accepts : (room : ℕ) → verdict (roomFaults (length (blanked n literal content .text)) (min limit room)) ≡ Accepted → verdict (replaceFaults limit n (foundBytes (n .normalized) literal) content room) ≡ Accepted
+  replace-accepts : (room : ℕ) → verdict (roomFaults (length (blankedNote n literal content .text)) (min limit room)) ≡ Accepted → verdict (replaceFaults limit n (foundBytes (n .normalized) literal) content room) ≡ Accepted
   replace-accepts room fits =
-      both-accepted (also (noteFaults limit n) (stringFaults content)) (also (listFaults (n .normalized) (foundBytes (n .normalized) literal)) (roomFaults (length (blanked n literal content .text)) (min limit room)))
+      both-accepted (also (noteFaults limit n) (stringFaults content)) (also (listFaults (n .normalized) (foundBytes (n .normalized) literal)) (roomFaults (length (blankedNote n literal content .text)) (min limit room)))
       (both-accepted (noteFaults limit n) (stringFaults content) (f .noted) content-accepted)
-      (both-accepted (listFaults (n .normalized) (foundBytes (n .normalized) literal)) (roomFaults (length (blanked n literal content .text)) (min limit room)) list-covers fits)
+      (both-accepted (listFaults (n .normalized) (foundBytes (n .normalized) literal)) (roomFaults (length (blankedNote n literal content .text)) (min limit room)) list-covers fits)
 
 rooms-verdict : (x y : Bool) → verdict (also (meets NoRoom (not x) none) (meets NoRoom (not y) none)) ≡ cond (x && y) Accepted (Rejected NoRoom)
 unfolding verdict
@@ -115,39 +118,39 @@ rooms-verdict true true = refl
 rooms-verdict true false = refl
 rooms-verdict false y = refl
 
-module _ (n : Note) (literal content : List ℕ) (a b : ℕ) {v : Verdict} (e : v ≡ verdict (inputFaults limit n literal content)) where
-  pub inputs-refused : {k : Refusal} → v ≡ Rejected k → Rejected k ≡ verdict (redactFaults limit n literal content a b)
-  inputs-refused is = refused-then (upTo Misaligned) (inputFaults limit n literal content) (roomsFaults limit n literal content a b) refl refl e is
+module _ (n : Note) (literal content : List ℕ) (a b : ℕ) {v : Verdict} (e : v ≡ verdict (noteInputFaults limit n literal content)) where
+  pub inputs-refused : {k : Refusal} → v ≡ Rejected k → Rejected k ≡ verdict (noteRedactFaults limit n literal content a b)
+  inputs-refused is = refused-then (upTo Misaligned) (noteInputFaults limit n literal content) (roomsFaults limit n literal content a b) refl refl e is
 
   module _ (is : v ≡ Accepted) {t : Bool} (fits : t ≡ roomsFit limit (n .normalized) literal (length content) a b) where
     rooms-said : verdict (roomsFaults limit n literal content a b) ≡ cond t Accepted (Rejected NoRoom)
     unfolding roomsFit
     rooms-said =
-        rooms-verdict (leb (length (foundBytes (n .normalized) literal)) a) (leb (length (blanked n literal content .text)) (min limit b))
+        rooms-verdict (leb (length (foundBytes (n .normalized) literal)) a) (leb (length (blankedNote n literal content .text)) (min limit b))
         ∙ rw (blanked-length n literal content (inputs-formed n literal content e is), ← fits)
 
-    then-rooms : {w : Verdict} → w ≡ verdict (roomsFaults limit n literal content a b) → w ≡ verdict (redactFaults limit n literal content a b)
-    then-rooms w = accepted-then (upTo Misaligned) (inputFaults limit n literal content) (roomsFaults limit n literal content a b) refl refl e is w
+    then-rooms : {w : Verdict} → w ≡ verdict (roomsFaults limit n literal content a b) → w ≡ verdict (noteRedactFaults limit n literal content a b)
+    then-rooms w = accepted-then (upTo Misaligned) (noteInputFaults limit n literal content) (roomsFaults limit n literal content a b) refl refl e is w
 
-    pub rooms-refused : not t ≡ true → Rejected NoRoom ≡ verdict (redactFaults limit n literal content a b)
+    pub rooms-refused : not t ≡ true → Rejected NoRoom ≡ verdict (noteRedactFaults limit n literal content a b)
     rooms-refused short = then-rooms (sym (rooms-said ∙ rw (not-true t short)))
 
-    pub all-accepted : not t ≡ false → Accepted ≡ verdict (redactFaults limit n literal content a b)
+    pub all-accepted : not t ≡ false → Accepted ≡ verdict (noteRedactFaults limit n literal content a b)
     all-accepted enough = then-rooms (sym (rooms-said ∙ rw (not-false t enough)))
 
 -- what an accepted call says
-module _ (n : Note) (literal content : List ℕ) (a b : ℕ) (ok : Accepted ≡ verdict (redactFaults limit n literal content a b)) where
+module _ (n : Note) (literal content : List ℕ) (a b : ℕ) (ok : Accepted ≡ verdict (noteRedactFaults limit n literal content a b)) where
   all-formed : Formed n literal content
-  all-formed = inputs-formed n literal content {v = Accepted} (sym (accepted-first (inputFaults limit n literal content) (roomsFaults limit n literal content a b) (sym ok))) refl
+  all-formed = inputs-formed n literal content {v = Accepted} (sym (accepted-first (noteInputFaults limit n literal content) (roomsFaults limit n literal content a b) (sym ok))) refl
 
   rooms-accepted : verdict (roomsFaults limit n literal content a b) ≡ Accepted
-  rooms-accepted = accepted-second (inputFaults limit n literal content) (roomsFaults limit n literal content a b) (sym ok)
+  rooms-accepted = accepted-second (noteInputFaults limit n literal content) (roomsFaults limit n literal content a b) (sym ok)
 
   list-fits : length (foundBytes (n .normalized) literal) ≤ a
-  list-fits = room-enough (length (foundBytes (n .normalized) literal)) a (accepted-first (roomFaults (length (foundBytes (n .normalized) literal)) a) (roomFaults (length (blanked n literal content .text)) (min limit b)) rooms-accepted)
+  list-fits = room-enough (length (foundBytes (n .normalized) literal)) a (accepted-first (roomFaults (length (foundBytes (n .normalized) literal)) a) (roomFaults (length (blankedNote n literal content .text)) (min limit b)) rooms-accepted)
 
   replaces : verdict (replaceFaults limit n (foundBytes (n .normalized) literal) content b) ≡ Accepted
-  replaces = replace-accepts n literal content all-formed b (accepted-second (roomFaults (length (foundBytes (n .normalized) literal)) a) (roomFaults (length (blanked n literal content .text)) (min limit b)) rooms-accepted)
+  replaces = replace-accepts n literal content all-formed b (accepted-second (roomFaults (length (foundBytes (n .normalized) literal)) a) (roomFaults (length (blankedNote n literal content .text)) (min limit b)) rooms-accepted)
 
 -- a written list is the front of its buffer
 module _ (text literal list₀ : List ℕ) {list : List ℕ} {r : ℕ} (w : (r ≡ length (foundBytes text literal)) × (list ≡ overlay (foundBytes text literal) list₀)) where
@@ -165,15 +168,15 @@ module _ (text literal list₀ : List ℕ) {list : List ℕ} {r : ℕ} (w : (r �
 
 -- the call
 module _ (n : Note) (literal content list₀ out₀ starts₀ ends₀ : List ℕ) {room : ℕ} (rooms : room ≡ least (length out₀) (length starts₀) (length ends₀)) where
-  all-rooms : {v : Verdict} → v ≡ verdict (redactFaults limit n literal content (length list₀) room) → v ≡ verdict (redactFaults limit n literal content (length list₀) (least (length out₀) (length starts₀) (length ends₀)))
-  all-rooms e = e ∙ ap (λ (r : ℕ). verdict (redactFaults limit n literal content (length list₀) r)) rooms
+  all-rooms : {v : Verdict} → v ≡ verdict (noteRedactFaults limit n literal content (length list₀) room) → v ≡ verdict (noteRedactFaults limit n literal content (length list₀) (least (length out₀) (length starts₀) (length ends₀)))
+  all-rooms e = e ∙ ap (λ (r : ℕ). verdict (noteRedactFaults limit n literal content (length list₀) r)) rooms
 
   -- a refusal leaves every buffer
-  pub refused-all : {k : Refusal} → Rejected k ≡ verdict (redactFaults limit n literal content (length list₀) room) → NoteRedacted limit n literal content list₀ out₀ starts₀ ends₀ (Refused k) list₀ out₀ starts₀ ends₀
+  pub refused-all : {k : Refusal} → Rejected k ≡ verdict (noteRedactFaults limit n literal content (length list₀) room) → NoteRedacted limit n literal content list₀ out₀ starts₀ ends₀ (Refused k) list₀ out₀ starts₀ ends₀
   refused-all {k} is =
       record { says = Rejected k; says-is = all-rooms is; answer = refl; list-is = refl; text-is = refl; starts-are = refl; ends-are = refl }
 
-  module _ (ok : Accepted ≡ verdict (redactFaults limit n literal content (length list₀) room)) where
+  module _ (ok : Accepted ≡ verdict (noteRedactFaults limit n literal content (length list₀) room)) where
     pub all-blankable : {first : ℕ} → first ≡ firstMatch (n .normalized) literal → NoteBlankable (n .normalized) (n .starts) (n .ends) literal content first list₀ out₀ starts₀ ends₀
     all-blankable is =
         record {
@@ -183,10 +186,12 @@ module _ (n : Note) (literal content list₀ out₀ starts₀ ends₀ : List ℕ
               (ap (λ (v : Verdict). publication v (placesSize (length content) (placesOf (foundBytes (n .normalized) literal)))) (replaces n literal content (length list₀) room ok));
         }
 
-    pub all-blanked : {size count : ℕ} {list out starts ends : List ℕ} → count ≡ matchCount (foundPlaces (n .normalized) literal) → NoteBlanked (n .normalized) (n .starts) (n .ends) literal content list₀ out₀ starts₀ ends₀ size list out starts ends → NoteRedacted limit n literal content list₀ out₀ starts₀ ends₀ (Published size count) list out starts ends
+    pub all-blanked : {size count : ℕ} {list out starts ends : List ℕ} → count ≡ matchCount (foundPlaces (n .normalized) literal)
+        → NoteBlanked (n .normalized) (n .starts) (n .ends) literal content list₀ out₀ starts₀ ends₀ size list out starts ends
+        → NoteRedacted limit n literal content list₀ out₀ starts₀ ends₀ (Published size count) list out starts ends
     unfolding replaced
     all-blanked {size} {count} counted h =
-        let sized : size ≡ length (blanked n literal content .text) = h .laid .reached in
+        let sized : size ≡ length (blankedNote n literal content .text) = h .laid .reached in
         record {
           says = Accepted;
           says-is = all-rooms ok;
@@ -198,7 +203,7 @@ module _ (n : Note) (literal content list₀ out₀ starts₀ ends₀ : List ℕ
         }
 
 -- a call that has published
-pub says-published : (v : Verdict) (size count m k : ℕ) → Published size count ≡ redaction v m k → (v ≡ Accepted) × (size ≡ m)
+pub says-published : (v : Verdict) (size count m k : ℕ) → Published size count ≡ unlessRefused Refused v (Published m k) → (v ≡ Accepted) × (size ≡ m)
 says-published Accepted size count m k e = (refl, cc)
 says-published (Rejected j) size count m k e = let z : _≡_ {A = ℕ} 0 1 = cc in absurd (omega arith)
 
@@ -210,7 +215,7 @@ blanked-call n literal content list₀ out₀ starts₀ ends₀ size count list 
       says = Accepted;
       says-is = sym (replaces n literal content (length list₀) _ (sym ok ∙ call .says-is));
       answer = ap Replaced (said .1);
-      text-is = call .text-is ∙ ap (λ (v : Verdict). after v (blanked n literal content .text) out₀) ok;
-      starts-are = call .starts-are ∙ ap (λ (v : Verdict). after v (blanked n literal content .starts) starts₀) ok;
-      ends-are = call .ends-are ∙ ap (λ (v : Verdict). after v (blanked n literal content .ends) ends₀) ok;
+      text-is = call .text-is ∙ ap (λ (v : Verdict). after v (blankedNote n literal content .text) out₀) ok;
+      starts-are = call .starts-are ∙ ap (λ (v : Verdict). after v (blankedNote n literal content .starts) starts₀) ok;
+      ends-are = call .ends-are ∙ ap (λ (v : Verdict). after v (blankedNote n literal content .ends) ends₀) ok;
     }

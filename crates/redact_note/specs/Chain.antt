@@ -11,7 +11,7 @@ use Rattle.replace.specs.declared.Publication.the-variants.{Published}
 use Rattle.replace.specs.Replacing.{replaced, Replacing, resulting}
 use Rattle.replace.specs.Blanking.{Equal, Agree, published}
 
--- what a replacement is lent beside a note
+-- what a replacement is given beside a note
 pub record Step : Type 0 where
   pub list : List ℕ
   pub content : List ℕ
@@ -20,7 +20,7 @@ pub record Step : Type 0 where
 abbrev pub leftBy : Step → Note → Note
 leftBy s n = resulting n (replaced (placesOf (s .list)) (s .content) n)
 
--- a call of `replace` that publishes, whatever buffers it is lent, and the note that is put together from what it has
+-- a call of `replace` that publishes, whatever buffers it is passed, and the note that is put together from what it has
 -- published and the transcript
 pub record StepCall (most : ℕ) (n : Note) (s : Step) (left : Note) : Type 0 where
   pub out₀ : List ℕ

@@ -7,8 +7,7 @@ use mathlib.Core.List.{List, [], _∷_}
 use lib.ListN.{length}
 use Rattle.note.specs.declared.Refusal.{Refusal}
 use Rattle.note.specs.declared.Verdict.{Verdict}
-use Rattle.note.specs.declared.Verdict.the-variants.{Accepted, Refused as Rejected}
-use Rattle.note.specs.Refusals.{also, least, verdict, after}
+use Rattle.note.specs.Refusals.{also, least, verdict, after, unlessRefused}
 use Rattle.note.specs.Notes.{Note, limit}
 use Rattle.note.specs.Faults.{noteFaults, stringFaults, roomFaults}
 use Rattle.pattern.specs.declared.Place.{Place}
@@ -26,42 +25,38 @@ matchCount [] = 0
 matchCount (p ∷ ps) = cond (p .matched) 1 0 + matchCount ps
 
 -- what is published of a note: the literal's matches in the cleaned text give way to the content, the filler
-abbrev pub blanked : Note → List ℕ → List ℕ → PublishedNote
-blanked n literal content = replaced (placesOf (foundBytes (n .normalized) literal)) content n
+abbrev pub blankedNote : Note → List ℕ → List ℕ → PublishedNote
+blankedNote n literal content = replaced (placesOf (foundBytes (n .normalized) literal)) content n
 
 -- the refusals of the inputs: the note's, the literal's, the content's
-abbrev pub inputFaults : ℕ → Note → List ℕ → List ℕ → Refusal → Bool
-inputFaults most n literal content = also (noteFaults most n) (also (stringFaults literal) (stringFaults content))
+abbrev pub noteInputFaults : ℕ → Note → List ℕ → List ℕ → Refusal → Bool
+noteInputFaults most n literal content = also (noteFaults most n) (also (stringFaults literal) (stringFaults content))
 
 -- those of the rooms: for the list, and for what is published
 abbrev pub roomsFaults : ℕ → Note → List ℕ → List ℕ → ℕ → ℕ → Refusal → Bool
 roomsFaults most n literal content list result =
     also (roomFaults (length (foundBytes (n .normalized) literal)) list)
-    (roomFaults (length (blanked n literal content .text)) (min most result))
+    (roomFaults (length (blankedNote n literal content .text)) (min most result))
 
-abbrev pub redactFaults : ℕ → Note → List ℕ → List ℕ → ℕ → ℕ → Refusal → Bool
-redactFaults most n literal content list result =
-    also (inputFaults most n literal content) (roomsFaults most n literal content list result)
+abbrev pub noteRedactFaults : ℕ → Note → List ℕ → List ℕ → ℕ → ℕ → Refusal → Bool
+noteRedactFaults most n literal content list result =
+    also (noteInputFaults most n literal content) (roomsFaults most n literal content list result)
 
--- the answer: how many bytes are published and how many matches gave way, or the refusal
-abbrev pub redaction : Verdict → ℕ → ℕ → Redaction
-redaction Accepted size count = Published size count
-redaction (Rejected k) size count = Refused k
-
--- THE CALL: limit, note, literal and content, the four lent buffers before, the answer, the four after; the last three
--- are published
+-- THE CALL: limit, note, literal and content, the four passed buffers before, the answer, the four after; the last
+-- three are published
 pub record NoteRedacted (most : ℕ) (n : Note) (literal content list₀ out₀ starts₀ ends₀ : List ℕ) (r : Redaction)
     (list out starts ends : List ℕ) : Type 0 where
   pub says : Verdict
   pub says-is :
-      says ≡ verdict (redactFaults most n literal content (length list₀)
+      says ≡ verdict (noteRedactFaults most n literal content (length list₀)
       (least (length out₀) (length starts₀) (length ends₀)))
   pub answer :
-      r ≡ redaction says (length (blanked n literal content .text)) (matchCount (foundPlaces (n .normalized) literal))
+      r ≡ unlessRefused Refused says
+      (Published (length (blankedNote n literal content .text)) (matchCount (foundPlaces (n .normalized) literal)))
   pub list-is : list ≡ after says (foundBytes (n .normalized) literal) list₀
-  pub text-is : out ≡ after says (blanked n literal content .text) out₀
-  pub starts-are : starts ≡ after says (blanked n literal content .starts) starts₀
-  pub ends-are : ends ≡ after says (blanked n literal content .ends) ends₀
+  pub text-is : out ≡ after says (blankedNote n literal content .text) out₀
+  pub starts-are : starts ≡ after says (blankedNote n literal content .starts) starts₀
+  pub ends-are : ends ≡ after says (blankedNote n literal content .ends) ends₀
 
 -- CLAIM: a call that publishes is a call of `replace` on that note, by the list of the literal's matches.
 abbrev pub BlankedCall : Type 0

@@ -24,8 +24,9 @@ ghost use Rattle.note.specs.Notes.{lent, limit};
 ghost use Rattle.note.specs.Refusals.{verdict};
 ghost use Rattle.find.specs.Matching.{foundPlaces};
 ghost use Rattle.find.specs.Searching.{firstMatch};
-ghost use Rattle.redact_note.specs.Redacting.{NoteRedacted, inputFaults, matchCount};
-ghost use Rattle.redact_note.specs.Blanks.{NoteBlankable, NoteBlanked, Matched, Searchable, blankedSize, roomsFit};
+ghost use Rattle.redact_note.specs.Redacting.{NoteRedacted, noteInputFaults, matchCount};
+ghost use Rattle.redact_note.specs.Blanks.{NoteBlankable, NoteBlanked, Matched, Searchable};
+ghost use Rattle.redact_note.specs.Blanks.{blankedSize, roomsFit};
 
 // What is published: how many bytes, and how many matches gave way; or why nothing is.
 pub enum Redaction {
@@ -43,7 +44,7 @@ fn check_inputs(
     literal: &[u8],
     content: &[u8],
 ) -> Verdict
-    ensures { λ r. ⌜ r ≡ verdict (inputFaults limit
+    ensures { λ r. ⌜ r ≡ verdict (noteInputFaults limit
         (lent (now (original .entry)) (now (normalized .entry))
         (now (starts .entry)) (now (ends .entry)) «original_shift»)
         (now (literal .entry)) (now (content .entry))) ⌝ }
@@ -67,19 +68,25 @@ fn count_matches(text: &[u8], literal: &[u8], first: usize) -> usize
     count
 }
 
-// Whether so much room holds a text of `size` bytes of which `count` matches of `narrow` bytes each give way to `wide`
-// bytes each.
-fn blanked_fits(size: usize, count: usize, narrow: usize, wide: usize, room: usize) -> bool
-    requires { ⌜ Matched size count narrow × (room ≤ limit) ⌝ }
-    ensures { λ r. ⌜ r ≡ leb (blankedSize size count narrow wide) room ⌝ }
+// Whether so much room holds a text of `size` bytes of which `count` matches of `literal_len` bytes each give way to
+// `content_len` bytes each.
+fn blanked_fits(
+    size: usize,
+    count: usize,
+    literal_len: usize,
+    content_len: usize,
+    room: usize,
+) -> bool
+    requires { ⌜ Matched size count «literal_len» × (room ≤ limit) ⌝ }
+    ensures { λ r. ⌜ r ≡ leb (blankedSize size count «literal_len» «content_len») room ⌝ }
 {
     if count == 0 {
         return size <= room;
     }
-    if room < wide {
+    if room < content_len {
         return false;
     }
-    size - count * narrow + count * wide <= room
+    size - count * literal_len + count * content_len <= room
 }
 
 // Whether so much room holds the list of the matches, and so much what is published.
@@ -88,13 +95,13 @@ fn rooms_fit(
     literal: &[u8],
     first: usize,
     count: usize,
-    wide: usize,
+    content_len: usize,
     list_room: usize,
     room: usize,
 ) -> bool
     requires { ⌜ Searchable (now text) (now literal) first
         × (count ≡ matchCount (foundPlaces (now text) (now literal))) ⌝ }
-    ensures { λ r. ⌜ r ≡ roomsFit limit (now (text .entry)) (now (literal .entry)) wide «list_room» room ⌝ }
+    ensures { λ r. ⌜ r ≡ roomsFit limit (now (text .entry)) (now (literal .entry)) «content_len» «list_room» room ⌝ }
 {
     if !list_fits(text, literal, first, list_room) {
         return false;
@@ -103,7 +110,7 @@ fn rooms_fit(
         text.len(),
         count,
         literal.len(),
-        wide,
+        content_len,
         least_of_two(LIMIT, room),
     )
 }
@@ -143,7 +150,7 @@ fn blank(
     )
 }
 
-// Blanks every match of the literal in the cleaned text of a note: the list of the matches stands in front of `list`,
+// Blanks every match of the literal in the cleaned text of a note: the list of the matches is in front of `list`,
 // and what is published in front of `out`, `out_starts` and `out_ends`. It judges, in this order: `TooLong`,
 // `LengthMismatch`, `IllFormed` (a text, literal or content), `Misaligned`, `NoRoom`.
 pub fn redact_note(

@@ -5,9 +5,7 @@ use mathlib.Core.Bool.{true}
 use mathlib.Core.List.{List}
 use native.Mathlib.Omega.{arith}
 use lib.ListN.{length, getD, take, length-replicate}
-use Rattle.buffers.specs.Splice.{overlay}
 use Rattle.buffers.proofs.Splice.{take-overlay, replicate-same, replicate-value}
-use Rattle.note.specs.declared.Verdict.the-variants.{Accepted}
 use Rattle.note.specs.Refusals.{after}
 use Rattle.note.specs.Notes.{Note, beforeEnd}
 use Rattle.note.proofs.BeforeEnd.{before-some}
@@ -35,17 +33,17 @@ carried-length : (k : ℕ) (xs ys : List ℕ) (e : ℕ) → length (carried k xs
 carried-length k xs ys e = length-replicate k _ ∙ sym (length-replicate k _)
 
 -- one column of two notes
-module _ (t xs ys : List ℕ) (wide : ℕ) (ps : List Place) (c : coversFrom t 0 ps ≡ true) (lx : length xs ≡ length t) (ly : length ys ≡ length t) where
-  column-laid : SameColumn (carried wide xs) (carried wide ys) 0 ps xs ys → laid (carried wide xs) ps xs ≡ laid (carried wide ys) ps ys
-  column-laid = agree-laid t xs ys (carried wide xs) (carried wide ys) lx ly (carried-length wide xs ys) 0 ps c
+module _ (t xs ys : List ℕ) (contentLen : ℕ) (ps : List Place) (c : coversFrom t 0 ps ≡ true) (lx : length xs ≡ length t) (ly : length ys ≡ length t) where
+  column-laid : SameColumn (carried contentLen xs) (carried contentLen ys) 0 ps xs ys → laid (carried contentLen xs) ps xs ≡ laid (carried contentLen ys) ps ys
+  column-laid = agree-laid t xs ys (carried contentLen xs) (carried contentLen ys) lx ly (carried-length contentLen xs ys) 0 ps c
 
-  column-agree : laid (carried wide xs) ps xs ≡ laid (carried wide ys) ps ys → SameColumn (carried wide xs) (carried wide ys) 0 ps xs ys
-  column-agree = laid-agree t xs ys (carried wide xs) (carried wide ys) lx ly (carried-length wide xs ys) 0 ps c
+  column-agree : laid (carried contentLen xs) ps xs ≡ laid (carried contentLen ys) ps ys → SameColumn (carried contentLen xs) (carried contentLen ys) 0 ps xs ys
+  column-agree = laid-agree t xs ys (carried contentLen xs) (carried contentLen ys) lx ly (carried-length contentLen xs ys) 0 ps c
 
 -- both ways, for what the definition makes of the two notes
 module _ (n m : Note) (list content : List ℕ) (tn : Taken n list) (tm : Taken m list) where
-  wide : ℕ
-  wide = length content
+  contentLen : ℕ
+  contentLen = length content
 
   starts-long : length (m .starts) ≡ length (n .normalized)
   starts-long = tm .one-start ∙ (taken-length n m list tn tm)

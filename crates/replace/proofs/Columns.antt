@@ -8,8 +8,8 @@ use lib.ListN.{length, replicate, drop, length-append, length-replicate}
 use lib.Seq.{take-length}
 use Rattle.buffers.specs.Splice.{part, splice}
 use Rattle.buffers.specs.Over.{Over, Source, Reaching}
-use Rattle.buffers.proofs.Splice.{length-part, part-front, splice-overlay, take-overlay}
-use Rattle.buffers.proofs.Over.{over-exact, over-front, through, none-reached, run-reached, all-reached, reaching-size}
+use Rattle.buffers.proofs.Splice.{length-part, splice-overlay, take-overlay}
+use Rattle.buffers.proofs.Over.{none-reached, run-reached, all-reached, reaching-size}
 use Rattle.note.specs.Notes.{beforeEnd}
 use Rattle.pattern.specs.declared.Place.{Place}
 use Rattle.pattern.specs.declared.Entry.{Entry}
@@ -25,48 +25,50 @@ use Rattle.replace.proofs.Sizes.{size-matched, size-unmatched, length-p
 use Rattle.replace.proofs.Laid.{piece-matched, piece-unmatched}
 
 -- one place: its elements where it is unmatched, and what stands in its place where it is matched
-module _ {column : List ℕ} {wide : ℕ} {p : Place} {until : ℕ} {d : List ℕ} {at : ℕ} (r : PlaceRoom column wide p until d at) where
+module _ {column : List ℕ} {contentLen : ℕ} {p : Place} {until : ℕ} {d : List ℕ} {at : ℕ} (r : PlaceRoom column contentLen p until d at) where
   pub place-source : p .matched ≡ false → Source column (p .start .0) (p .end .0) d at until
   place-source u =
       record {
         onward = r .onward;
         inside = r .inside;
-        room = omega (arith, r .room, size-unmatched p wide u);
+        room = omega (arith, r .room, size-unmatched p contentLen u);
         until-room = r .until-room;
       }
 
-  pub content-source : (padded : List ℕ) → p .matched ≡ true → wide ≤ length padded → Source padded 0 wide d at until
+  pub content-source : (padded : List ℕ) → p .matched ≡ true → contentLen ≤ length padded → Source padded 0 contentLen d at until
   content-source padded t h =
-      record { onward = omega arith; inside = h; room = omega (arith, r .room, size-matched p wide t); until-room = r .until-room }
+      record { onward = omega arith; inside = h; room = omega (arith, r .room, size-matched p contentLen t); until-room = r .until-room }
 
-  pub content-room : p .matched ≡ true → (at + wide ≤ length d) × (until ≤ length d)
-  content-room t = (omega (arith, r .room, size-matched p wide t), r .until-room)
+  pub content-room : p .matched ≡ true → (at + contentLen ≤ length d) × (until ≤ length d)
+  content-room t = (omega (arith, r .room, size-matched p contentLen t), r .until-room)
 
-module _ (fill : ℕ → List ℕ) (column : List ℕ) (wide : ℕ) (p : Place) {until : ℕ} {d₀ : List ℕ} {at : ℕ} {d : List ℕ} where
-  pub place-kept : p .matched ≡ false → Over (part column (p .start .0) (p .end .0)) d₀ at until d → PlaceLaid fill column wide p until d₀ at (at + (p .end .0 - p .start .0)) d
-  place-kept u o = record { reached = rw (size-unmatched p wide u); holds = rw (piece-unmatched fill p column u) o }
+module _ (fill : ℕ → List ℕ) (column : List ℕ) (contentLen : ℕ) (p : Place) {until : ℕ} {d₀ : List ℕ} {at : ℕ} {d : List ℕ} where
+  pub place-kept : p .matched ≡ false → Over (part column (p .start .0) (p .end .0)) d₀ at until d → PlaceLaid fill column contentLen p until d₀ at (at + (p .end .0 - p .start .0)) d
+  place-kept u o = record { reached = rw (size-unmatched p contentLen u); holds = rw (piece-unmatched fill p column u) o }
 
-  pub place-filled : p .matched ≡ true → Over (fill (p .end .0)) d₀ at until d → PlaceLaid fill column wide p until d₀ at (at + wide) d
-  place-filled t o = record { reached = rw (size-matched p wide t); holds = rw (piece-matched fill p column t) o }
+  pub place-filled : p .matched ≡ true → Over (fill (p .end .0)) d₀ at until d → PlaceLaid fill column contentLen p until d₀ at (at + contentLen) d
+  place-filled t o = record { reached = rw (size-matched p contentLen t); holds = rw (piece-matched fill p column t) o }
 
 -- a place that is filled by the number that the column has before its end
-pub carried-filled : (column : List ℕ) (wide : ℕ) (p : Place) {until : ℕ} {d₀ : List ℕ} {at : ℕ} {d : List ℕ} {x : ℕ} → p .matched ≡ true → x ≡ beforeEnd column (p .end .0) → Over (replicate wide x) d₀ at until d → PlaceLaid (carried wide column) column wide p until d₀ at (at + wide) d
-carried-filled column wide p t is o = place-filled (carried wide column) column wide p t (rw is at o)
+pub carried-filled : (column : List ℕ) (contentLen : ℕ) (p : Place) {until : ℕ} {d₀ : List ℕ} {at : ℕ} {d : List ℕ} {x : ℕ} → p .matched ≡ true
+    → x ≡ beforeEnd column (p .end .0) → Over (replicate contentLen x) d₀ at until d
+    → PlaceLaid (carried contentLen column) column contentLen p until d₀ at (at + contentLen) d
+carried-filled column contentLen p t is o = place-filled (carried contentLen column) column contentLen p t (rw is at o)
 
 -- of a column the places before i are laid down, up to `at`
-pub record Going (fill : ℕ → List ℕ) (column list : List ℕ) (wide until : ℕ) (d₀ : List ℕ) (at i : ℕ) (d : List ℕ) : Type 0 where
+pub record Going (fill : ℕ → List ℕ) (column list : List ℕ) (contentLen until : ℕ) (d₀ : List ℕ) (at i : ℕ) (d : List ℕ) : Type 0 where
   pub text : List ℕ
   pub long : length column ≡ length text
-  pub wides : (e : ℕ) → length (fill e) ≡ wide
+  pub wides : (e : ℕ) → length (fill e) ≡ contentLen
   pub below : until ≤ length (laid fill (placesOf list) column)
   pub from : ℕ
   pub covered : coversFrom text from (placesOf (drop i list)) ≡ true
   pub inside : i ≤ length list
   pub reaching : Reaching (laid fill (placesOf list) column) (laid fill (placesOf (drop i list)) column) d₀ at d
 
-pub none-going : (fill : ℕ → List ℕ) {column list : List ℕ} {wide until : ℕ} {d : List ℕ} → ((e : ℕ) → length (fill e) ≡ wide) → ColumnReady column list wide until d → Going fill column list wide until d 0 0 d
-none-going fill {column} {list} {wide} wides r =
-    let size : length (laid fill (placesOf list) column) ≡ placesSize wide (placesOf list) = length-laid (r .text) column fill wide 0 (placesOf list) (r .long) wides (r .covered) in
+pub none-going : (fill : ℕ → List ℕ) {column list : List ℕ} {contentLen until : ℕ} {d : List ℕ} → ((e : ℕ) → length (fill e) ≡ contentLen) → ColumnReady column list contentLen until d → Going fill column list contentLen until d 0 0 d
+none-going fill {column} {list} {contentLen} wides r =
+    let size : length (laid fill (placesOf list) column) ≡ placesSize contentLen (placesOf list) = length-laid (r .text) column fill contentLen 0 (placesOf list) (r .long) wides (r .covered) in
     record {
       text = r .text;
       long = r .long;
@@ -78,7 +80,7 @@ none-going fill {column} {list} {wide} wides r =
       reaching = none-reached _ _ (omega (arith, r .room));
     }
 
-module _ {fill : ℕ → List ℕ} {column list : List ℕ} {wide until : ℕ} {d₀ : List ℕ} {at i : ℕ} {d : List ℕ} (g : Going fill column list wide until d₀ at i d) where
+module _ {fill : ℕ → List ℕ} {column list : List ℕ} {contentLen until : ℕ} {d₀ : List ℕ} {at i : ℕ} {d : List ℕ} (g : Going fill column list contentLen until d₀ at i d) where
   module _ {entry : Entry} {p : Place} {next : ℕ} (is : entry ≡ entryAt list i) (there : entry ≡ At p next) where
     step : Stepped list i p next
     step = entry-step list is there
@@ -86,14 +88,14 @@ module _ {fill : ℕ → List ℕ} {column list : List ℕ} {wide until : ℕ} {
     covered-here : coversFrom (g .text) (g .from) (p ∷ placesOf (drop next list)) ≡ true
     covered-here = rw (step .places) at (g .covered)
 
-    size : length (piece fill p column) ≡ placeSize wide p
-    size = length-piece (g .text) column fill wide (g .from) p (g .long) (g .wides) (covers-first (g .text) (g .from) p (placesOf (drop next list)) covered-here)
+    size : length (piece fill p column) ≡ placeSize contentLen p
+    size = length-piece (g .text) column fill contentLen (g .from) p (g .long) (g .wides) (covers-first (g .text) (g .from) p (placesOf (drop next list)) covered-here)
 
     here : Reaching (laid fill (placesOf list) column) (piece fill p column ++ laid fill (placesOf (drop next list)) column) d₀ at d
     unfolding laid
     here = rw (step .places) at (g .reaching)
 
-    pub place-room : PlaceRoom column wide p until d at
+    pub place-room : PlaceRoom column contentLen p until d at
     place-room =
         let span : Span (g .text) (g .from) p = covers-span (g .text) (g .from) p (placesOf (drop next list)) covered-here in
         record {
@@ -103,7 +105,7 @@ module _ {fill : ℕ → List ℕ} {column list : List ℕ} {wide until : ℕ} {
           until-room = omega (arith, g .below, here .room, reaching-size here);
         }
 
-    pub going-on : {at₁ : ℕ} {d₁ : List ℕ} → PlaceLaid fill column wide p until d at at₁ d₁ → Going fill column list wide until d₀ at₁ next d₁
+    pub going-on : {at₁ : ℕ} {d₁ : List ℕ} → PlaceLaid fill column contentLen p until d at at₁ d₁ → Going fill column list contentLen until d₀ at₁ next d₁
     going-on l =
         record {
           text = g .text;
@@ -135,8 +137,8 @@ module _ {fill : ℕ → List ℕ} {column list : List ℕ} {wide until : ℕ} {
 pub carried-wide : (k : ℕ) (xs : List ℕ) (e : ℕ) → length (carried k xs e) ≡ k
 carried-wide k xs e = length-replicate k (beforeEnd xs e)
 
-pub padded-wide : (padded : List ℕ) (wide : ℕ) → wide ≤ length padded → (e : ℕ) → length (part padded 0 wide) ≡ wide
-padded-wide padded wide h e = omega (arith, length-part padded 0 wide h)
+pub padded-wide : (padded : List ℕ) (contentLen : ℕ) → contentLen ≤ length padded → (e : ℕ) → length (part padded 0 contentLen) ≡ contentLen
+padded-wide padded contentLen h e = omega (arith, length-part padded 0 contentLen h)
 
 -- a content that stands in front of its padding, or alone
 pub content-padded : (content zeros : List ℕ) {padded : List ℕ} → padded ≡ splice zeros 0 content → part padded 0 (length content) ≡ content

@@ -143,7 +143,9 @@ measured-size most n list content room answers e =
     omega (arith, says-published (verdict (replaceFaults most n list content room)) _ _ (sym e ∙ answers) .1)
 
 -- the call
-module _ (most : ℕ) (n : Note) (list content out₀ starts₀ ends₀ : List ℕ) {r : Publication} {room : ℕ} (rooms : room ≡ least (length out₀) (length starts₀) (length ends₀)) (answers : r ≡ publication (verdict (replaceFaults most n list content room)) (placesSize (length content) (placesOf list))) where
+module _ (most : ℕ) (n : Note) (list content out₀ starts₀ ends₀ : List ℕ) {r : Publication} {room : ℕ}
+    (rooms : room ≡ least (length out₀) (length starts₀) (length ends₀))
+    (answers : r ≡ publication (verdict (replaceFaults most n list content room)) (placesSize (length content) (placesOf list))) where
   said : r ≡ publication (verdict (replaceFaults most n list content (least (length out₀) (length starts₀) (length ends₀)))) (placesSize (length content) (placesOf list))
   said = answers ∙ ap (λ (x : ℕ). publication (verdict (replaceFaults most n list content x)) (placesSize (length content) (placesOf list))) rooms
 

@@ -1,7 +1,7 @@
 -- Laws of `laid`: two columns are laid alike exactly when they agree outside the matched places and on what stands in theirs.
 use Prim.Native.Nat.{ℕ, _-_, _≤_, _<_}
 use mathlib.Core.Path.{_≡_, _∙_, ap, refl, sym}
-use mathlib.Core.Bool.{Bool, true, false}
+use mathlib.Core.Bool.{true, false}
 use mathlib.Core.List.{List, [], _∷_, List·Memᴰ, List·Memᴰ·head, List·Memᴰ·tail, List·Memᴰ·not-nil, List·Memᴰ·cases-cons}
 use mathlib.Core.Logic.{⊎-elim}
 use native.Mathlib.Omega.{arith}
@@ -35,7 +35,7 @@ outside-first q ps p h o r m t from to =
     (λ more. o r more t from to)
     (List·Memᴰ·cases-cons m)
 
--- the matched places of a list that covers from `at` on begin there or behind
+-- the matched places of a list that covers from `at` on begin there or later
 place-from : (text : List ℕ) (at : ℕ) (ps : List Place) → coversFrom text at ps ≡ true → (q : Place) → List·Memᴰ q ps → at ≤ q .start .0
 place-from text at [] c q m = absurd (List·Memᴰ·not-nil m)
 place-from text at (p ∷ ps) c q m =

@@ -1,7 +1,7 @@
 -- An accepted replacement leaves a sound note: it is built of stretches of the note.
-use Prim.Native.Nat.{ℕ, _≤_}
-use mathlib.Core.Path.{_≡_, _∙_, refl, sym}
-use mathlib.Core.Bool.{Bool, true, false, _&&_}
+use Prim.Native.Nat.{ℕ}
+use mathlib.Core.Path.{_≡_}
+use mathlib.Core.Bool.{true, _&&_}
 use mathlib.Mathlib.Data.Bool.Basic.{and-intro, and-elim-left, and-elim-right}
 use mathlib.Core.List.{List, [], _∷_}
 use native.Mathlib.Omega.{arith}
@@ -11,14 +11,14 @@ use borrow.Author.Tests.{eq-eqb, le-leb}
 use Rattle.buffers.proofs.Cases.{true-or-false}
 use Rattle.utf8.specs.Formed.{wellFormed, boundary}
 use Rattle.utf8.proofs.Boundaries.{boundary-zero}
-use Rattle.note.specs.Notes.{Note, fits, paired, textsFormed, beforeEnd, Sound}
+use Rattle.note.specs.Notes.{Note, fits, paired, textsFormed, Sound}
 use Rattle.note.proofs.Sound.{original-formed, normalized-formed}
 use Rattle.note.proofs.Stretch.{Stretch, joined, before-le, carried-stretch, kept-stretch, empty-stretch, stretch-aligned}
 use Rattle.pattern.specs.declared.Place.{Place}
 use Rattle.pattern.specs.Entries.{placesOf}
 use Rattle.pattern.specs.Places.{coversFrom}
 use Rattle.pattern.proofs.Places.{Span, covers-span, covers-rest}
-use Rattle.replace.specs.Replacing.{piece, laid, carried, replaced, resulting, ReplacedSound}
+use Rattle.replace.specs.Replacing.{piece, laid, carried, replaced, ReplacedSound}
 use Rattle.replace.proofs.Laid.{piece-matched, piece-unmatched}
 use Rattle.replace.proofs.Faults.{accepted-note, accepted-content, accepted-taken, accepted-room}
 

@@ -4,7 +4,6 @@ use mathlib.Core.Path.{_≡_, _∙_, ap, refl, sym}
 use mathlib.Core.Bool.{Bool, cond}
 use mathlib.Core.List.{List, [], _∷_, _++_}
 use native.Mathlib.Omega.{arith}
-use lib.ListN.{length}
 use Rattle.buffers.proofs.Cases.{true-or-false}
 use Rattle.note.specs.Notes.{Note}
 use Rattle.pattern.specs.declared.Place.{Place}

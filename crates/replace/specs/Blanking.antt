@@ -1,6 +1,6 @@
 -- RULES 10: what can still be told of the bytes under the blanks. Two notes, one list and one content, both accepted:
--- the published
--- notes are equal exactly when the notes agree outside the matched places and on what the content carries.
+-- the published notes are equal exactly when the notes agree outside the matched places and on what the content
+-- carries.
 use Prim.Native.Nat.{ℕ, _-_, _≤_, _<_}
 use mathlib.Core.Path.{_≡_}
 use mathlib.Core.Bool.{true}

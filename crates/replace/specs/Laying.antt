@@ -12,26 +12,26 @@ use Rattle.pattern.specs.Places.{coversFrom}
 use Rattle.replace.specs.Replacing.{piece, laid, carried}
 use Rattle.replace.specs.Sizes.{placeSize, placesSize}
 
--- a place of a column, and room for what it gives beside a content of `wide` bytes
-pub record PlaceRoom (column : List ℕ) (wide : ℕ) (p : Place) (until : ℕ) (d : List ℕ) (at : ℕ) : Type 0 where
+-- a place of a column, and room for what it gives beside a content of `contentLen` bytes
+pub record PlaceRoom (column : List ℕ) (contentLen : ℕ) (p : Place) (until : ℕ) (d : List ℕ) (at : ℕ) : Type 0 where
   pub onward : p .start .0 ≤ p .end .0
   pub inside : p .end .0 ≤ length column
-  pub room : at + placeSize wide p ≤ length d
+  pub room : at + placeSize contentLen p ≤ length d
   pub until-room : until ≤ length d
 
 -- what it gives stands in d from `at` on
-pub record PlaceLaid (fill : ℕ → List ℕ) (column : List ℕ) (wide : ℕ) (p : Place) (until : ℕ) (d₀ : List ℕ) (at r : ℕ)
-    (d : List ℕ) : Type 0 where
-  pub reached : r ≡ at + placeSize wide p
+pub record PlaceLaid (fill : ℕ → List ℕ) (column : List ℕ) (contentLen : ℕ) (p : Place) (until : ℕ) (d₀ : List ℕ)
+    (at r : ℕ) (d : List ℕ) : Type 0 where
+  pub reached : r ≡ at + placeSize contentLen p
   pub holds : Over (piece fill p column) d₀ at until d
 
 -- a list that covers a text of the column's length, and room for what it gives, which is no less than `until`
-pub record ColumnReady (column list : List ℕ) (wide until : ℕ) (d : List ℕ) : Type 0 where
+pub record ColumnReady (column list : List ℕ) (contentLen until : ℕ) (d : List ℕ) : Type 0 where
   pub text : List ℕ
   pub long : length column ≡ length text
   pub covered : coversFrom text 0 (placesOf list) ≡ true
-  pub room : placesSize wide (placesOf list) ≤ length d
-  pub below : until ≤ placesSize wide (placesOf list)
+  pub room : placesSize contentLen (placesOf list) ≤ length d
+  pub below : until ≤ placesSize contentLen (placesOf list)
 
 -- what the places give of a column stands in front of d
 pub record ColumnLaid (fill : ℕ → List ℕ) (column list d₀ : List ℕ) (r : ℕ) (d : List ℕ) : Type 0 where

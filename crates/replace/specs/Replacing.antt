@@ -22,7 +22,7 @@ use Rattle.replace.specs.declared.Publication.the-variants.{Published, R
 unfoldable pub piece : (ℕ → List ℕ) → Place → List ℕ → List ℕ
 piece fill p xs = cond (p .matched) (fill (p .end .0)) (part xs (p .start .0) (p .end .0))
 
--- what all places give, one behind the other
+-- what all places give, one after the other
 unfoldable pub laid : (ℕ → List ℕ) → List Place → List ℕ → List ℕ
 laid fill [] xs = []
 laid fill (p ∷ ps) xs = piece fill p xs ++ laid fill ps xs
@@ -57,7 +57,7 @@ abbrev pub publication : Verdict → ℕ → Publication
 publication Accepted size = Published size
 publication (Rejected k) size = Refused k
 
--- THE CALL: limit, note, list and content, the lent buffers before, the answer, the lent buffers after
+-- THE CALL: limit, note, list and content, the passed buffers before, the answer, the passed buffers after
 pub record Replacing (most : ℕ) (n : Note) (list content out₀ starts₀ ends₀ : List ℕ) (r : Publication)
     (out starts ends : List ℕ) : Type 0 where
   pub says : Verdict

@@ -4,10 +4,10 @@ use mathlib.Core.Bool.{cond}
 use mathlib.Core.List.{List, [], _∷_}
 use Rattle.pattern.specs.declared.Place.{Place}
 
--- how many bytes a place gives beside a content of `wide` bytes
+-- how many bytes a place gives beside a content of `contentLen` bytes
 unfoldable pub placeSize : ℕ → Place → ℕ
-placeSize wide p = cond (p .matched) wide (p .end .0 - p .start .0)
+placeSize contentLen p = cond (p .matched) contentLen (p .end .0 - p .start .0)
 
 unfoldable pub placesSize : ℕ → List Place → ℕ
-placesSize wide [] = 0
-placesSize wide (p ∷ ps) = placeSize wide p + placesSize wide ps
+placesSize contentLen [] = 0
+placesSize contentLen (p ∷ ps) = placeSize contentLen p + placesSize contentLen ps

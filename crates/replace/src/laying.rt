@@ -1,10 +1,10 @@
-// The result of a replacement, laid place by place into the lent buffers, one column after the other.
+// The result of a replacement, laid place by place into the passed buffers, one column after the other.
 // Each function here is an inner one: the list covers the text, and there is room for the result. Blocks are laid below
 // `until`, which is within the result, and what they write past a place is overwritten by the next.
 use buffers::Offset;
 use buffers::blocks::copy_bytes_over;
-use buffers::blocks::copy_offsets_over;
 use buffers::blocks::copy_front_over;
+use buffers::blocks::copy_offsets_over;
 use buffers::blocks::fill_offsets_over;
 use buffers::copy_bytes;
 use note::before_end;
@@ -14,83 +14,83 @@ use pattern::entry_at;
 ghost use Prim.Native.Nat.{_≤_};
 ghost use lib.ListN.{length};
 ghost use Rattle.buffers.specs.Splice.{part};
-ghost use Rattle.buffers.specs.Over.{Over, Source};
 ghost use Rattle.replace.specs.Replacing.{carried};
 ghost use Rattle.pattern.specs.Entries.{placesOf};
 ghost use Rattle.replace.specs.Sizes.{placesSize};
 ghost use Rattle.replace.specs.Laying.{AllLaid, ColumnLaid, ColumnReady, PlaceLaid, PlaceRoom, Ready};
 
 // A place's bytes, or the content in the place of a matched one, in `out` from `at` on; how far it reaches then. Here
-// and below the content is what `filler` has in front, `wide` bytes.
+// and below the content is the first `content_len` bytes of `padded`.
 fn lay_bytes(
     text: &[u8],
     place: Place,
     padded: &[u8],
-    wide: usize,
+    content_len: usize,
     until: usize,
     out: &mut [u8],
     at: usize,
 ) -> usize
-    requires { ⌜ PlaceRoom (now text) wide place until (now out) at × (wide ≤ length (now padded)) ⌝ }
-    ensures { λ r. ⌜ PlaceLaid (λ end. part (now (padded .entry)) 0 wide) (now (text .entry)) wide place until
-        (now (out .entry)) at r (now (out .exit)) ⌝ }
+    requires { ⌜ PlaceRoom (now text) «content_len» place until (now out) at × («content_len» ≤ length (now padded)) ⌝ }
+    ensures { λ r. ⌜ PlaceLaid (λ end. part (now (padded .entry)) 0 «content_len») (now (text .entry)) «content_len»
+        place until (now (out .entry)) at r (now (out .exit)) ⌝ }
 {
     let start = place.start;
     let end = place.end;
     let from = start.0 as usize;
     let to = end.0 as usize;
     if place.matched {
-        copy_front_over(padded, wide, out, at, until);
-        return at + wide;
+        copy_front_over(padded, content_len, out, at, until);
+        return at + content_len;
     }
     copy_bytes_over(text, from, to, out, at, until);
     at + (to - from)
 }
 
-// A place's alignments, or for each byte of a content of `wide` bytes the alignment before its end.
+// A place's alignments, or for each byte of a content of `content_len` bytes the alignment before its end.
 fn lay_offsets(
     column: &[Offset],
     place: Place,
-    wide: usize,
+    content_len: usize,
     until: usize,
     out: &mut [Offset],
     at: usize,
 ) -> usize
-    requires { ⌜ PlaceRoom (now column) wide place until (now out) at ⌝ }
-    ensures { λ r. ⌜ PlaceLaid (carried wide (now (column .entry))) (now (column .entry)) wide place until
-        (now (out .entry)) at r (now (out .exit)) ⌝ }
+    requires { ⌜ PlaceRoom (now column) «content_len» place until (now out) at ⌝ }
+    ensures { λ r. ⌜ PlaceLaid (carried «content_len» (now (column .entry))) (now (column .entry)) «content_len»
+        place until (now (out .entry)) at r (now (out .exit)) ⌝ }
 {
     let start = place.start;
     let end = place.end;
     let from = start.0 as usize;
     let to = end.0 as usize;
     if place.matched {
-        fill_offsets_over(before_end(column, to), wide, out, at, until);
-        return at + wide;
+        fill_offsets_over(before_end(column, to), content_len, out, at, until);
+        return at + content_len;
     }
     copy_offsets_over(column, from, to, out, at, until);
     at + (to - from)
 }
 
-// Every place's bytes, one behind the other; how many they are.
+// Every place's bytes, one after the other; how many they are.
 fn lay_text(
     text: &[u8],
     list: &[u8],
     padded: &[u8],
-    wide: usize,
+    content_len: usize,
     until: usize,
     out: &mut [u8],
 ) -> usize
-    requires { ⌜ ColumnReady (now text) (now list) wide until (now out) × (wide ≤ length (now padded)) ⌝ }
-    ensures { λ r. ⌜ ColumnLaid (λ end. part (now (padded .entry)) 0 wide) (now (text .entry)) (now (list .entry))
-        (now (out .entry)) r (now (out .exit)) ⌝ }
+    requires { ⌜ ColumnReady (now text) (now list) «content_len» until (now out)
+        × («content_len» ≤ length (now padded)) ⌝ }
+    ensures { λ r. ⌜ ColumnLaid (λ end. part (now (padded .entry)) 0 «content_len») (now (text .entry))
+        (now (list .entry)) (now (out .entry)) r (now (out .exit)) ⌝ }
 {
     let mut at = 0;
     let mut i = 0;
     while i < list.len() {
         match entry_at(list, i) {
             Entry::At(place, next) => {
-                at = lay_bytes(text, place, padded, wide, until, out, at);
+                at = lay_bytes(text, place, padded, content_len, until, out, at);
                 i = next;
             }
             Entry::Broken => return at,
@@ -103,12 +103,12 @@ fn lay_text(
 fn lay_column(
     column: &[Offset],
     list: &[u8],
-    wide: usize,
+    content_len: usize,
     until: usize,
     out: &mut [Offset],
 ) -> usize
-    requires { ⌜ ColumnReady (now column) (now list) wide until (now out) ⌝ }
-    ensures { λ r. ⌜ ColumnLaid (carried wide (now (column .entry))) (now (column .entry)) (now (list .entry))
+    requires { ⌜ ColumnReady (now column) (now list) «content_len» until (now out) ⌝ }
+    ensures { λ r. ⌜ ColumnLaid (carried «content_len» (now (column .entry))) (now (column .entry)) (now (list .entry))
         (now (out .entry)) r (now (out .exit)) ⌝ }
 {
     let mut at = 0;
@@ -116,7 +116,7 @@ fn lay_column(
     while k < list.len() {
         match entry_at(list, k) {
             Entry::At(place, next) => {
-                at = lay_offsets(column, place, wide, until, out, at);
+                at = lay_offsets(column, place, content_len, until, out, at);
                 k = next;
             }
             Entry::Broken => return at,
@@ -139,7 +139,7 @@ fn lay_filled(text: &[u8], list: &[u8], content: &[u8], until: usize, out: &mut 
     lay_text(text, list, &padded, content.len(), until, out)
 }
 
-// Every place of a list that covers the text, one behind the other; how many bytes they give.
+// Every place of a list that covers the text, one after the other; how many bytes they give.
 pub fn lay_out(
     normalized: &[u8],
     starts: &[Offset],

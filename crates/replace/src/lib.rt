@@ -33,14 +33,14 @@ pub enum Publication {
     Refused(Refusal),
 }
 
-// How many bytes a place gives beside a content of `wide` bytes.
-fn place_size(place: Place, wide: usize) -> usize
-    ensures { λ r. ⌜ r ≡ placeSize wide place ⌝ }
+// How many bytes a place gives beside a content of `content_len` bytes.
+fn place_size(place: Place, content_len: usize) -> usize
+    ensures { λ r. ⌜ r ≡ placeSize «content_len» place ⌝ }
 {
     let start = place.start;
     let end = place.end;
     if place.matched {
-        return wide;
+        return content_len;
     }
     if end.0 < start.0 {
         return 0;
@@ -48,17 +48,17 @@ fn place_size(place: Place, wide: usize) -> usize
     (end.0 - start.0) as usize
 }
 
-// How many bytes the places of a list give beside a content of `wide` bytes; one more than the limit where they are
-// more.
-pub fn result_len(list: &[u8], wide: usize) -> usize
-    ensures { λ r. ⌜ r ≡ min (limit + 1) (placesSize wide (placesOf (now (list .entry)))) ⌝ }
+// How many bytes the places of a list give beside a content of `content_len` bytes; one more than the limit where they
+// are more.
+pub fn result_len(list: &[u8], content_len: usize) -> usize
+    ensures { λ r. ⌜ r ≡ min (limit + 1) (placesSize «content_len» (placesOf (now (list .entry)))) ⌝ }
 {
     let mut total: usize = 0;
     let mut i = 0;
     while i < list.len() {
         match entry_at(list, i) {
             Entry::At(place, next) => {
-                let size = place_size(place, wide);
+                let size = place_size(place, content_len);
                 if LIMIT - total < size {
                     return LIMIT + 1;
                 }
@@ -71,23 +71,23 @@ pub fn result_len(list: &[u8], wide: usize) -> usize
     total
 }
 
-// Whether a list covers the text and its result fits the room that is lent; how many bytes that is.
-fn check_list(text: &[u8], list: &[u8], wide: usize, room: usize) -> Publication
+// Whether a list covers the text and its result fits the given room; how many bytes that is.
+fn check_list(text: &[u8], list: &[u8], content_len: usize, room: usize) -> Publication
     ensures { λ r. ⌜ r ≡ publication (verdict (also (listFaults (now (text .entry)) (now (list .entry)))
-        (roomFaults (placesSize wide (placesOf (now (list .entry)))) (min limit room))))
-        (placesSize wide (placesOf (now (list .entry)))) ⌝ }
+        (roomFaults (placesSize «content_len» (placesOf (now (list .entry)))) (min limit room))))
+        (placesSize «content_len» (placesOf (now (list .entry)))) ⌝ }
 {
     if !covers(text, list) {
         return Publication::Refused(Refusal::BadMatches);
     }
-    let size = result_len(list, wide);
+    let size = result_len(list, content_len);
     if least_of_two(LIMIT, room) < size {
         return Publication::Refused(Refusal::NoRoom);
     }
     Publication::Published(size)
 }
 
-// What `replace` answers for a note, a list and a content beside the room that is lent.
+// What `replace` answers for a note, a list and a content beside the given room.
 pub fn check_replace(
     original: &[u8],
     normalized: &[u8],
@@ -111,8 +111,8 @@ pub fn check_replace(
     }
 }
 
-// Matched places of the cleaned text give way to the content: text and alignments of the result stand in front of the
-// lent buffers.
+// Matched places of the cleaned text give way to the content: text and alignments of the result are in front of the
+// passed buffers.
 pub fn replace(
     original: &[u8],
     normalized: &[u8],

@@ -15,7 +15,7 @@ fn found(case: &[u8], out: &mut [u8]) -> bool {
     is_list(case, 3, answer, out)
 }
 
-// A text, a literal, the lent list; the refusal, its size, the list.
+// A text, a literal, room for the list; the refusal, its size, the list.
 pub fn find_matches(case: &[u8]) -> bool {
     let mut out = io::large_buffer();
     let o = bytes(case, 2, &mut out);

@@ -46,7 +46,7 @@ fn started(case: &[u8], starts: &mut [Offset], ends: &mut [Offset]) -> bool {
     are_columns(case, 3, refusal, starts, ends)
 }
 
-// A text, the lent starts and ends; the refusal, the two columns.
+// A text, room for starts and ends; the refusal, the two columns.
 pub fn from_text(case: &[u8]) -> bool {
     let mut starts = zeros();
     let mut ends = zeros();

@@ -8,6 +8,7 @@ use lib.ListN.{length, take}
 use borrow.Author.Tests.{ne-eqb}
 use Rattle.buffers.specs.Splice.{Laid}
 use Rattle.note.specs.Notes.{Note, lent, limit}
+use Rattle.note.specs.Refusals.{OnThree}
 use Rattle.convert.specs.Converting.{rangeOf}
 use Rattle.transform.specs.Transforming.{wholeOriginal}
 use Rattle.stored_answers.specs.Calls.{appendNumber, clearNumber, filterNumber, mapNumber, redactNumber, replaceNumber, transformNumber, transformRangeNumber}
@@ -17,7 +18,7 @@ use Rattle.stored_answers.proofs.Splice.{take-laid}
 use Rattle.zulmyren.specs.declared.answers.Count.{Count}
 use Rattle.zulmyren.specs.declared.answers.Lengths.{Lengths}
 use Rattle.zulmyren.specs.Calls.{sideOf}
-use Rattle.zulmyren.specs.Contracts.{OnThree, RedactCall, ReplaceCall}
+use Rattle.zulmyren.specs.Contracts.{RedactCall, ReplaceCall}
 use Rattle.zulmyren.specs.Edits.{AppendTold, ClearTold, FilterTold, PrependTold, TransformTold}
 use Rattle.replayed_edits.specs.Replaying.{
   CallAnswered,
@@ -43,7 +44,11 @@ module _ (case : List ℕ) {out₀ s₀ e₀ : List ℕ} {a : Count} {out s e : 
     pub replace-lent : {list content : List ℕ} → list ≡ fieldOf 5 case → content ≡ fieldOf 6 case → ReplaceCall (lent original normalized starts ends shift) list content out₀ s₀ e₀ a out s e → ReplaceCase case starts ends out₀ s₀ e₀ a out s e
     replace-lent l f call = coe 0 1 (i. ReplaceCall (lent (o i) (n i) starts ends (k i)) (l i) (f i) out₀ s₀ e₀ a out s e) call
 
-    pub range-lent : {side start end offset : ℕ} {script : List ℕ} → side ≡ numberAt case 5 → start ≡ numberAt case 6 → end ≡ numberAt case 7 → script ≡ fieldOf 8 case → offset ≡ numberAt case 9 → TransformTold (lent original normalized starts ends shift) (rangeOf (sideOf (eqb side 1)) start end) script offset out₀ s₀ e₀ a out s e → RangeCase case starts ends out₀ s₀ e₀ a out s e
+    pub range-lent :
+        {side start end offset : ℕ} {script : List ℕ} → side ≡ numberAt case 5 → start ≡ numberAt case 6 → end ≡ numberAt case 7
+        → script ≡ fieldOf 8 case → offset ≡ numberAt case 9
+        → TransformTold (lent original normalized starts ends shift) (rangeOf (sideOf (eqb side 1)) start end) script offset out₀ s₀ e₀ a out s e
+        → RangeCase case starts ends out₀ s₀ e₀ a out s e
     range-lent f from to b x call = coe 0 1 (i. TransformTold (lent (o i) (n i) starts ends (k i)) (rangeOf (sideOf (eqb (f i) 1)) (from i) (to i)) (b i) (x i) out₀ s₀ e₀ a out s e) call
 
     pub script-lent : {offset : ℕ} {script : List ℕ} → script ≡ fieldOf 5 case → offset ≡ numberAt case 6 → TransformTold (lent original normalized starts ends shift) (wholeOriginal original) script offset out₀ s₀ e₀ a out s e → ScriptCase case starts ends out₀ s₀ e₀ a out s e

@@ -7,6 +7,7 @@ use mathlib.Core.List.{List}
 use lib.Dec.{eqb}
 use Rattle.buffers.specs.Same.{same}
 use Rattle.note.specs.Notes.{limit}
+use Rattle.note.specs.Refusals.{OnThree}
 use Rattle.convert.specs.Converting.{rangeOf}
 use Rattle.transform.specs.Transforming.{wholeOriginal}
 use Rattle.stored_answers.specs.Calls.{appendNumber, clearNumber, filterNumber, mapNumber, redactNumber, replaceNumber, transformNumber, transformRangeNumber}
@@ -16,7 +17,7 @@ use Rattle.stored_answers.specs.Lending.{flagAt, noteAt, numberAt}
 use Rattle.zulmyren.specs.declared.answers.Count.{Count}
 use Rattle.zulmyren.specs.declared.answers.Lengths.{Lengths}
 use Rattle.zulmyren.specs.Calls.{sideOf}
-use Rattle.zulmyren.specs.Contracts.{OnThree, RedactCall, ReplaceCall}
+use Rattle.zulmyren.specs.Contracts.{RedactCall, ReplaceCall}
 use Rattle.zulmyren.specs.Edits.{AppendTold, ClearTold, FilterTold, MapTold, PrependTold, TransformTold}
 
 -- whether the fields from `index` on are a text and its columns
@@ -38,7 +39,7 @@ clearStored case index a text starts ends =
     && isNumber (fieldOf (index + 2) case) (a .left))
     && publishedStored case (index + 3) text starts ends
 
--- a call on three lent buffers, by its answer and what it leaves there, and what a case stores of them
+-- a call on three buffers, by its answer and what it leaves there, and what a case stores of them
 pub record Replayed {A : Type 0} (call : A → List ℕ → List ℕ → List ℕ → Type 0)
     (stored : A → List ℕ → List ℕ → List ℕ → Bool) (r : Bool) : Type 0 where
   pub answer : A
@@ -88,8 +89,8 @@ pub record CallAnswered (call : ℕ) (case starts ends out₀ starts₀ ends₀ 
       (cond (eqb call mapNumber) (MapCase case starts ends) (WholeCase call case starts ends)))))
       out₀ starts₀ ends₀ r out s e
 
--- the replay of a call by its number, or of clear, whose answer has two lengths; the lent buffers stand in the fields
--- from `at` on, and what is stored of the answer behind them
+-- the replay of a call by its number, or of clear, whose answer has two lengths; the buffers are in the fields
+-- from `at` on, and what is stored of the answer after them
 pub record Published (call : ℕ) (case : List ℕ) (at : ℕ) (starts ends out₀ starts₀ ends₀ : List ℕ)
     (r : Bool) : Type 0 where
   pub met :

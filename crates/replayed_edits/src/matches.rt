@@ -1,4 +1,4 @@
-// Replacing the matches of a list, and blanking a literal; the lent buffers are filled already.
+// Replacing the matches of a list, and blanking a literal; the buffers are filled already.
 use buffers::Offset;
 use stored_answers::fields::field;
 use stored_answers::fields::value;

@@ -1,4 +1,4 @@
-// The calls that publish a note, by their numbers. The lent text, starts and ends stand in the fields from `at` on,
+// The calls that publish a note, by their numbers. The buffers for text, starts and ends are in the fields from `at` on,
 // then the refusal, the size, the three buffers.
 use crate::matches::redact;
 use crate::matches::replace;

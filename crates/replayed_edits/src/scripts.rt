@@ -1,4 +1,4 @@
-// Edits by a script; the note's columns are read already, and the lent buffers filled.
+// Edits by a script; the note's columns are read already, and the buffers filled.
 use buffers::Offset;
 use stored_answers::fields::field;
 use stored_answers::fields::value;

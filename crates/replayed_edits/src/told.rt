@@ -1,4 +1,4 @@
-// Whether a call that writes a text and its columns answers, and leaves in the lent buffers, what the fields from
+// Whether a call that writes a text and its columns answers, and leaves in the buffers, what the fields from
 // `index` on say.
 use buffers::Offset;
 use stored_answers::columns::are_offsets;

@@ -1,10 +1,10 @@
-// Edits of a whole note; its columns are read already, and the lent buffers filled.
+// Edits of a whole note; its columns are read already, and the buffers filled.
 use crate::told::is_cleared;
 use buffers::Offset;
-use stored_answers::columns::FEW;
-use stored_answers::columns::numbers;
 use stored_answers::calls::APPEND;
 use stored_answers::calls::FILTER;
+use stored_answers::columns::FEW;
+use stored_answers::columns::numbers;
 use stored_answers::fields::field;
 use stored_answers::fields::value;
 use zulmyren::answers::Count;

@@ -9,13 +9,8 @@ use lib.ListN.{take}
 use Rattle.buffers.specs.Same.{same}
 use Rattle.buffers.specs.Splice.{Laid}
 use Rattle.note.specs.Notes.{lent, limit}
-use Rattle.note.specs.Refusals.{answerOf}
-use Rattle.char_offsets.specs.Positions.{CharOffsetsList}
 use Rattle.convert.specs.Converting.{rangeOf}
-use Rattle.convert_list.specs.ConvertList.{ConvertedList}
-use Rattle.slice.specs.Slicing.{Slicing}
-use Rattle.split.specs.Splitting.{PieceColumns, Splitting, columns}
-use Rattle.split_offsets.specs.SplitOffsets.{GetSplits}
+use Rattle.split.specs.Splitting.{PieceColumns, columns}
 use Rattle.piece_lines.specs.Printing.{printed}
 use Rattle.stored_answers.specs.Calls.{charOffsetsAllNumber}
 use Rattle.stored_answers.specs.Framing.{fieldOf}
@@ -33,7 +28,11 @@ use Rattle.replayed_pieces.specs.Replaying.{PairsReplayed, PairsTold, Sl
 
 -- what was read of the note
 module _ {case starts ends original normalized : List ℕ} {shift : ℕ} (o : original ≡ fieldOf 0 case) (n : normalized ≡ fieldOf 1 case) (k : shift ≡ numberAt case 4) where
-  pub slice-replayed : {side start end : ℕ} {s₀ e₀ s e : List ℕ} {a : Slice} {told first last : Bool} → side ≡ numberAt case 5 → start ≡ numberAt case 6 → end ≡ numberAt case 7 → SliceCall (lent original normalized starts ends shift) (rangeOf (sideOf (eqb side 1)) start end) s₀ e₀ a s e → told ≡ sliceStored case 10 a → first ≡ same s (offsetColumn limit (fieldOf 16 case)) → last ≡ same e (offsetColumn limit (fieldOf 17 case)) → SliceReplayed case starts ends s₀ e₀ ((told && first) && last)
+  pub slice-replayed :
+      {side start end : ℕ} {s₀ e₀ s e : List ℕ} {a : Slice} {told first last : Bool} → side ≡ numberAt case 5 → start ≡ numberAt case 6
+      → end ≡ numberAt case 7 → SliceCall (lent original normalized starts ends shift) (rangeOf (sideOf (eqb side 1)) start end) s₀ e₀ a s e
+      → told ≡ sliceStored case 10 a → first ≡ same s (offsetColumn limit (fieldOf 16 case))
+      → last ≡ same e (offsetColumn limit (fieldOf 17 case)) → SliceReplayed case starts ends s₀ e₀ ((told && first) && last)
   slice-replayed {s₀ = s₀} {e₀ = e₀} {s = s} {e = e} {a = a} f from to call t p q =
       record {
         answer = a;
@@ -44,7 +43,13 @@ module _ {case starts ends original normalized : List ℕ} {shift : ℕ} (o : or
       }
 
   module _ {list : List ℕ} {behavior : ℕ} (l : list ≡ fieldOf 5 case) (b : behavior ≡ numberAt case 6) where
-    pub split-replayed : {dropped : ℕ} {c₀ c : PieceColumns} {a : Cut} {told first last : Bool} → dropped ≡ numberAt case 7 → SplitCall (lent original normalized starts ends shift) list (behaviorOf behavior) (emptyOf (eqb dropped 1)) c₀ a c → told ≡ piecesStored case 14 a (c .starts) (c .ends) (c .shifts) (c .lengths) → first ≡ same (c .alignment-starts) (offsetColumn limit (fieldOf 21 case)) → last ≡ same (c .alignment-ends) (offsetColumn limit (fieldOf 22 case)) → SplitReplayed case starts ends c₀ ((told && first) && last)
+    pub split-replayed :
+        {dropped : ℕ} {c₀ c : PieceColumns} {a : Cut} {told first last : Bool} → dropped ≡ numberAt case 7
+        → SplitCall (lent original normalized starts ends shift) list (behaviorOf behavior) (emptyOf (eqb dropped 1)) c₀ a c
+        → told ≡ piecesStored case 14 a (c .starts) (c .ends) (c .shifts) (c .lengths)
+        → first ≡ same (c .alignment-starts) (offsetColumn limit (fieldOf 21 case))
+        → last ≡ same (c .alignment-ends) (offsetColumn limit (fieldOf 22 case))
+        → SplitReplayed case starts ends c₀ ((told && first) && last)
     split-replayed {c₀ = c₀} {c = c} {a = a} d call t p q =
         record {
           answer = a;
@@ -53,7 +58,10 @@ module _ {case starts ends original normalized : List ℕ} {shift : ℕ} (o : or
           says = both (both t p) q;
         }
 
-    pub splits-replayed : {side unit : ℕ} {s₀ e₀ s e : List ℕ} {a : Listed} {r : Bool} → side ≡ numberAt case 7 → unit ≡ numberAt case 8 → GetSplitsCall (lent original normalized starts ends shift) list (behaviorOf behavior) (sideOf (eqb side 1)) (unitOf (eqb unit 1)) s₀ e₀ a s e → r ≡ splitsStored case 11 a s e → SplitsReplayed case starts ends s₀ e₀ r
+    pub splits-replayed :
+        {side unit : ℕ} {s₀ e₀ s e : List ℕ} {a : Listed} {r : Bool} → side ≡ numberAt case 7 → unit ≡ numberAt case 8
+        → GetSplitsCall (lent original normalized starts ends shift) list (behaviorOf behavior) (sideOf (eqb side 1)) (unitOf (eqb unit 1)) s₀ e₀ a s e
+        → r ≡ splitsStored case 11 a s e → SplitsReplayed case starts ends s₀ e₀ r
     splits-replayed {s₀ = s₀} {e₀ = e₀} {s = s} {e = e} {a = a} f u call t =
         record {
           answer = a;
@@ -68,7 +76,11 @@ module _ {call : ℕ} {case starts ends from to n₀ s₀ e₀ : List ℕ} {a : 
   pub chars-told : {text : List ℕ} → call ≡ charOffsetsAllNumber → text ≡ fieldOf 0 case → CharOffsetsAllCall text from to n₀ s₀ e₀ a n s e → PairsTold call case starts ends from to n₀ s₀ e₀ a n s e
   chars-told is t call = record { met = rw is (coe 0 1 (i. CharOffsetsAllCall (t i) from to n₀ s₀ e₀ a n s e) call) }
 
-  pub ranges-told : {original normalized : List ℕ} {shift side : ℕ} → (call ≡ charOffsetsAllNumber → ⊥) → original ≡ fieldOf 0 case → normalized ≡ fieldOf 1 case → shift ≡ numberAt case 4 → side ≡ numberAt case 5 → ConvertAllCall (lent original normalized starts ends shift) (sideOf (eqb side 1)) from to n₀ s₀ e₀ a n s e → PairsTold call case starts ends from to n₀ s₀ e₀ a n s e
+  pub ranges-told :
+      {original normalized : List ℕ} {shift side : ℕ} → (call ≡ charOffsetsAllNumber → ⊥) → original ≡ fieldOf 0 case
+      → normalized ≡ fieldOf 1 case → shift ≡ numberAt case 4 → side ≡ numberAt case 5
+      → ConvertAllCall (lent original normalized starts ends shift) (sideOf (eqb side 1)) from to n₀ s₀ e₀ a n s e
+      → PairsTold call case starts ends from to n₀ s₀ e₀ a n s e
   ranges-told not o t k f met = record { met = rw (ne-eqb call charOffsetsAllNumber not) (coe 0 1 (i. ConvertAllCall (lent (o i) (t i) starts ends (k i)) (sideOf (eqb (f i) 1)) from to n₀ s₀ e₀ a n s e) met) }
 
   pub pairs-replayed : {index : ℕ} {r : Bool} → PairsTold call case starts ends from to n₀ s₀ e₀ a n s e → r ≡ pairsStored case index a n s e → PairsReplayed call case index starts ends from to n₀ s₀ e₀ r

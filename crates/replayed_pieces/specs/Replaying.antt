@@ -7,13 +7,8 @@ use mathlib.Core.List.{List}
 use lib.Dec.{eqb}
 use Rattle.buffers.specs.Same.{same}
 use Rattle.note.specs.Notes.{limit}
-use Rattle.note.specs.Refusals.{answerOf}
-use Rattle.char_offsets.specs.Positions.{CharOffsetsList}
 use Rattle.convert.specs.Converting.{rangeOf}
-use Rattle.convert_list.specs.ConvertList.{ConvertedList}
-use Rattle.slice.specs.Slicing.{Slicing}
-use Rattle.split.specs.Splitting.{PieceColumns, Splitting}
-use Rattle.split_offsets.specs.SplitOffsets.{GetSplits}
+use Rattle.split.specs.Splitting.{PieceColumns}
 use Rattle.stored_answers.specs.Calls.{charOffsetsAllNumber}
 use Rattle.stored_answers.specs.Framing.{fieldOf}
 use Rattle.stored_answers.specs.Differences.{offsetColumn}
@@ -25,7 +20,7 @@ use Rattle.zulmyren.specs.Calls.{sideOf, behaviorOf, emptyOf, unitOf}
 use Rattle.zulmyren.specs.Contracts.{CharOffsetsAllCall, ConvertAllCall, GetSplitsCall, SliceCall, SplitCall}
 use Rattle.replayed_pieces.specs.Stored.{pairsStored, sliceStored, piecesStored, splitsStored}
 
--- slicing; the note's columns, and those lent for the slice
+-- slicing; the note's columns, and those for the slice
 pub record SliceReplayed (case starts ends lentStarts lentEnds : List ℕ) (r : Bool) : Type 0 where
   pub answer : Slice
   pub out-starts : List ℕ
@@ -37,7 +32,7 @@ pub record SliceReplayed (case starts ends lentStarts lentEnds : List ℕ) (r : 
       r ≡ (sliceStored case 10 answer && same out-starts (offsetColumn limit (fieldOf 16 case)))
       && same out-ends (offsetColumn limit (fieldOf 17 case))
 
--- splitting; the note's columns, and the six that are lent
+-- splitting; the note's columns, and the six for the pieces
 pub record SplitReplayed (case starts ends : List ℕ) (lent : PieceColumns) (r : Bool) : Type 0 where
   pub answer : Cut
   pub out : PieceColumns
@@ -49,7 +44,7 @@ pub record SplitReplayed (case starts ends : List ℕ) (lent : PieceColumns) (r 
       && same (out .alignment-starts) (offsetColumn limit (fieldOf 21 case)))
       && same (out .alignment-ends) (offsetColumn limit (fieldOf 22 case))
 
--- split offsets; the note's columns, and the two that are lent
+-- split offsets; the note's columns, and the two for the offsets
 pub record SplitsReplayed (case starts ends lentStarts lentEnds : List ℕ) (r : Bool) : Type 0 where
   pub answer : Listed
   pub out-starts : List ℕ
@@ -60,7 +55,7 @@ pub record SplitsReplayed (case starts ends lentStarts lentEnds : List ℕ) (r :
       lentStarts lentEnds answer out-starts out-ends
   pub says : r ≡ splitsStored case 11 answer out-starts out-ends
 
--- a call on a list of pairs by its number: char_offsets_all, and convert_all for any other; the three lent buffers
+-- a call on a list of pairs by its number: char_offsets_all, and convert_all for any other; the three buffers
 -- before, the refusal, and the three after
 pub record PairsTold (call : ℕ) (case starts ends from to numbers₀ starts₀ ends₀ : List ℕ) (r : ℕ)
     (numbers s e : List ℕ) : Type 0 where

@@ -4,7 +4,6 @@ use mathlib.Core.Bool.{Bool, _&&_}
 use mathlib.Core.List.{List}
 use Rattle.buffers.specs.Same.{same}
 use Rattle.note.specs.Notes.{limit}
-use Rattle.split.specs.Splitting.{PieceColumns}
 use Rattle.stored_answers.specs.Framing.{fieldOf, isNumber}
 use Rattle.stored_answers.specs.Differences.{offsetColumn, numbersOf}
 use Rattle.zulmyren.specs.declared.answers.Cut.{Cut}

@@ -37,7 +37,7 @@ fn sliced(
     is_slice(case, 10, answer) & are_offsets(case, 16, out_starts) & are_offsets(case, 17, out_ends)
 }
 
-// A note, a range, the lent starts and ends; the refusal, the two ranges, the shift, the two columns.
+// A note, a range, room for starts and ends; the refusal, the two ranges, the shift, the two columns.
 pub fn slice(case: &[u8], starts: &[Offset], ends: &[Offset]) -> bool
     ensures { λ r. ⌜ SliceReplayed (now (case .entry)) (now (starts .entry)) (now (ends .entry))
         (offsetColumn limit (fieldOf 8 (now (case .entry)))) (offsetColumn limit (fieldOf 9 (now (case .entry)))) r ⌝ }

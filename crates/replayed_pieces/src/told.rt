@@ -1,4 +1,4 @@
-// Whether a call answers, and leaves in the lent buffers, what the fields from `index` on say.
+// Whether a call answers, and leaves in the buffers, what the fields from `index` on say.
 use buffers::Offset;
 use stored_answers::columns::are_numbers;
 use stored_answers::columns::are_offsets;

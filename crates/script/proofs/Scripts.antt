@@ -1,29 +1,27 @@
 -- Laws of `commandAt`, `commandsOf` and `whole`: a script is read command by command, and nobody needs to know how long one
 -- is.
-use Prim.Native.Nat.{ℕ, zero, suc, _+_, _-_, _≤_, _<_}
-use mathlib.Core.Path.{_≡_, _∙_, ap, refl, sym}
+use Prim.Native.Nat.{ℕ, zero, _+_, _-_, _≤_, _<_}
+use mathlib.Core.Path.{_≡_, _∙_, refl, sym}
 use mathlib.Core.Bool.{Bool, true, false, cond, _&&_, _||_, or-true}
 use mathlib.Mathlib.Data.Bool.Basic.{and-elim-left, and-elim-right}
 use mathlib.Core.List.{List, [], _∷_}
 use native.Mathlib.Omega.{arith}
-use mir.Val.{boolByte}
 use lib.Dec.{leb, ltb, eqb}
-use lib.ListN.{length, getD, drop, length-drop, drop-of-length-le, List·getD-eq-default}
-use lib.Seq.{drop-cons, drop-drop, getD-drop}
+use lib.ListN.{length, getD, drop, length-drop, List·getD-eq-default}
+use lib.Seq.{drop-drop, getD-drop}
 use borrow.Author.Tests.{le-leb, lt-leb, leb-true, lt-ltb, le-ltb, ltb-true, eq-eqb, ne-eqb, eqb-true}
 use Rattle.buffers.specs.Splice.{part}
 use Rattle.buffers.proofs.Cases.{le-or-lt, true-or-false}
 use Rattle.buffers.proofs.Booleans.{and-false-l, and-false-r}
 use Rattle.numbers.specs.LittleEndian.{valueOf}
-use Rattle.utf8.specs.Formed.{wellFormed, formed}
-use Rattle.utf8.specs.Scalar.{scalar, bytesOf}
-use Rattle.utf8.proofs.Scalar.{bytesOf-scalar, bytesOf-other, encoded-one, encoded-two, encoded-three, encoded-four, encoded-formed, length-encoded}
+use Rattle.numbers.proofs.Entries.{read-step, read-end}
+use Rattle.utf8.specs.Scalar.{scalar}
 use Rattle.utf8.proofs.LenUtf8.{size-none, size-some, size-most}
 use Rattle.script.specs.declared.Command.{Command}
 use Rattle.script.specs.declared.Entry.{Entry}
 use Rattle.script.specs.declared.Entry.the-variants.{At, Broken}
 use Rattle.utf8.specs.Scalar.{lenUtf8}
-use Rattle.script.specs.Scripts.{commandSize, characterAt, removedAt, removalAt, commandAt, isCommand, nextOf, listed, commandsFrom, commandsOf, wholeFrom, whole}
+use Rattle.script.specs.Scripts.{commandSize, characterAt, removedAt, removalAt, commandAt, ofCommand, frontSize, commandsOf, whole}
 
 -- a command's bytes, by its number
 module _ (b : ℕ) where
@@ -166,25 +164,12 @@ entry-drop l i =
     (λ none. rw (le-ltb 0 (commandSize (getD l i 0)) none))
     (λ some. rw (lt-leb (0 + commandSize (getD l i 0)) (length (drop i l)) (omega arith))))))
 
-commands-skip : (k : ℕ) (l : List ℕ) → commandsFrom k l ≡ commandsOf (drop k l)
-unfolding commandsFrom commandsOf
-commands-skip zero l = refl
-commands-skip (suc k) [] = refl
-commands-skip (suc k) (b ∷ l) = commands-skip k l
+-- what the entry at the front of a script puts before what is read after it
+abbrev before : List ℕ → List Command → List Command
+before l cs = ofCommand [] (λ c next. c ∷ cs) (commandAt l 0)
 
-whole-skip : (k : ℕ) (l : List ℕ) → wholeFrom k l ≡ whole (drop k l)
-unfolding wholeFrom whole
-whole-skip zero l = refl
-whole-skip (suc k) [] = refl
-whole-skip (suc k) (b ∷ l) = whole-skip k l
-
-commands-cons : (l : List ℕ) (i : ℕ) → i < length l → commandsOf (drop i l) ≡ listed (commandAt (drop i l) 0) (commandsFrom (nextOf (commandAt (drop i l) 0) - 1) (drop (suc i) l))
-unfolding commandsFrom commandsOf
-commands-cons l i h = ap commandsOf (drop-cons l i 0 h) ∙ rw (← drop-cons l i 0 h)
-
-whole-cons : (l : List ℕ) (i : ℕ) → i < length l → whole (drop i l) ≡ (isCommand (commandAt (drop i l) 0) && wholeFrom (nextOf (commandAt (drop i l) 0) - 1) (drop (suc i) l))
-unfolding wholeFrom whole
-whole-cons l i h = ap whole (drop-cons l i 0 h) ∙ rw (← drop-cons l i 0 h)
+abbrev too : List ℕ → Bool → Bool
+too l rest = ofCommand false (λ c next. rest) (commandAt l 0)
 
 -- the width of a command that stands at i, and that command at the front of what stands from i on
 record Told (l : List ℕ) (i : ℕ) (c : Command) (next : ℕ) : Type 0 where
@@ -252,27 +237,30 @@ pub record Stepped (l : List ℕ) (i : ℕ) (c : Command) (next : ℕ) : Type 0 
   pub wholes : whole (drop i l) ≡ whole (drop next l)
 
 pub entry-step : (l : List ℕ) {i : ℕ} {e : Entry} {c : Command} {next : ℕ} → e ≡ commandAt l i → e ≡ At c next → Stepped l i c next
+unfolding commandsOf whole
 entry-step l {i} {e} {c} {next} is at =
     let t : Told l i c next = told l i (sym is ∙ at) in
-    let w : ℕ = t .width in
-    let far : suc i + (w - 1) ≡ next = omega (arith, t .wide, t .ends) in
+    let long : frontSize (drop i l) ≡ t .width = rw (t .front) in
+    let here : i < length l = omega (arith, t .wide, t .inside) in
     record {
       onward = omega (arith, t .wide, t .ends, size-most (c .character));
       most = omega (arith, t .ends, t .inside);
-      commands = commands-cons l i (omega (arith, t .wide, t .inside)) ∙ rw (t .front, commands-skip (w - 1) (drop (suc i) l), drop-drop (w - 1) (suc i) l, far);
-      wholes = whole-cons l i (omega (arith, t .wide, t .inside)) ∙ rw (t .front, whole-skip (w - 1) (drop (suc i) l), drop-drop (w - 1) (suc i) l, far);
+      commands = read-step frontSize before [] l here long (omega (arith, t .wide)) (t .ends) ∙ rw (t .front);
+      wholes = read-step frontSize too true l here long (omega (arith, t .wide)) (t .ends) ∙ rw (t .front);
     }
 
 -- an entry that is no command
 pub entry-broken : (l : List ℕ) {i : ℕ} {e : Entry} → i < length l → e ≡ commandAt l i → e ≡ Broken → (commandsOf (drop i l) ≡ []) × (whole (drop i l) ≡ false)
+unfolding commandsOf whole
 entry-broken l {i} h is at =
     let first : commandAt (drop i l) 0 ≡ Broken = told-broken l i (sym is ∙ at) in
-    (commands-cons l i h ∙ rw first, whole-cons l i h ∙ rw first)
+    let one : frontSize (drop i l) ≡ 1 = rw first in
+    (read-step frontSize before [] l h one (omega arith) refl ∙ rw first, read-step frontSize too true l h one (omega arith) refl ∙ rw first)
 
 -- the script's end
 pub entries-end : (l : List ℕ) {i : ℕ} → length l ≤ i → (commandsOf (drop i l) ≡ []) × (whole (drop i l) ≡ true)
-unfolding commandsFrom commandsOf wholeFrom whole
-entries-end l h = (rw (drop-of-length-le l h), rw (drop-of-length-le l h))
+unfolding commandsOf whole
+entries-end l h = (read-end frontSize before [] l h, read-end frontSize too true l h)
 
 -- the commands before i are whole, so the script is where the others are
 pub record Judged (l : List ℕ) (i : ℕ) : Type 0 where

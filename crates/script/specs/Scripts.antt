@@ -1,12 +1,13 @@
 -- RULES 7: what stands at a byte of an edit script. A command is its number (1 replace, 2 add, 3 replace and remove)
 -- and a code point in four little-endian bytes; 3 has in two more how many characters it removes behind the one it
 -- replaces.
-use Prim.Native.Nat.{ℕ, zero, suc, _+_, _-_}
+use Prim.Native.Nat.{ℕ, _+_}
 use mathlib.Core.Bool.{Bool, true, false, cond, _&&_, _||_, not}
 use mathlib.Core.List.{List, [], _∷_}
 use lib.Dec.{leb, ltb, eqb}
 use lib.ListN.{length, getD}
 use Rattle.buffers.specs.Splice.{part}
+use Rattle.numbers.specs.Entries.{readFrom}
 use Rattle.numbers.specs.LittleEndian.{valueOf}
 use Rattle.utf8.specs.Scalar.{scalar}
 use Rattle.note.specs.declared.Refusal.{Refusal}
@@ -40,35 +41,22 @@ commandAt l i =
     (At (record { character = characterAt l i; added = eqb (getD l i 0) 2; removed = 0 }) (i + 5)))
     Broken
 
-abbrev pub isCommand : Entry → Bool
-isCommand (At c next) = true
-isCommand Broken = false
+-- what is said of an entry: of a command and where the next one begins, or of none
+abbrev pub ofCommand : {A : Type 0} → A → (Command → ℕ → A) → Entry → A
+ofCommand none some (At c next) = some c next
+ofCommand none some Broken = none
 
-abbrev pub nextOf : Entry → ℕ
-nextOf (At c next) = next
-nextOf Broken = 1
+-- how many bytes the entry at the front of a script has; after one that is no command nothing is read
+abbrev pub frontSize : List ℕ → ℕ
+frontSize l = ofCommand 1 (λ c next. next) (commandAt l 0)
 
-abbrev pub listed : Entry → List Command → List Command
-listed (At c next) cs = c ∷ cs
-listed Broken cs = []
-
--- the commands of a script, up to an entry that is none, from an entry on that is k bytes away
-unfoldable pub commandsFrom : ℕ → List ℕ → List Command
-commandsFrom k [] = []
-commandsFrom zero (b ∷ l) = listed (commandAt (b ∷ l) 0) (commandsFrom (nextOf (commandAt (b ∷ l) 0) - 1) l)
-commandsFrom (suc k) (b ∷ l) = commandsFrom k l
-
+-- the commands of a script, up to an entry that is none
 unfoldable pub commandsOf : List ℕ → List Command
-commandsOf l = commandsFrom 0 l
+commandsOf l = readFrom frontSize (λ l cs. ofCommand [] (λ c next. c ∷ cs) (commandAt l 0)) [] 0 l
 
 -- whether each entry of a script is a command
-unfoldable pub wholeFrom : ℕ → List ℕ → Bool
-wholeFrom k [] = true
-wholeFrom zero (b ∷ l) = isCommand (commandAt (b ∷ l) 0) && wholeFrom (nextOf (commandAt (b ∷ l) 0) - 1) l
-wholeFrom (suc k) (b ∷ l) = wholeFrom k l
-
 unfoldable pub whole : List ℕ → Bool
-whole l = wholeFrom 0 l
+whole l = readFrom frontSize (λ l rest. ofCommand false (λ c next. rest) (commandAt l 0)) true 0 l
 
 -- which refusal condition a script meets
 abbrev pub scriptFaults : List ℕ → Refusal → Bool

@@ -6,7 +6,6 @@ use utf8::lead::len_utf8;
 ghost use mathlib.Core.Path.{_≡_};
 ghost use Prim.Native.Nat.{_+_, _≤_};
 ghost use lib.ListN.{length};
-ghost use Rattle.utf8.specs.Scalar.{lenUtf8};
 ghost use Rattle.script.specs.Scripts.{commandAt, removalAt, whole, commandSize};
 
 // A character of the new text, and what it does to the old one (Rust: `(char, isize)`): it is added, the Rust's 1;

@@ -12,7 +12,7 @@ use borrow.Author.Tests.{ltb-false, lt-ltb, eq-eqb, ne-eqb, le-ltb}
 use Rattle.buffers.specs.Splice.{part}
 use Rattle.buffers.proofs.Cases.{le-or-lt, clash}
 use Rattle.utf8.specs.Formed.{wellFormed, formed, boundary}
-use Rattle.utf8.proofs.Boundaries.{boundary-most, formed-part}
+use Rattle.utf8.proofs.Boundaries.{boundary-most, formed-part, Between, char-range-between}
 use Rattle.note.specs.declared.Refusal.the-variants.{Missing}
 use Rattle.note.specs.Notes.{Note, startAt, endAt, beforeEnd, Sound}
 use Rattle.note.proofs.BeforeEnd.{before-some}
@@ -24,7 +24,7 @@ use Rattle.convert.specs.declared.Converted.{Converted}
 use Rattle.convert.specs.declared.Converted.the-variants.{Found, Refused}
 use Rattle.convert.specs.Converting.{inOriginal, inNormalized, expanded, toOriginal, toNormalized, converted, startIn, endIn, missing}
 use Rattle.convert.specs.Leading.{leading}
-use Rattle.convert.specs.Inside.{Lies, Outcome}
+use Rattle.convert.specs.Inside.{Outcome}
 use Rattle.convert.proofs.Leading.{leading-most, leading-within, converted-by-leading}
 use Rattle.convert.proofs.Conversions.{expanded-inside}
 use Rattle.convert.proofs.Inside.{first-or-none, expanded-inside as expanded-lies, inside}
@@ -43,7 +43,7 @@ pub record Cutting (n : Note) (range : Range) : Type 0 where
   pub near : (a ≤ length (n .original)) ⊎ (a ≤ length (n .normalized))
   pub original-part : wellFormed (part (n .original) a b) ≡ true
   pub normalized-part : wellFormed (part (n .normalized) c d) ≡ true
-  pub original-lies : c < d → Lies (n .original) a b
+  pub original-lies : c < d → Between (n .original) a b
   pub above : (i : ℕ) → c ≤ i → i < d → a ≤ startAt n i
   pub below : (i : ℕ) → c ≤ i → i < d → endAt n i ≤ b
 
@@ -137,7 +137,7 @@ module _ (n : Note) (sound : Sound n) where
       (normalized-own (n .starts) (n .ends) c d ∙ rw same) most)
       (λ some.
       let past : d ≤ length (n .ends) = omega (arith, length-ends n sound) in
-      let lies : Lies (n .original) (startAt n c) (endAt n (d - 1)) = expanded-lies n sound c d some past in
+      let lies : Between (n .original) (startAt n c) (endAt n (d - 1)) = expanded-lies n sound c d some past in
       record {
         a = startAt n c;
         b = endAt n (d - 1);
@@ -147,8 +147,8 @@ module _ (n : Note) (sound : Sound n) where
         normalized-is = normalized-own (n .starts) (n .ends) c d;
         forward = h;
         inside = most;
-        near = inl (omega (arith, lies .forward, lies .inside));
-        original-part = formed-part (n .original) (startAt n c) (endAt n (d - 1)) (original-formed n sound) (lies .from-boundary) (lies .to-boundary) (lies .forward);
+        near = inl (omega (arith, lies .onward, lies .inside));
+        original-part = formed-part (n .original) (startAt n c) (endAt n (d - 1)) (original-formed n sound) (lies .from-boundary) (lies .to-boundary) (lies .onward);
         normalized-part = formed-part (n .normalized) c d (normalized-formed n sound) bc bd h;
         original-lies = λ k. lies;
         above = λ i from to. alignments-on c i from (omega arith) .0;
@@ -160,7 +160,7 @@ module _ (n : Note) (sound : Sound n) where
     found-cutting : (c d : ℕ) → converted (n .starts) (n .ends) (inOriginal x y) ≡ Found (inNormalized c d) → ((i : ℕ) → c ≤ i → i < d → x ≤ startAt n i) → ((i : ℕ) → i < d → endAt n i ≤ y) → Cutting n (inOriginal x y)
     found-cutting c d is above below =
         let out : Outcome n (inOriginal x y) (Found (inNormalized c d)) = rw is at (inside n sound (inOriginal x y)) in
-        let lies : Lies (n .normalized) c d = ⊎-elim (λ w. absurd (omega (arith, w .0))) (λ l. l) out in
+        let lies : Between (n .normalized) c d = char-range-between _ _ _ (⊎-elim (λ w. absurd (omega (arith, w .0))) (λ l. l) out) in
         record {
           a = x;
           b = y;
@@ -168,12 +168,12 @@ module _ (n : Note) (sound : Sound n) where
           d = d;
           original-is = original-own (n .starts) (n .ends) x y;
           normalized-is = normalized-found (n .starts) (n .ends) x y ∙ is;
-          forward = lies .forward;
+          forward = lies .onward;
           inside = lies .inside;
           near = inl (boundary-most (n .original) x bx);
           original-part = formed-part (n .original) x y (original-formed n sound) bx by (omega arith);
-          normalized-part = formed-part (n .normalized) c d (normalized-formed n sound) (lies .from-boundary) (lies .to-boundary) (lies .forward);
-          original-lies = λ h. record { forward = omega arith; inside = boundary-most (n .original) y by; from-boundary = bx; to-boundary = by };
+          normalized-part = formed-part (n .normalized) c d (normalized-formed n sound) (lies .from-boundary) (lies .to-boundary) (lies .onward);
+          original-lies = λ h. record { onward = omega arith; inside = boundary-most (n .original) y by; from-boundary = bx; to-boundary = by };
           above = above;
           below = λ i from to. below i to;
         }
@@ -196,7 +196,7 @@ module _ (n : Note) (sound : Sound n) where
         (λ j from to. absurd (omega arith))
         (λ j to. leading-within (n .ends) y j to)))
 
--- a range that is validRange and has its place in both texts
+-- a range that is valid and has its place in both texts
 or-none : (t u w : Bool) → (t || u || w) ≡ false → (t ≡ false) × (u ≡ false) × (w ≡ false)
 or-none true u w e = clash true refl e
 or-none false true w e = clash true refl e
@@ -238,7 +238,7 @@ module _ (n : Note) (sound : Sound n) where
       (λ none. clash (missing c) (ap missing (normalized-found (n .starts) (n .ends) (x .0) (y .0) ∙ none)) (all .1))))
       (λ reversed. clash (missing c) (reversed-normalized (n .starts) (n .ends) (x .0) (y .0) reversed) (all .1))
 
-  -- where a validRange range begins in the transcript, found or not
+  -- where a valid range begins in the transcript, found or not
   pub start-near : (most : ℕ) (range : Range) → validRange (n .original) (n .normalized) range ≡ true → length (n .original) ≤ most → length (n .normalized) ≤ most → startIn (asOriginal (n .starts) (n .ends) range) ≤ most
   unfolding validRange
   start-near most (Original x y) v o m =

@@ -16,7 +16,7 @@ use Rattle.note.specs.declared.Refusal.{Refusal}
 use Rattle.note.specs.declared.Refusal.the-variants.{NotBoundary, Missing, NoRoom, Misaligned}
 use Rattle.note.specs.declared.Verdict.{Verdict}
 use Rattle.note.specs.declared.Verdict.the-variants.{Accepted, Refused as Rejected}
-use Rattle.note.specs.Refusals.{none, meets, also, verdict}
+use Rattle.note.specs.Refusals.{none, meets, also, verdict, unlessRefused}
 use Rattle.note.specs.Notes.{Note, fits, Sound}
 use Rattle.note.specs.Faults.{noteFaults, roomFaults}
 use Rattle.note.specs.Rank.{upTo}
@@ -31,7 +31,7 @@ use Rattle.convert.specs.Converting.{asOriginal, asNormalized}
 use Rattle.slice.specs.declared.NoteSlice.{NoteSlice}
 use Rattle.slice.specs.declared.Sliced.{Sliced}
 use Rattle.slice.specs.declared.Sliced.the-variants.{Cut, Refused}
-use Rattle.slice.specs.Slicing.{validRange, sliceOf, sliced, unplaced, sliceMissing, sliceSize, sliceFaults, slicedColumn, slicedUnlessRefused, Slicing, lowered, originalStart, normalizedStart, normalizedEnd}
+use Rattle.slice.specs.Slicing.{validRange, sliceOf, sliced, unplaced, sliceMissing, sliceSize, sliceFaults, slicedColumn, Slicing, lowered, originalStart, normalizedStart, normalizedEnd}
 use Rattle.slice.specs.Writing.{SliceJudged, Shiftable, Lowerable}
 use Rattle.slice.proofs.Cutting.{Cutting, cutting, start-near}
 
@@ -105,7 +105,7 @@ module _ (most : ℕ) (n : Note) (range : Range) (room : ℕ) where
 
   -- a verdict that is known gives the answer
   refusing : {k : Refusal} → Rejected k ≡ verdict (sliceFaults most n range room) → SliceJudged most n range room (Refused k)
-  refusing e = record { answer = ap (λ (w : Verdict). slicedUnlessRefused w (sliced n range)) e }
+  refusing e = record { answer = ap (λ (w : Verdict). unlessRefused Refused w (Cut (sliced n range))) e }
 
   module _ {v : Verdict} (noted : v ≡ verdict (noteFaults most n)) where
     pub judged-note : {k : Refusal} → v ≡ Rejected k → SliceJudged most n range room (Refused k)
@@ -160,7 +160,7 @@ module _ (most : ℕ) (n : Note) (range : Range) (room : ℕ) where
               judged-small h = refusing (past-gone (no-room (rw is-sliced at h)))
 
               pub judged-cut : sliceSize z ≤ room → SliceJudged most n range room (Cut z)
-              judged-cut h = record { answer = ap Cut is-sliced ∙ ap (λ (w : Verdict). slicedUnlessRefused w (sliced n range)) (past-gone (enough-room (rw is-sliced at h))) }
+              judged-cut h = record { answer = ap Cut is-sliced ∙ ap (λ (w : Verdict). unlessRefused Refused w (Cut (sliced n range))) (past-gone (enough-room (rw is-sliced at h))) }
 
 -- WHAT AN ACCEPTED CALL TELLS
 module _ (most : ℕ) (n : Note) (range : Range) (room : ℕ) (e : verdict (sliceFaults most n range room) ≡ Accepted) where
@@ -180,11 +180,11 @@ module _ (most : ℕ) (n : Note) (range : Range) (room : ℕ) (e : verdict (slic
   accepted-room = room-enough (sliceSize (sliced n range)) room (accepted-second (gone most n range room) (small most n range room) rest)
 
 -- which of the two an answer is, by its verdict
-cut-accepted : (v : Verdict) (s : NoteSlice) {r : Sliced} {z : NoteSlice} → r ≡ slicedUnlessRefused v s → r ≡ Cut z → (v ≡ Accepted) × (z ≡ s)
+cut-accepted : (v : Verdict) (s : NoteSlice) {r : Sliced} {z : NoteSlice} → r ≡ unlessRefused Refused v (Cut s) → r ≡ Cut z → (v ≡ Accepted) × (z ≡ s)
 cut-accepted Accepted s e is = (refl, cc)
 cut-accepted (Rejected k) s e is = let z : _≡_ {A = ℕ} 0 1 = cc in absurd (omega arith)
 
-cut-refused : (v : Verdict) (s : NoteSlice) {r : Sliced} {k : Refusal} → r ≡ slicedUnlessRefused v s → r ≡ Refused k → v ≡ Rejected k
+cut-refused : (v : Verdict) (s : NoteSlice) {r : Sliced} {k : Refusal} → r ≡ unlessRefused Refused v (Cut s) → r ≡ Refused k → v ≡ Rejected k
 cut-refused Accepted s e is = let z : _≡_ {A = ℕ} 0 1 = cc in absurd (omega arith)
 cut-refused (Rejected j) s e is = cc
 
@@ -255,7 +255,10 @@ module _ (most : ℕ) (n : Note) (range : Range) (starts₀ ends₀ : List ℕ) 
           };
         })
 
-    pub written : {starts ends : List ℕ} → starts ≡ splice starts₀ 0 (lowered (originalStart z) (part (n .starts) (normalizedStart z) (normalizedEnd z))) → ends ≡ splice ends₀ 0 (lowered (originalStart z) (part (n .ends) (normalizedStart z) (normalizedEnd z))) → Slicing most n range starts₀ ends₀ (Cut z) starts ends
+    pub written : {starts ends : List ℕ}
+        → starts ≡ splice starts₀ 0 (lowered (originalStart z) (part (n .starts) (normalizedStart z) (normalizedEnd z)))
+        → ends ≡ splice ends₀ 0 (lowered (originalStart z) (part (n .ends) (normalizedStart z) (normalizedEnd z)))
+        → Slicing most n range starts₀ ends₀ (Cut z) starts ends
     unfolding slicedColumn
     written p q =
         record {

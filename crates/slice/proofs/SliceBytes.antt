@@ -2,7 +2,6 @@
 use Prim.Native.Nat.{_-_, _≤_, _<_}
 use mathlib.Core.Path.{_≡_, _∙_, ap, refl, sym}
 use native.Mathlib.Omega.{arith}
-use lib.ListN.{length}
 use Rattle.buffers.proofs.Cases.{le-or-lt, clash}
 use Rattle.note.specs.Notes.{Note, Sound}
 use Rattle.note.proofs.Sound.{length-ends}

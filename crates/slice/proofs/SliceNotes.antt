@@ -12,13 +12,12 @@ use Rattle.buffers.specs.Splice.{part}
 use Rattle.buffers.proofs.Cases.{le-or-lt}
 use Rattle.buffers.proofs.Splice.{length-part, part-index, part-at}
 use Rattle.utf8.specs.Formed.{boundary}
-use Rattle.utf8.proofs.Boundaries.{boundary-most, boundary-begins, boundary-at, boundary-length}
+use Rattle.utf8.proofs.Boundaries.{boundary-most, boundary-begins, boundary-at, boundary-length, Between}
 use Rattle.note.specs.Notes.{Note, lent, paired, textsFormed, startAt, endAt, Sound}
 use Rattle.note.proofs.Sound.{length-starts, length-ends, inside-at, boundaries-at, shared-at, forward-at, aligned-from}
 use Rattle.convert.specs.declared.Range.{Range}
 use Rattle.convert.specs.declared.Converted.the-variants.{Found}
 use Rattle.convert.specs.Converting.{inOriginal, inNormalized}
-use Rattle.convert.specs.Inside.{Lies}
 use Rattle.convert.proofs.Conversions.{expanded-inside}
 use Rattle.slice.specs.Slicing.{validRange, sliceOf, sliced, lowered, slicedColumn, sliceNote, SliceSound}
 use Rattle.slice.specs.Bytes.{Stands, SliceStands, normalizedSlice, SliceOfSlice}
@@ -76,7 +75,7 @@ module _ (n : Note) (sound : Sound n) (range : Range) (k : Cutting n range) wher
     pub above : k .a ≤ startAt n (k .c + i)
     pub in-order : startAt n (k .c + i) ≤ endAt n (k .c + i)
     pub below : endAt n (k .c + i) ≤ k .b
-    pub lies : Lies (n .original) (k .a) (k .b)
+    pub lies : Between (n .original) (k .a) (k .b)
 
   here : (i : ℕ) → i < length (m .normalized) → Here i
   here i h =

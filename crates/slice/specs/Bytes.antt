@@ -63,8 +63,8 @@ SliceStands =
 abbrev pub normalizedSlice : Note → ℕ → ℕ → Note
 normalizedSlice n c d = sliceNote n (sliced n (inNormalized c d))
 
--- CLAIM: a cleaned slice of a cleaned slice is the cleaned slice of the note at the added numbers, and as validRange, where
--- neither is empty.
+-- CLAIM: a cleaned slice of a cleaned slice is the cleaned slice of the note at the added numbers, and its range is
+-- valid where that one is, if neither is empty.
 abbrev pub SliceOfSlice : Type 0
 SliceOfSlice =
     (most : ℕ) (n : Note) (c d e f room : ℕ) → verdict (sliceFaults most n (inNormalized c d) room) ≡ Accepted

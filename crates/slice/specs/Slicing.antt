@@ -11,8 +11,8 @@ use Rattle.utf8.specs.Formed.{boundary}
 use Rattle.note.specs.declared.Refusal.{Refusal}
 use Rattle.note.specs.declared.Refusal.the-variants.{NotBoundary, Missing}
 use Rattle.note.specs.declared.Verdict.{Verdict}
-use Rattle.note.specs.declared.Verdict.the-variants.{Accepted, Refused as Rejected}
-use Rattle.note.specs.Refusals.{none, meets, also, verdict, after}
+use Rattle.note.specs.declared.Verdict.the-variants.{Accepted}
+use Rattle.note.specs.Refusals.{none, meets, also, verdict, unlessRefused, after}
 use Rattle.note.specs.Notes.{Note, lent, Sound}
 use Rattle.note.specs.Faults.{noteFaults, roomFaults}
 use Rattle.convert.specs.declared.Range.{Range}
@@ -96,16 +96,12 @@ sliceFaults most n range room =
     (also (meets Missing (sliceMissing n range) none)
     (roomFaults (sliceSize (sliced n range)) room)))
 
-abbrev pub slicedUnlessRefused : Verdict → NoteSlice → Sliced
-slicedUnlessRefused Accepted s = Cut s
-slicedUnlessRefused (Rejected k) s = Refused k
-
 -- THE CALL: limit, note and range, the lent columns before, the answer, the lent columns after
 pub record Slicing (most : ℕ) (n : Note) (range : Range) (starts₀ ends₀ : List ℕ) (r : Sliced)
     (starts ends : List ℕ) : Type 0 where
   pub says : Verdict
   pub says-is : says ≡ verdict (sliceFaults most n range (min (length starts₀) (length ends₀)))
-  pub answer : r ≡ slicedUnlessRefused says (sliced n range)
+  pub answer : r ≡ unlessRefused Refused says (Cut (sliced n range))
   pub starts-are : starts ≡ after says (slicedColumn (sliced n range) (n .starts)) starts₀
   pub ends-are : ends ≡ after says (slicedColumn (sliced n range) (n .ends)) ends₀
 

@@ -3,17 +3,18 @@ use Prim.Native.Nat.{ℕ, _+_, _≤_, _<_}
 use mathlib.Core.Path.{_≡_}
 use mathlib.Core.List.{List}
 use lib.ListN.{length, getD}
-use Rattle.note.specs.Refusals.{verdict}
+use Rattle.note.specs.Refusals.{verdict, unlessRefused}
 use Rattle.note.specs.Notes.{Note}
 use Rattle.convert.specs.declared.Range.{Range}
 use Rattle.convert.specs.declared.Converted.{Converted}
 use Rattle.convert.specs.Converting.{startIn}
 use Rattle.slice.specs.declared.Sliced.{Sliced}
-use Rattle.slice.specs.Slicing.{sliced, sliceFaults, slicedUnlessRefused}
+use Rattle.slice.specs.declared.Sliced.the-variants.{Cut, Refused}
+use Rattle.slice.specs.Slicing.{sliced, sliceFaults}
 
 -- what is said before anything is written
 pub record SliceJudged (most : ℕ) (n : Note) (range : Range) (room : ℕ) (r : Sliced) : Type 0 where
-  pub answer : r ≡ slicedUnlessRefused (verdict (sliceFaults most n range room)) (sliced n range)
+  pub answer : r ≡ unlessRefused Refused (verdict (sliceFaults most n range room)) (Cut (sliced n range))
 
 -- a shift that can grow by what stands before a range
 pub record Shiftable (most : ℕ) (inOriginal : Converted) (shift : ℕ) : Type 0 where

@@ -1,15 +1,14 @@
 -- Laws of `packedSpan`: its two ends are read back; a column of numbers that is taken apart.
-use Prim.Native.Nat.{ℕ, _+_, _*_, _/_, _%_, _^_, _≤_, _<_}
-use mathlib.Core.Path.{_≡_, _∙_, ap, refl, sym}
-use mathlib.Core.Bool.{Bool, true, false}
-use mathlib.Core.List.{List, [], _∷_, _++_, map}
+use Prim.Native.Nat.{ℕ, _+_, _^_, _≤_, _<_}
+use mathlib.Core.Path.{_≡_, _∙_, refl, sym}
+use mathlib.Core.Bool.{true}
+use mathlib.Core.List.{List, [], _∷_, map}
 use native.Mathlib.Numerals.{add-one}
 use native.Mathlib.Omega.{arith}
 use lib.ListN.{length, getD, set, take, drop, length-map, drop-of-length-le}
 use lib.Seq.{drop-cons}
-use Rattle.buffers.specs.Splice.{splice, overlay}
 use Rattle.buffers.proofs.Cases.{true-or-false}
-use Rattle.buffers.proofs.Splice.{Laying, none-laid, piece-laid, all-laid, splice-nil, store-after, take-overlay, overlay-long}
+use Rattle.buffers.proofs.Splice.{Laying, none-laid, piece-laid, all-laid, store-one, take-overlay, overlay-long}
 use Rattle.pattern.specs.declared.Place.{Place}
 use Rattle.pattern.specs.Places.{coversFrom}
 use Rattle.pattern.proofs.Places.{Span, covers-span, covers-rest}
@@ -20,13 +19,7 @@ use Rattle.behaviors.specs.Splits.{splits, isPiece, remaining, pieces}
 use Rattle.behaviors.specs.Joining.{startsOf, endsOf}
 use Rattle.behaviors.specs.Runs.{listPieces, Listed}
 use Rattle.behaviors.proofs.Gathered.{splits-cover}
-use Rattle.spans.specs.Packing.{base, packedSpan, spanStart, spanEnd, packedOf, PackedRoom, PackedLaid, UnpackRoom, Unpacked, SpansRoom, SpansLaid}
-
--- a number stored
-pub store-one : (d : List ℕ) (at x : ℕ) → at < length d → set d at x ≡ splice d at (x ∷ [])
-store-one d at x h =
-    let z : at + 0 ≡ at = omega arith in
-    (rw (splice-nil d at, z) at (store-after d [] at x (omega arith)))
+use Rattle.spans.specs.Packing.{base, packedSpan, spanStart, spanEnd, packedOf, PackedRoom, PackedLaid, UnpackRoom, Unpacked, SpansLaid}
 
 -- the ends of a piece of a text that is not too long
 start-back : (p : Place) → p .start .0 < base → spanStart (packedSpan p) ≡ p .start .0

@@ -1,15 +1,15 @@
--- Pieces that are written one after the other: the places of a list by index, or the run that is open behind a place.
+-- Pieces that are written one after the other: the places of a list by index, or the run that is open after a place.
 use Prim.Native.Nat.{ℕ, _+_, _-_, _*_, _≤_, _<_}
 use mathlib.Core.Path.{_≡_, _∙_, ap, refl, sym}
 use mathlib.Core.Bool.{Bool, true, false, not}
 use mathlib.Core.List.{List, [], _∷_, _++_, append-nil, map}
 use native.Mathlib.Omega.{arith}
 use lib.ListN.{length, set, drop, length-append, length-map, drop-of-length-le}
-use Rattle.buffers.specs.Splice.{splice, overlay}
-use Rattle.buffers.proofs.Splice.{Laying, none-laid, piece-laid, all-laid, laying-size, splice-nil}
+use Rattle.buffers.specs.Splice.{splice}
+use Rattle.buffers.proofs.Splice.{Laying, none-laid, piece-laid, all-laid, laying-size, splice-nil, store-one}
 use Rattle.pattern.specs.declared.Place.{Place}
 use Rattle.pattern.specs.declared.Entry.{Entry}
-use Rattle.pattern.specs.declared.Entry.the-variants.{At, Broken}
+use Rattle.pattern.specs.declared.Entry.the-variants.{At}
 use Rattle.pattern.specs.Entries.{entryAt, placesOf}
 use Rattle.pattern.specs.Places.{coversFrom}
 use Rattle.pattern.proofs.Entries.{entry-step}
@@ -22,7 +22,7 @@ use Rattle.behaviors.specs.Runs.{extendedRun, isKeptRun, over, pieceIf, runsFro
 use Rattle.behaviors.proofs.Gathered.{first-remains}
 use Rattle.behaviors.proofs.Runs.{Open, first-open, first-pieces, next-open}
 use Rattle.spans.specs.Packing.{base, packedSpan, packedOf, RunRoom, RunLaid, PackedRoom, PackedLaid}
-use Rattle.spans.proofs.Packing.{store-one, pieces-back}
+use Rattle.spans.proofs.Packing.{pieces-back}
 
 -- A RUN that is written, or passed over
 module _ {most : ℕ} {met : Bool} {run : Place} {spans : List ℕ} {at : ℕ} (r : RunRoom most met run spans at) where
@@ -166,7 +166,7 @@ module _ {most : ℕ} {list : List ℕ} {b : SplitDelimiterBehavior} {e : EmptyP
           laid = rw after (column-next (listPieces b e list) (pieceIf t run) rest (rw stepped-runs at (k .laid)) (written .reach) (written .spans-are));
         }
 
-  -- behind the last place
+  -- after the last place
   module _ (done : placesOf (drop i list) ≡ []) {t : Bool} (met : t ≡ isKeptRun b e run) where
     last-run : runsFrom b e run (placesOf (drop i list)) ≡ pieceIf t run ++ []
     unfolding runsFrom

@@ -7,7 +7,7 @@ use lib.ListN.{length}
 use Rattle.buffers.specs.Splice.{splice, overlay}
 use Rattle.note.specs.Notes.{limit}
 use Rattle.pattern.specs.declared.Place.{Place}
-use Rattle.pattern.specs.Entries.{whole}
+use Rattle.pattern.specs.Entries.{wholeList}
 use Rattle.behaviors.specs.declared.SplitDelimiterBehavior.{SplitDelimiterBehavior}
 use Rattle.behaviors.specs.declared.EmptyPieces.{EmptyPieces}
 use Rattle.behaviors.specs.Joining.{startsOf, endsOf}
@@ -45,7 +45,7 @@ pub record RunLaid (met : Bool) (run : Place) (spans₀ : List ℕ) (at r : ℕ)
 pub record PackedRoom (most : ℕ) (list : List ℕ) (behavior : SplitDelimiterBehavior) (empty : EmptyPieces)
     (spans : List ℕ) : Type 0 where
   pub listed : Listed most list
-  pub unbroken : whole list ≡ true
+  pub unbroken : wholeList list ≡ true
   pub room : length (listPieces behavior empty list) ≤ length spans
 
 -- all pieces stand in front of the column; each number has a piece's two ends

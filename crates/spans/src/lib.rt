@@ -1,12 +1,12 @@
-// Where the pieces of a match list start and end (RULES 11), written into lent columns: both ends of a piece in one
+// Where the pieces of a match list start and end (RULES 11), written into passed columns: both ends of a piece in one
 // number first, so that a place is read and stored at once. Inner functions: the list and the room were judged before.
 use behaviors::EmptyPieces;
 use behaviors::SplitDelimiterBehavior;
+use behaviors::extend_run;
 use behaviors::is_dropped;
+use behaviors::is_kept_run;
 use behaviors::join_table;
 use behaviors::joined;
-use behaviors::extend_run;
-use behaviors::is_kept_run;
 use buffers::Offset;
 use note::LIMIT;
 use pattern::Entry;
@@ -15,11 +15,10 @@ use pattern::entry_at;
 use pattern::most_places;
 use pattern::place_at;
 ghost use mathlib.Core.Path.{_≡_};
-ghost use lib.ListN.{length};
 ghost use Rattle.note.specs.Notes.{limit};
 ghost use Rattle.behaviors.specs.declared.SplitDelimiterBehavior.the-variants.{Isolated};
 ghost use Rattle.behaviors.specs.Runs.{listPieces};
-ghost use Rattle.spans.specs.Packing.{spanEnd, packedSpan, PackedLaid, PackedRoom, RunLaid, RunRoom};
+ghost use Rattle.spans.specs.Packing.{spanEnd, PackedLaid, PackedRoom, RunLaid, RunRoom};
 ghost use Rattle.spans.specs.Packing.{SpansLaid, SpansRoom, spanStart, Unpacked, UnpackRoom};
 
 // One more than any position of a text within the limit.

@@ -9,12 +9,11 @@ use lib.Seq.{drop-cons}
 use borrow.Author.Tests.{eq-eqb, ne-eqb}
 use Rattle.buffers.specs.Splice.{part, splice, overlay}
 use Rattle.buffers.specs.Over.{Over, Reaching}
-use Rattle.buffers.proofs.Splice.{length-part, part-index, part-front}
+use Rattle.buffers.proofs.Splice.{length-part, part-index, part-front, store-one}
 use Rattle.buffers.proofs.Over.{over-exact, over-front, through, none-reached, run-reached, all-reached}
 use Rattle.slice.specs.Slicing.{lowered}
 use Rattle.slice.specs.Writing.{Lowerable}
 use Rattle.slice.proofs.Lowered.{length-lowered, part-lowered}
-use Rattle.spans.proofs.Packing.{store-one}
 use Rattle.split.specs.PieceSlices.{bytesBefore}
 use Rattle.split.specs.Writing.{fromStart, toEnd, shiftOf, lengthOf, loweredColumn, endToEnd, RangeInside, ShiftsRoom, LengthsRoom, PieceColumnRoom, ColumnsRoom, ColumnsLaid, LoweredBlockRoom, LoweredRoom, BothRoom}
 
@@ -94,7 +93,9 @@ module _ {starts ends from to out₀ : List ℕ} (r : LengthsRoom starts ends fr
   unfolding lengthOf
   none-measured = none-going (lengthOf starts ends) from to out₀ (omega (arith, r .room, ones (lengthOf starts ends) (λ a b. refl) from to (r .spans .paired)))
 
-  pub next-measured : {k : ℕ} {out : List ℕ} {x y : ℕ} → Going (lengthOf starts ends) from to out₀ k k out → k < length from → y ≡ toEnd ends (getD from k 0) (getD to k 0) → x ≡ fromStart starts (getD from k 0) (getD to k 0) → Going (lengthOf starts ends) from to out₀ (k + 1) (k + 1) (set out k (y - x))
+  pub next-measured : {k : ℕ} {out : List ℕ} {x y : ℕ} → Going (lengthOf starts ends) from to out₀ k k out → k < length from
+      → y ≡ toEnd ends (getD from k 0) (getD to k 0) → x ≡ fromStart starts (getD from k 0) (getD to k 0)
+      → Going (lengthOf starts ends) from to out₀ (k + 1) (k + 1) (set out k (y - x))
   unfolding lengthOf
   next-measured {k} {out} g h end start =
       let room : k < length out = omega (arith, going-room (lengthOf starts ends) g (r .spans .paired) h) in
@@ -145,7 +146,9 @@ module _ {column : List ℕ} {i base : ℕ} {out : List ℕ} {at : ℕ} (r : Low
   block-through block₀ e local is = through _ out at block₀ (omega (arith, length-lowered base (part column i (i + 16)), block-long)) local is
 
 -- a column, piece by piece
-module _ {starts column from to : List ℕ} {until : ℕ} {out₀ : List ℕ} (r : PieceColumnRoom starts column from to until out₀) {at k : ℕ} {out : List ℕ} (g : Going (loweredColumn starts column) from to out₀ at k out) (h : k < length from) {base : ℕ} (is : base ≡ fromStart starts (getD from k 0) (getD to k 0)) where
+module _ {starts column from to : List ℕ} {until : ℕ} {out₀ : List ℕ} (r : PieceColumnRoom starts column from to until out₀) {at k : ℕ} {out : List ℕ}
+    (g : Going (loweredColumn starts column) from to out₀ at k out) (h : k < length from) {base : ℕ}
+    (is : base ≡ fromStart starts (getD from k 0) (getD to k 0)) where
   long : length (loweredColumn starts column (getD from k 0) (getD to k 0)) ≡ getD to k 0 - getD from k 0
   unfolding loweredColumn
   long =

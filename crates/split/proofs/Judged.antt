@@ -11,7 +11,7 @@ use Rattle.note.specs.declared.Refusal.{Refusal}
 use Rattle.note.specs.declared.Refusal.the-variants.{BadMatches, NoRoom, Misaligned}
 use Rattle.note.specs.declared.Verdict.{Verdict}
 use Rattle.note.specs.declared.Verdict.the-variants.{Accepted, Refused as Rejected}
-use Rattle.note.specs.Refusals.{also, verdict}
+use Rattle.note.specs.Refusals.{also, verdict, unlessRefused}
 use Rattle.note.specs.Notes.{Note, fits, Sound}
 use Rattle.note.specs.Faults.{noteFaults, roomFaults}
 use Rattle.note.specs.Rank.{upTo}
@@ -19,7 +19,7 @@ use Rattle.note.proofs.FirstMet.{accepted-first, accepted-second, accepted-meet
 use Rattle.note.proofs.Faults.{accepted-sound, room-enough}
 use Rattle.note.proofs.Sound.{length-starts, length-ends}
 use Rattle.pattern.specs.declared.Place.{Place}
-use Rattle.pattern.specs.Entries.{placesOf, whole as unbroken}
+use Rattle.pattern.specs.Entries.{placesOf, wholeList as unbroken}
 use Rattle.pattern.specs.Places.{coversFrom, covers, listFaults}
 use Rattle.pattern.proofs.Places.{covers-places, covers-whole}
 use Rattle.slice.proofs.Judged.{Short, accepted-short}
@@ -32,7 +32,7 @@ use Rattle.behaviors.proofs.Runs.{pieces-few}
 use Rattle.spans.specs.Packing.{packedSpan, packedOf, SpansRoom, SpansLaid}
 use Rattle.split.specs.declared.Pieces.{Pieces}
 use Rattle.split.specs.declared.Pieces.the-variants.{Cut, Refused}
-use Rattle.split.specs.Splitting.{PieceColumns, cutBy, splitFaults, cutUnlessRefused, pieceRoom, alignmentRoom, Splitting}
+use Rattle.split.specs.Splitting.{PieceColumns, cutBy, splitFaults, cutSizes, pieceRoom, alignmentRoom, Splitting}
 use Rattle.split.specs.PieceSlices.{bytesBefore}
 use Rattle.split.specs.Writing.{PieceSpans, ColumnsRoom, ColumnsLaid, Countable, CutInto}
 use Rattle.split.proofs.Cuts.{pieces-spans, pieces-short, bytes-counted, in-order, starts-above, ends-above, shifts-are, lengths-are, alignment-starts-are, alignment-ends-are, starts-long, ends-long, alignments-long, starts-are, ends-are, pieces-long, shifts-long}
@@ -163,11 +163,15 @@ module _ (most : ℕ) (n : Note) (list : List ℕ) (b : SplitDelimiterBehavior) 
 
   pub pieces-fit : length (listPieces b e list) ≤ forPieces
   pieces-fit =
-      omega (arith, pieces-long n (listPieces b e list), room-enough (length (cutBy n list b e .starts)) forPieces (accepted-first (roomFaults (length (cutBy n list b e .starts)) forPieces) (roomFaults (length (cutBy n list b e .alignment-starts)) forAlignments) rooms-ok))
+      let size : ℕ = length (cutBy n list b e .starts) in
+      let first = accepted-first (roomFaults size forPieces) (roomFaults (length (cutBy n list b e .alignment-starts)) forAlignments) rooms-ok in
+      omega (arith, pieces-long n (listPieces b e list), room-enough size forPieces first)
 
   pub alignments-fit : totalLength (listPieces b e list) ≤ forAlignments
   alignments-fit =
-      omega (arith, alignments-long n cut-sound (listPieces b e list) cut-spans, room-enough (length (cutBy n list b e .alignment-starts)) forAlignments (accepted-second (roomFaults (length (cutBy n list b e .starts)) forPieces) (roomFaults (length (cutBy n list b e .alignment-starts)) forAlignments) rooms-ok))
+      let size : ℕ = length (cutBy n list b e .alignment-starts) in
+      let second = accepted-second (roomFaults (length (cutBy n list b e .starts)) forPieces) (roomFaults size forAlignments) rooms-ok in
+      omega (arith, alignments-long n cut-sound (listPieces b e list) cut-spans, room-enough size forAlignments second)
 
 module _ (most : ℕ) (n : Note) (list : List ℕ) (b : SplitDelimiterBehavior) (e : EmptyPieces) (c : PieceColumns) (ok : verdict (splitFaults most n list b e (pieceRoom c) (alignmentRoom c)) ≡ Accepted) where
   abbrev ps : List Place
@@ -283,11 +287,11 @@ module _ (most : ℕ) (n : Note) (list : List ℕ) (b : SplitDelimiterBehavior) 
           }
 
 -- THE CALL
-pub cut-told : (v : Verdict) (c : PieceColumns) {x y : ℕ} → Cut x y ≡ cutUnlessRefused v c → v ≡ Accepted
+pub cut-told : (v : Verdict) (c : PieceColumns) {x y : ℕ} → Cut x y ≡ unlessRefused Refused v (cutSizes c) → v ≡ Accepted
 cut-told Accepted c e = refl
 cut-told (Rejected k) c e = let z : _≡_ {A = ℕ} 0 1 = cc in absurd (omega arith)
 
-pub count-told : {v : Verdict} (c : PieceColumns) {x y : ℕ} → v ≡ Accepted → Cut x y ≡ cutUnlessRefused v c → x ≡ length (c .starts)
+pub count-told : {v : Verdict} (c : PieceColumns) {x y : ℕ} → v ≡ Accepted → Cut x y ≡ unlessRefused Refused v (cutSizes c) → x ≡ length (c .starts)
 count-told c {x = x} {y = y} a e = let z : Cut x y ≡ Cut (length (c .starts)) (length (c .alignment-starts)) = rw a at e in cc
 
 module _ (most : ℕ) (n : Note) (list : List ℕ) (b : SplitDelimiterBehavior) (e : EmptyPieces) (c : PieceColumns) {v : Verdict} {spans numbers forPieces forAlignments : ℕ}

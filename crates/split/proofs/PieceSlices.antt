@@ -15,7 +15,7 @@ use Rattle.utf8.proofs.Boundaries.{boundary-zero}
 use Rattle.note.specs.declared.Refusal.the-variants.{NotBoundary, Missing}
 use Rattle.note.specs.declared.Verdict.{Verdict}
 use Rattle.note.specs.declared.Verdict.the-variants.{Accepted}
-use Rattle.note.specs.Refusals.{none, meets, verdict, after}
+use Rattle.note.specs.Refusals.{none, meets, verdict, after, unlessRefused}
 use Rattle.note.specs.Notes.{Note, Sound}
 use Rattle.note.specs.Faults.{noteFaults}
 use Rattle.note.proofs.FirstMet.{accepted-first, both-accepted}
@@ -28,8 +28,8 @@ use Rattle.pattern.specs.Entries.{placesOf}
 use Rattle.pattern.proofs.Places.{Span, covers-span, covers-rest}
 use Rattle.slice.specs.declared.NoteSlice.{NoteSlice}
 use Rattle.slice.specs.declared.Sliced.{Sliced}
-use Rattle.slice.specs.declared.Sliced.the-variants.{Cut as Slice}
-use Rattle.slice.specs.Slicing.{validRange, sliceOf, sliced, slicedColumn, sliceSize, unplaced, sliceMissing, sliceFaults, slicedUnlessRefused, normalizedStart, normalizedEnd, Slicing}
+use Rattle.slice.specs.declared.Sliced.the-variants.{Cut as Slice, Refused as Unsliced}
+use Rattle.slice.specs.Slicing.{validRange, sliceOf, sliced, slicedColumn, sliceSize, unplaced, sliceMissing, sliceFaults, normalizedStart, normalizedEnd, Slicing}
 use Rattle.slice.proofs.Lowered.{length-lowered}
 use Rattle.slice.proofs.Cutting.{normalized-own}
 use Rattle.behaviors.specs.declared.SplitDelimiterBehavior.{SplitDelimiterBehavior}
@@ -148,7 +148,7 @@ before-front (a ∷ from) [] d e (suc k) l h = absurd (omega arith)
 before-front (a ∷ from) (b ∷ to) d e (suc k) l h = rw (before-front from to d e k (omega arith) (omega arith))
 
 -- THE CLAIM
-slice-told : {v : Verdict} {s : NoteSlice} {r : Sliced} → v ≡ Accepted → r ≡ slicedUnlessRefused v s → r ≡ Slice s
+slice-told : {v : Verdict} {s : NoteSlice} {r : Sliced} → v ≡ Accepted → r ≡ unlessRefused Unsliced v (Slice s) → r ≡ Slice s
 slice-told a e = e ∙ rw a
 
 after-told : {v : Verdict} (x d : List ℕ) {y : List ℕ} → v ≡ Accepted → y ≡ after v x d → y ≡ overlay x d
@@ -247,8 +247,12 @@ module _ (most : ℕ) (n : Note) (list : List ℕ) (b : SplitDelimiterBehavior) 
               record {
                 start-is = start-own n good _ _ in-text;
                 end-is = end-own n good _ _ in-text;
-                shift-is = ap (λ (s : NoteSlice). s .«original_shift») the-slice ∙ shift-at n good all k (omega (arith, counted)) ∙ sym (ap (λ (xs : List ℕ). getD xs k 0) shifts-now ∙ getD-overlay _ (c₀ .shifts) k (omega (arith, counted, length-map all (λ (p : Place). pieceOf n p .«original_shift»))));
-                length-is = ap originalLength the-slice ∙ length-at n good all k (omega (arith, counted)) ∙ sym (ap (λ (xs : List ℕ). getD xs k 0) lengths-now ∙ getD-overlay _ (c₀ .lengths) k (omega (arith, counted, length-map all (λ (p : Place). originalLength (pieceOf n p)))));
+                shift-is =
+                    ap (λ (s : NoteSlice). s .«original_shift») the-slice ∙ shift-at n good all k (omega (arith, counted))
+                    ∙ sym (ap (λ (xs : List ℕ). getD xs k 0) shifts-now ∙ getD-overlay _ (c₀ .shifts) k (omega (arith, counted, length-map all (λ (p : Place). pieceOf n p .«original_shift»))));
+                length-is =
+                    ap originalLength the-slice ∙ length-at n good all k (omega (arith, counted))
+                    ∙ sym (ap (λ (xs : List ℕ). getD xs k 0) lengths-now ∙ getD-overlay _ (c₀ .lengths) k (omega (arith, counted, length-map all (λ (p : Place). originalLength (pieceOf n p)))));
                 starts-are = after-told _ _ taken (w .starts-are) ∙ ap (λ (x : List ℕ). overlay x starts₀) (ap (λ (s : NoteSlice). slicedColumn s (n .starts)) the-slice ∙ sym stretch-starts);
                 ends-are = after-told _ _ taken (w .ends-are) ∙ ap (λ (x : List ℕ). overlay x ends₀) (ap (λ (s : NoteSlice). slicedColumn s (n .ends)) the-slice ∙ sym stretch-ends);
               };

@@ -28,7 +28,8 @@ stretchOf c k column =
     part column (bytesBefore (c .starts) (c .ends) k) (bytesBefore (c .starts) (c .ends) (suc k))
 
 -- the slice s, with these alignments in front of the columns that were lent for it, is the piece at k
-pub record IsPiece (c : PieceColumns) (k : ℕ) (starts₀ ends₀ : List ℕ) (s : NoteSlice) (starts ends : List ℕ) : Type 0 where
+pub record IsPiece (c : PieceColumns) (k : ℕ) (starts₀ ends₀ : List ℕ) (s : NoteSlice)
+    (starts ends : List ℕ) : Type 0 where
   pub start-is : normalizedStart s ≡ getD (c .starts) k 0
   pub end-is : normalizedEnd s ≡ getD (c .ends) k 0
   pub shift-is : s .«original_shift» ≡ getD (c .shifts) k 0
@@ -37,7 +38,8 @@ pub record IsPiece (c : PieceColumns) (k : ℕ) (starts₀ ends₀ : List ℕ) (
   pub ends-are : ends ≡ overlay (stretchOf c k (c .alignment-ends)) ends₀
 
 -- an answer of `slice` is that slice
-pub record Answers (c : PieceColumns) (k : ℕ) (starts₀ ends₀ : List ℕ) (r : Sliced) (starts ends : List ℕ) : Type 0 where
+pub record Answers (c : PieceColumns) (k : ℕ) (starts₀ ends₀ : List ℕ) (r : Sliced)
+    (starts ends : List ℕ) : Type 0 where
   pub slice : NoteSlice
   pub answer : r ≡ Slice slice
   pub is-piece : IsPiece c k starts₀ ends₀ slice starts ends
@@ -46,8 +48,8 @@ pub record Answers (c : PieceColumns) (k : ℕ) (starts₀ ends₀ : List ℕ) (
 -- cleaned range and columns that have room for it, is accepted, and answers and writes that very piece.
 abbrev pub PieceIsSlice : Type 0
 PieceIsSlice =
-    (most : ℕ) (n : Note) (list : List ℕ) (behavior : SplitDelimiterBehavior) (empty : EmptyPieces) (c₀ c : PieceColumns)
-    (pieces alignments : ℕ) → Splitting most n list behavior empty c₀ (Cut pieces alignments) c
+    (most : ℕ) (n : Note) (list : List ℕ) (behavior : SplitDelimiterBehavior) (empty : EmptyPieces)
+    (c₀ c : PieceColumns) (pieces alignments : ℕ) → Splitting most n list behavior empty c₀ (Cut pieces alignments) c
     → (k : ℕ) → k < pieces → (starts₀ ends₀ : List ℕ) (r : Sliced) (starts ends : List ℕ)
     → getD (c .ends) k 0 - getD (c .starts) k 0 ≤ length starts₀
     → getD (c .ends) k 0 - getD (c .starts) k 0 ≤ length ends₀

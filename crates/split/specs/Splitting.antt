@@ -7,8 +7,7 @@ use mathlib.Core.List.{List, map, flatMap}
 use lib.ListN.{length}
 use Rattle.note.specs.declared.Refusal.{Refusal}
 use Rattle.note.specs.declared.Verdict.{Verdict}
-use Rattle.note.specs.declared.Verdict.the-variants.{Accepted, Refused as Rejected}
-use Rattle.note.specs.Refusals.{also, verdict, after}
+use Rattle.note.specs.Refusals.{also, verdict, after, unlessRefused}
 use Rattle.note.specs.Notes.{Note}
 use Rattle.note.specs.Faults.{noteFaults, roomFaults}
 use Rattle.convert.specs.declared.Range.the-variants.{Normalized}
@@ -42,16 +41,23 @@ pub record PieceColumns : Type 0 where
   pub alignment-starts : List ℕ
   pub alignment-ends : List ℕ
 
+-- six lent columns, by their numbers
+abbrev pub columns : List ℕ → List ℕ → List ℕ → List ℕ → List ℕ → List ℕ → PieceColumns
+columns starts ends shifts lengths alignmentStarts alignmentEnds =
+    record {
+      starts = starts;
+      ends = ends;
+      shifts = shifts;
+      lengths = lengths;
+      alignment-starts = alignmentStarts;
+      alignment-ends = alignmentEnds;
+    }
+
 unfoldable pub cut : Note → List Place → PieceColumns
 cut n ps =
-    record {
-      starts = startsOf ps;
-      ends = endsOf ps;
-      shifts = map (λ p. pieceOf n p .«original_shift») ps;
-      lengths = map (λ p. originalLength (pieceOf n p)) ps;
-      alignment-starts = flatMap (λ p. slicedColumn (pieceOf n p) (n .starts)) ps;
-      alignment-ends = flatMap (λ p. slicedColumn (pieceOf n p) (n .ends)) ps;
-    }
+    columns (startsOf ps) (endsOf ps)
+    (map (λ p. pieceOf n p .«original_shift») ps) (map (λ p. originalLength (pieceOf n p)) ps)
+    (flatMap (λ p. slicedColumn (pieceOf n p) (n .starts)) ps) (flatMap (λ p. slicedColumn (pieceOf n p) (n .ends)) ps)
 
 -- the note cut by a list under a behaviour
 abbrev pub cutBy : Note → List ℕ → SplitDelimiterBehavior → EmptyPieces → PieceColumns
@@ -65,22 +71,9 @@ splitFaults most n list behavior empty forPieces forAlignments =
     (also (roomFaults (length (cutBy n list behavior empty .starts)) forPieces)
     (roomFaults (length (cutBy n list behavior empty .alignment-starts)) forAlignments)))
 
--- the answer: how many pieces there are and how many alignments, or the refusal
-abbrev pub cutUnlessRefused : Verdict → PieceColumns → Pieces
-cutUnlessRefused Accepted c = Cut (length (c .starts)) (length (c .alignment-starts))
-cutUnlessRefused (Rejected k) c = Refused k
-
--- six lent columns, by their numbers
-abbrev pub columns : List ℕ → List ℕ → List ℕ → List ℕ → List ℕ → List ℕ → PieceColumns
-columns starts ends shifts lengths alignmentStarts alignmentEnds =
-    record {
-      starts = starts;
-      ends = ends;
-      shifts = shifts;
-      lengths = lengths;
-      alignment-starts = alignmentStarts;
-      alignment-ends = alignmentEnds;
-    }
+-- how many pieces there are, and how many alignments
+abbrev pub cutSizes : PieceColumns → Pieces
+cutSizes c = Cut (length (c .starts)) (length (c .alignment-starts))
 
 -- the room that they have for pieces, and the room for alignments
 abbrev pub pieceRoom : PieceColumns → ℕ
@@ -95,7 +88,7 @@ pub record Splitting (most : ℕ) (n : Note) (list : List ℕ) (behavior : Split
     (c₀ : PieceColumns) (r : Pieces) (c : PieceColumns) : Type 0 where
   pub says : Verdict
   pub says-is : says ≡ verdict (splitFaults most n list behavior empty (pieceRoom c₀) (alignmentRoom c₀))
-  pub answer : r ≡ cutUnlessRefused says (cutBy n list behavior empty)
+  pub answer : r ≡ unlessRefused Refused says (cutSizes (cutBy n list behavior empty))
   pub starts-are : c .starts ≡ after says (cutBy n list behavior empty .starts) (c₀ .starts)
   pub ends-are : c .ends ≡ after says (cutBy n list behavior empty .ends) (c₀ .ends)
   pub shifts-are : c .shifts ≡ after says (cutBy n list behavior empty .shifts) (c₀ .shifts)

@@ -7,13 +7,12 @@ use lib.Dec.{eqb}
 use lib.ListN.{length, getD}
 use Rattle.buffers.specs.Splice.{part, overlay}
 use Rattle.buffers.specs.Over.{Source}
-use Rattle.note.specs.declared.Verdict.the-variants.{Accepted}
 use Rattle.note.specs.Notes.{Note}
 use Rattle.slice.specs.Slicing.{lowered}
 use Rattle.behaviors.specs.declared.SplitDelimiterBehavior.{SplitDelimiterBehavior}
 use Rattle.behaviors.specs.declared.EmptyPieces.{EmptyPieces}
 use Rattle.split.specs.declared.Pieces.{Pieces}
-use Rattle.split.specs.Splitting.{PieceColumns, cutBy, cutUnlessRefused}
+use Rattle.split.specs.Splitting.{PieceColumns, cutBy, cutSizes}
 use Rattle.split.specs.PieceSlices.{bytesBefore}
 
 -- where the transcript of the cleaned bytes a..b starts and where it ends; an empty range is its own numbers
@@ -118,7 +117,7 @@ pub record BothRoom (starts ends : List ℕ) (from to base : ℕ) (outStarts out
 -- the pieces stand in front of the six columns, and are counted
 pub record CutInto (n : Note) (list : List ℕ) (behavior : SplitDelimiterBehavior) (empty : EmptyPieces)
     (c₀ : PieceColumns) (r : Pieces) (c : PieceColumns) : Type 0 where
-  pub answer : r ≡ cutUnlessRefused Accepted (cutBy n list behavior empty)
+  pub answer : r ≡ cutSizes (cutBy n list behavior empty)
   pub starts-are : c .starts ≡ overlay (cutBy n list behavior empty .starts) (c₀ .starts)
   pub ends-are : c .ends ≡ overlay (cutBy n list behavior empty .ends) (c₀ .ends)
   pub shifts-are : c .shifts ≡ overlay (cutBy n list behavior empty .shifts) (c₀ .shifts)

@@ -11,15 +11,15 @@ use lib.ListN.{length, getD, set, take, drop, length-map, drop-of-length-le}
 use lib.Seq.{drop-cons, getD-take, getD-drop, length-take-le}
 use borrow.Author.Tests.{leb-true, ltb-true}
 use Rattle.buffers.proofs.Cases.{clash}
-use Rattle.buffers.proofs.Splice.{Laying, none-laid, piece-laid, all-laid}
+use Rattle.buffers.proofs.Splice.{Laying, none-laid, piece-laid, all-laid, store-one}
 use Rattle.spans.specs.Packing.{spanStart, spanEnd}
-use Rattle.spans.proofs.Packing.{store-one}
-use Rattle.char_offsets.specs.Positions.{indexOf}
-use Rattle.char_offsets.specs.Steps.{IndexKnown}
+use Rattle.char_offsets.proofs.CharOffsetsList.{known-none}
+use Rattle.convert.specs.declared.Range.{Range}
+use Rattle.convert.specs.Converting.{rangeOf, startOf, endOf}
 use Rattle.convert.specs.declared.OffsetReferential.{OffsetReferential}
-use Rattle.split_offsets.specs.declared.Bytes.{Bytes}
 use Rattle.split_offsets.specs.declared.Cursor.{Cursor}
-use Rattle.split_offsets.specs.Steps.{fromByte, toByte, Piece, BytesAre, BothKnown, inOrder, eachSpan, SpansReady, BytesWritten}
+use Rattle.split_offsets.proofs.Numbered.{range-start, range-end}
+use Rattle.split_offsets.specs.Steps.{fromByte, toByte, Piece, BothKnown, inOrder, eachSpan, SpansReady, BytesWritten}
 
 -- the first of pieces in order
 pub record First (size at a b : ℕ) (from to : List ℕ) : Type 0 where
@@ -76,14 +76,10 @@ pub record Converting (most : ℕ) (starts ends : List ℕ) (shift : ℕ) (side 
   pub ends-laid : Laying (eachSpan (λ a e. e) starts ends shift side 0 (firsts count spans₀) (lasts count spans₀)) (eachSpan (λ a e. e) starts ends shift side sum (drop k (firsts count spans₀)) (drop k (lasts count spans₀))) to₀ k to
 
 abbrev pub zero-cursor : Cursor
-zero-cursor = record { at = 0; index = 0 }
-
-zero-known : {most : ℕ} {s : List ℕ} → length s ≤ most → IndexKnown most s 0 0
-unfolding indexOf
-zero-known short = record { short = short; inside = omega arith; so-far = refl }
+zero-cursor = record { at = record { 0 = 0 }; index = record { 0 = 0 } }
 
 pub both-zero : {most : ℕ} {s : List ℕ} → length s ≤ most → BothKnown most s zero-cursor zero-cursor
-both-zero short = record { first-known = zero-known short; last-known = zero-known short }
+both-zero short = record { first-known = known-none short; last-known = known-none short }
 
 module _ {most : ℕ} {starts ends : List ℕ} {shift count : ℕ} {spans₀ to₀ : List ℕ} (r : SpansReady most starts ends shift count spans₀ to₀) where
   spans-long : length (take count spans₀) ≡ count
@@ -147,21 +143,26 @@ module _ {most : ℕ} {starts ends : List ℕ} {shift count : ℕ} {spans₀ to�
               low = r .low;
             }
 
-        each-here : (number : ℕ → ℕ → ℕ) → eachSpan number starts ends shift side sum (drop k (firsts count spans₀)) (drop k (lasts count spans₀)) ≡ (number (fromByte starts shift side sum a) (toByte ends shift side sum a b) ∷ []) ++ eachSpan number starts ends shift side (sum + (b - a)) (drop (k + 1) (firsts count spans₀)) (drop (k + 1) (lasts count spans₀))
+        each-here : (number : ℕ → ℕ → ℕ)
+            → eachSpan number starts ends shift side sum (drop k (firsts count spans₀)) (drop k (lasts count spans₀)) ≡ (number (fromByte starts shift side sum a) (toByte ends shift side sum a b) ∷ []) ++ eachSpan number starts ends shift side (sum + (b - a)) (drop (k + 1) (firsts count spans₀)) (drop (k + 1) (lasts count spans₀))
         unfolding eachSpan
         each-here number = rw (from-here, to-here)
 
-        pub one-converted : {bytes : Bytes} → BytesAre starts ends shift side sum a b bytes → Converting most starts ends shift side count spans₀ to₀ (sum + (b - a)) (k + 1) (set from k (bytes .start)) (set to k (bytes .end))
-        one-converted {bytes} w =
+        pub one-converted : {bytes : Range} {x y : ℕ} → bytes ≡ rangeOf side (fromByte starts shift side sum a) (toByte ends shift side sum a b)
+            → x ≡ startOf bytes → y ≡ endOf bytes
+            → Converting most starts ends shift side count spans₀ to₀ (sum + (b - a)) (k + 1) (set from k x) (set to k y)
+        one-converted {x = x} {y = y} is at-start at-end =
+            let start : x ≡ fromByte starts shift side sum a = at-start ∙ ap startOf is ∙ range-start side _ _ in
+            let end : y ≡ toByte ends shift side sum a b = at-end ∙ ap endOf is ∙ range-end side _ _ in
             record {
               at = b;
               behind = omega (arith, c .behind, here .behind, here .some);
               few = omega arith;
               ordered = here .rest;
               starts-laid =
-                  piece-laid _ (bytes .start ∷ []) _ spans₀ k from
-                  (rw (each-here (λ a e. a), ← w .start-is) at (c .starts-laid)) (k + 1) (set from k (bytes .start)) refl (store-one from k (bytes .start) (in-columns .0));
+                  piece-laid _ (x ∷ []) _ spans₀ k from
+                  (rw (each-here (λ a e. a), ← start) at (c .starts-laid)) (k + 1) (set from k x) refl (store-one from k x (in-columns .0));
               ends-laid =
-                  piece-laid _ (bytes .end ∷ []) _ to₀ k to
-                  (rw (each-here (λ a e. e), ← w .end-is) at (c .ends-laid)) (k + 1) (set to k (bytes .end)) refl (store-one to k (bytes .end) (in-columns .1));
+                  piece-laid _ (y ∷ []) _ to₀ k to
+                  (rw (each-here (λ a e. e), ← end) at (c .ends-laid)) (k + 1) (set to k y) refl (store-one to k y (in-columns .1));
             }

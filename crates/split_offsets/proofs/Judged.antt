@@ -18,7 +18,7 @@ use Rattle.note.specs.Faults.{noteFaults, roomFaults}
 use Rattle.note.specs.Rank.{upTo}
 use Rattle.note.proofs.FirstMet.{accepted-first, accepted-second, accepted-meets, refused-then, accepted-then}
 use Rattle.note.proofs.Faults.{accepted-sound, room-enough, no-room, enough-room}
-use Rattle.pattern.specs.Entries.{placesOf, whole}
+use Rattle.pattern.specs.Entries.{placesOf, wholeList}
 use Rattle.pattern.specs.Places.{covers, coversFrom, listFaults}
 use Rattle.pattern.proofs.Places.{covers-places, covers-whole}
 use Rattle.slice.proofs.Judged.{Short, accepted-short}
@@ -102,7 +102,7 @@ module _ (most : ℕ) (n : Note) (list : List ℕ) (behavior : SplitDelimiterBeh
     pub accepted-covers : coversFrom (n .normalized) 0 (placesOf list) ≡ true
     accepted-covers = covers-places (n .normalized) list covers-list
 
-    pub accepted-whole : whole list ≡ true
+    pub accepted-whole : wholeList list ≡ true
     accepted-whole = covers-whole (n .normalized) list covers-list
 
     pub accepted-room : length (splitPieces list behavior) ≤ room

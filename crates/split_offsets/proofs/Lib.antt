@@ -1,5 +1,6 @@
 -- Laws of split offsets.
 pub mod Numbered
+pub mod FirstBytes
 pub mod Converting
 pub mod Pairs
 pub mod Judged

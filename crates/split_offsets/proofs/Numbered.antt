@@ -1,47 +1,56 @@
--- Laws of `fromByte`, `toByte`, `startNumber` and `endNumber`: the numbers of one piece, case by case as the code comes to them; the flags of a block.
-use Prim.Native.Nat.{ℕ, zero, suc, _+_, _-_, _*_, _/_, _≤_, _<_, min}
+-- Laws of `fromByte`, `toByte`, `startNumber` and `endNumber`: the numbers of one piece, case by case as the code comes to them.
+use Prim.Native.Nat.{ℕ, zero, suc, _+_, _-_, _≤_, _<_, min}
 use mathlib.Core.Path.{_≡_, _∙_, ap, refl, sym}
-use mathlib.Core.Bool.{Bool, true, false, not}
+use mathlib.Core.Bool.{true}
 use mathlib.Core.List.{List}
 use native.Mathlib.Omega.{arith}
-use mir.Val.{boolByte}
-use lib.Bits.{bitAnd}
 use lib.Dec.{ltb}
-use lib.ListN.{length, getD, replicate, getD-replicate, List·getD-append}
-use lib.Seq.{getD-append-add}
+use lib.ListN.{length, getD}
 use borrow.Author.Tests.{lt-leb, lt-ltb, le-ltb, ltb-true}
-use Rattle.buffers.proofs.Cases.{le-or-lt, clash}
+use Rattle.buffers.proofs.Cases.{le-or-lt}
 use Rattle.buffers.proofs.Every.{every-at}
 use Rattle.utf8.specs.Table.{within}
 use Rattle.utf8.specs.Formed.{continues}
 use Rattle.validity.specs.Texts.{ascii}
 use Rattle.char_offsets.specs.Positions.{indexOf, endIndex, pairOf}
-use Rattle.utf8.specs.Chars.{leads}
-use Rattle.buffers.specs.Splice.{part, splice}
-use Rattle.char_offsets.specs.Steps.{IndexKnown, Near}
-use Rattle.char_offsets.proofs.PairTold.{end-inside, end-last, end-past, Nearing, next-near, moved-on}
+use Rattle.char_offsets.specs.Steps.{IndexKnown}
+use Rattle.char_offsets.proofs.PairTold.{end-inside, end-last, end-past}
+use Rattle.convert.specs.Converting.{inOriginal, inNormalized, rangeOf, startOf, endOf}
 use Rattle.convert.specs.declared.OffsetReferential.{OffsetReferential}
 use Rattle.convert.specs.declared.OffsetReferential.the-variants.{Original, Normalized}
 use Rattle.split_offsets.specs.declared.OffsetType.the-variants.{Char}
 use Rattle.split_offsets.specs.declared.Cursor.{Cursor}
 use Rattle.split_offsets.specs.SplitOffsets.{startNumber, endNumber}
-use Rattle.split_offsets.specs.Steps.{fromByte, toByte, BytesAre, BothKnown, Stepped, nearFlags, PlainEnd}
+use Rattle.split_offsets.specs.Steps.{fromByte, toByte, BothKnown, Stepped, PlainEnd}
 
 module _ (starts ends : List ℕ) (shift sum a b : ℕ) {side : OffsetReferential} where
-  pub bytes-original : side ≡ Original → BytesAre starts ends shift side sum a b (record { start = shift + getD starts a 0; end = shift + getD ends (b - 1) 0 })
-  unfolding fromByte toByte
-  bytes-original is = record { start-is = rw is; end-is = rw is }
+  pub bytes-original : side ≡ Original
+      → inOriginal (shift + getD starts a 0) (shift + getD ends (b - 1) 0) ≡ rangeOf side (fromByte starts shift side sum a) (toByte ends shift side sum a b)
+  unfolding rangeOf fromByte toByte
+  bytes-original is = rw is
 
-  pub bytes-normalized : side ≡ Normalized → BytesAre starts ends shift side sum a b (record { start = sum; end = sum + (b - a) })
-  unfolding fromByte toByte
-  bytes-normalized is = record { start-is = rw is; end-is = rw is }
+  pub bytes-normalized : side ≡ Normalized
+      → inNormalized sum (sum + (b - a)) ≡ rangeOf side (fromByte starts shift side sum a) (toByte ends shift side sum a b)
+  unfolding rangeOf fromByte toByte
+  bytes-normalized is = rw is
+
+-- the numbers of a range
+pub range-start : (side : OffsetReferential) (a b : ℕ) → startOf (rangeOf side a b) ≡ a
+unfolding rangeOf
+range-start Original a b = refl
+range-start Normalized a b = refl
+
+pub range-end : (side : OffsetReferential) (a b : ℕ) → endOf (rangeOf side a b) ≡ b
+unfolding rangeOf
+range-end Original a b = refl
+range-end Normalized a b = refl
 
 -- a byte inside the text, and its character
 pub cursor-at : {most : ℕ} {s : List ℕ} {at index : ℕ} → length s ≤ most → at < length s → index ≡ indexOf s at → IndexKnown most s at index
 cursor-at short below is = record { short = short; inside = omega arith; so-far = is }
 
 -- a start where the last end was
-pub start-same : {most : ℕ} {s : List ℕ} {a : ℕ} {first last : Cursor} → BothKnown most s first last → a ≡ last .at → last .index ≡ indexOf s a
+pub start-same : {most : ℕ} {s : List ℕ} {a : ℕ} {first last : Cursor} → BothKnown most s first last → a ≡ last .at .0 → last .index .0 ≡ indexOf s a
 start-same {s = s} known is = known .last-known .so-far ∙ ap (indexOf s) (sym is)
 
 -- in a text of bytes below 80 each byte is a character
@@ -107,48 +116,11 @@ module _ (s : List ℕ) (a e : ℕ) where
         (λ inside. omega (arith, end-inside a e below inside .right s refl, ascii-index s e plain inside)))
 
 module _ {size a e : ℕ} where
-  pub plain-past : a < size → size < e → PlainEnd size a e (a + 2)
-  plain-past below past = record { right = λ s long plain. plain-end-past s a e plain (omega arith) (omega arith) }
+  pub plain-past : {r : ℕ} → a < size → size < e → r ≡ a + 2 → PlainEnd size a e r
+  plain-past below past is = record { right = λ s long plain. is ∙ plain-end-past s a e plain (omega arith) (omega arith) }
 
   pub plain-inside : a < size → e ≤ size → PlainEnd size a e e
   plain-inside below most = record { right = λ s long plain. plain-end-inside s a e plain (omega arith) (omega arith) }
 
   pub plain-beyond : size ≤ a → PlainEnd size a e e
   plain-beyond past = record { right = λ s long plain. end-beyond s a e (omega arith) }
-
--- the flags of a block, as they are filled
-pub flags-made : {flags : List ℕ} → flags ≡ splice (replicate 32 0) 0 (replicate 16 1) → flags ≡ nearFlags
-unfolding splice
-flags-made is = is
-
--- the flag of a byte of a block is 1 for the first n
-pub flag-is : (from n j : ℕ) → n ≤ 16 → j < 16 → getD nearFlags (16 - n + j) 0 ≡ (from + n - from + (15 - j)) / 16
-flag-is from n j few more =
-    le-or-lt n j
-    (λ past.
-    let here : 16 - n + j ≡ 16 + (j - n) = omega arith in
-    let none : (from + n - from + (15 - j)) / 16 ≡ 0 = omega arith in
-    rw (here, none) (getD-append-add (replicate 16 1) (replicate 16 0) (j - n) 0 ∙ getD-replicate 16 (j - n) 0 0 (omega arith)))
-    (λ low.
-    let one : (from + n - from + (15 - j)) / 16 ≡ 1 = omega arith in
-    rw one (List·getD-append (replicate 16 1) (replicate 16 0) 0 (16 - n + j) (omega arith) ∙ getD-replicate 16 (16 - n + j) 1 0 (omega arith)))
-
-and-flag : (t : Bool) (m : ℕ) → m ≤ 1 → bitAnd (boolByte t) m ≡ boolByte t * m
-and-flag true zero h = refl
-and-flag true (suc zero) h = refl
-and-flag true (suc (suc m)) h = absurd (omega arith)
-and-flag false zero h = refl
-and-flag false (suc zero) h = refl
-and-flag false (suc (suc m)) h = absurd (omega arith)
-
--- one more byte of a block, with its flag
-pub flag-near : {s : List ℕ} {from : ℕ} (n : ℕ) {count j : ℕ} → Near s from (from + n) → Nearing s from (from + n) count j → j < 16 → {t : Bool} → t ≡ continues (getD s (from + j) 0) → {flags : List ℕ} → flags ≡ nearFlags → Nearing s from (from + n) (count + bitAnd (boolByte (not t)) (getD flags (16 - n + j) 0)) (j + 1)
-flag-near {from = from} n {j = j} r k more {t} e same =
-    let few : n ≤ 16 = omega (arith, r .few) in
-    let small : (from + n - from + (15 - j)) / 16 ≤ 1 = omega arith in
-    rw (same, flag-is from n j few more, and-flag (not t) ((from + n - from + (15 - j)) / 16) small) (next-near r k more e)
-
-pub moved-behind : {most : ℕ} {s : List ℕ} {last : Cursor} (to : ℕ) {r : ℕ} → IndexKnown most s (last .at) (last .index) → last .at ≤ to → to < length s → r ≡ leads (part s (last .at + 1) (last .at + 1 + (to - last .at))) → last .index + r ≡ indexOf s to
-moved-behind {last = last} to known low below is =
-    let end : last .at + 1 + (to - last .at) ≡ to + 1 = omega arith in
-    moved-on to known low below (rw end at is)

@@ -2,15 +2,14 @@
 use Prim.Native.Nat.{ℕ, suc, _+_, _-_, _≤_, _<_}
 use mathlib.Core.Path.{_≡_, _∙_, ap, refl, sym}
 use mathlib.Core.Bool.{true}
-use mathlib.Core.List.{List, [], _∷_, _++_, map}
+use mathlib.Core.List.{List, [], _∷_, map}
 use native.Mathlib.Numerals.{add-one}
 use native.Mathlib.Omega.{arith}
 use lib.ListN.{length, getD, set, take, drop, drop-of-length-le, take-append-drop}
 use lib.Seq.{drop-cons, getD-take, length-take-le}
 use Rattle.buffers.specs.Splice.{overlay}
-use Rattle.buffers.proofs.Splice.{Laying, none-laid, piece-laid, all-laid, take-overlay, overlay-long, overlay-overlay}
+use Rattle.buffers.proofs.Splice.{Laying, none-laid, piece-laid, all-laid, store-one, take-overlay, overlay-long, overlay-overlay}
 use Rattle.spans.specs.Packing.{spanStart, spanEnd}
-use Rattle.spans.proofs.Packing.{store-one}
 use Rattle.validity.specs.Texts.{ascii}
 use Rattle.convert.specs.declared.OffsetReferential.{OffsetReferential}
 use Rattle.split_offsets.specs.declared.OffsetType.{OffsetType}
@@ -29,7 +28,8 @@ length-pairs number (a ∷ from) [] e = absurd (omega arith)
 length-pairs number (a ∷ from) (b ∷ to) e = ap suc (length-pairs number from to (omega arith))
 
 -- the number of each span is that of its bytes
-pub pairs-each : (number : ℕ → ℕ → ℕ) (starts ends : List ℕ) (shift : ℕ) (side : OffsetReferential) (sum : ℕ) (from to : List ℕ) → eachPair number (eachSpan (λ a e. a) starts ends shift side sum from to) (eachSpan (λ a e. e) starts ends shift side sum from to) ≡ eachSpan number starts ends shift side sum from to
+pub pairs-each : (number : ℕ → ℕ → ℕ) (starts ends : List ℕ) (shift : ℕ) (side : OffsetReferential) (sum : ℕ) (from to : List ℕ)
+    → eachPair number (eachSpan (λ a e. a) starts ends shift side sum from to) (eachSpan (λ a e. e) starts ends shift side sum from to) ≡ eachSpan number starts ends shift side sum from to
 unfolding eachPair eachSpan
 pairs-each number starts ends shift side sum [] to = refl
 pairs-each number starts ends shift side sum (a ∷ from) [] = refl
@@ -109,10 +109,11 @@ module _ {most : ℕ} {s : List ℕ} {count : ℕ} {from₀ to₀ : List ℕ} (r
     pub in-both : k < count → (k < length from) × (k < length to)
     in-both more = (omega (arith, c .starts-on .same, r .starts-room), omega (arith, c .ends-on .same, r .ends-room))
 
-    pub one-counted : k < count → {o : Offsets} → Stepped most s (getD from k 0) (getD to k 0) o → Counting most s count from₀ to₀ (o .first) (o .last) (k + 1) (set from k (o .start)) (set to k (o .end))
-    one-counted more {o} st =
-        let a : getD from k 0 ≡ getD from₀ k 0 = unwritten (c .starts-on) in
-        let e : getD to k 0 ≡ getD to₀ k 0 = unwritten (c .ends-on) in
+    pub one-counted : k < count → {x y : ℕ} {o : Offsets} → x ≡ getD from k 0 → y ≡ getD to k 0 → Stepped most s x y o
+        → Counting most s count from₀ to₀ (o .first) (o .last) (k + 1) (set from k (o .start)) (set to k (o .end))
+    one-counted more {x} {y} {o} at-x at-y st =
+        let a : x ≡ getD from₀ k 0 = at-x ∙ unwritten (c .starts-on) in
+        let e : y ≡ getD to₀ k 0 = at-y ∙ unwritten (c .ends-on) in
         record {
           few = omega arith;
           known = st .known;
@@ -135,12 +136,13 @@ module _ {most : ℕ} {s : List ℕ} {count : ℕ} {from₀ to₀ : List ℕ} (r
     pub end-room : k < count → k < length to
     end-room more = omega (arith, c .ends-on .same, r .ends-room)
 
-    pub one-ended : k < count → ascii s ≡ true → {size x : ℕ} → size ≡ length s → PlainEnd size (getD from₀ k 0) (getD to k 0) x → Ending s count from₀ to₀ (k + 1) (set to k x)
-    one-ended more plain {size} {x} long p =
-        let e : getD to k 0 ≡ getD to₀ k 0 = unwritten (c .ends-on) in
+    pub one-ended : k < count → ascii s ≡ true → {size a e x : ℕ} → size ≡ length s → a ≡ getD from₀ k 0 → e ≡ getD to k 0 → PlainEnd size a e x
+        → Ending s count from₀ to₀ (k + 1) (set to k x)
+    one-ended more plain {a = a} {e = e} long at-a at-e p =
+        let here : e ≡ getD to₀ k 0 = at-e ∙ unwritten (c .ends-on) in
         record {
           few = omega arith;
-          ends-on = one-column more (endNumber s Char) (c .ends-on) (end-room more) (rw e at (p .right s (sym long) plain));
+          ends-on = one-column more (endNumber s Char) (c .ends-on) (end-room more) (rw (at-a, here) at (p .right s (sym long) plain));
         }
 
     pub all-ended : count ≤ k → EndsCounted s count from₀ to₀ to

@@ -8,7 +8,6 @@ use native.Mathlib.Omega.{arith}
 use lib.Dec.{leb, ltb, eqb}
 use lib.ListN.{length, take}
 use borrow.Author.Tests.{le-leb, lt-ltb, eqb-false, not-true}
-use Rattle.buffers.specs.Splice.{overlay}
 use Rattle.buffers.proofs.Cases.{true-or-false}
 use Rattle.buffers.proofs.Splice.{overlay-overlay}
 use Rattle.note.specs.declared.Refusal.{Refusal}
@@ -21,7 +20,7 @@ use Rattle.convert.specs.declared.OffsetReferential.{OffsetReferential}
 use Rattle.convert.specs.declared.OffsetReferential.the-variants.{Original, Normalized}
 use Rattle.convert.specs.declared.Converted.the-variants.{Found}
 use Rattle.convert.specs.Converting.{inOriginal, inNormalized}
-use Rattle.convert.specs.Inside.{Lies}
+use Rattle.utf8.proofs.Boundaries.{Between}
 use Rattle.convert.proofs.Inside.{expanded-inside}
 use Rattle.pattern.specs.declared.Place.{Place}
 use Rattle.pattern.specs.Entries.{placesOf}
@@ -88,12 +87,14 @@ module _ (n : Note) (sound : Sound n) (p : Place) (some : p .start .0 < p .end .
   pub end-byte : (side : OffsetReferential) → endByte n side sum p ≡ toByte (n .ends) (n .original-shift) side sum (p .start .0) (p .end .0)
   unfolding endByte toByte sliceOf placeLength originalLength
   end-byte Original =
-      let lies : Lies (n .original) (startAt n (p .start .0)) (endAt n (p .end .0 - 1)) = expanded-inside n sound (p .start .0) (p .end .0) some in-ends in
-      let whole : n .original-shift + startAt n (p .start .0) + (endAt n (p .end .0 - 1) - startAt n (p .start .0)) ≡ n .original-shift + endAt n (p .end .0 - 1) = omega (arith, lies .forward) in
+      let lies : Between (n .original) (startAt n (p .start .0)) (endAt n (p .end .0 - 1)) = expanded-inside n sound (p .start .0) (p .end .0) some in-ends in
+      let whole : n .original-shift + startAt n (p .start .0) + (endAt n (p .end .0 - 1) - startAt n (p .start .0)) ≡ n .original-shift + endAt n (p .end .0 - 1) = omega (arith, lies .onward) in
       ap (λ (s : NoteSlice). s .«original_shift» + originalLength s) piece-is ∙ whole
   end-byte Normalized = refl
 
-pub each-pieces : (number : ℕ → ℕ → ℕ) (n : Note) → Sound n → (side : OffsetReferential) (sum at : ℕ) (ps : List Place) → inOrder (length (n .starts)) at (startsOf ps) (endsOf ps) ≡ true → eachSpan number (n .starts) (n .ends) (n .original-shift) side sum (startsOf ps) (endsOf ps) ≡ eachPiece number n side sum ps
+pub each-pieces : (number : ℕ → ℕ → ℕ) (n : Note) → Sound n → (side : OffsetReferential) (sum at : ℕ) (ps : List Place)
+    → inOrder (length (n .starts)) at (startsOf ps) (endsOf ps) ≡ true
+    → eachSpan number (n .starts) (n .ends) (n .original-shift) side sum (startsOf ps) (endsOf ps) ≡ eachPiece number n side sum ps
 unfolding eachSpan eachPiece placeLength
 each-pieces number n sound side sum at [] e = refl
 each-pieces number n sound side sum at (p ∷ ps) e =

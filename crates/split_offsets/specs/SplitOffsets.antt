@@ -7,13 +7,11 @@ use mathlib.Core.List.{List, [], _∷_, map}
 use lib.ListN.{length}
 use Rattle.note.specs.declared.Refusal.{Refusal}
 use Rattle.note.specs.declared.Verdict.{Verdict}
-use Rattle.note.specs.declared.Verdict.the-variants.{Accepted, Refused as Rejected}
-use Rattle.note.specs.Refusals.{also, verdict, after}
+use Rattle.note.specs.declared.Verdict.the-variants.{Accepted}
+use Rattle.note.specs.Refusals.{also, verdict, unlessRefused, after}
 use Rattle.note.specs.Notes.{Note, startAt, endAt}
 use Rattle.note.specs.Faults.{noteFaults, roomFaults}
-use Rattle.char_offsets.specs.declared.CharOffsets.{CharOffsets}
-use Rattle.char_offsets.specs.declared.CharOffsets.the-variants.{Chars, Refused as Unmapped}
-use Rattle.char_offsets.specs.Positions.{pairOf}
+use Rattle.char_offsets.specs.Positions.{ofPair, pairOf}
 use Rattle.convert.specs.declared.OffsetReferential.{OffsetReferential}
 use Rattle.convert.specs.declared.OffsetReferential.the-variants.{Original, Normalized}
 use Rattle.pattern.specs.declared.Place.{Place}
@@ -48,21 +46,13 @@ endByte n Normalized sum p = sum + placeLength p
 
 -- RULES 13.3: what stands for two bytes a and e, by what the converter of the transcript says of them (12): the two
 -- characters, or the bytes themselves
-abbrev pub startOr : CharOffsets → ℕ → ℕ
-startOr (Chars first last) a = first .0
-startOr (Unmapped k) a = a
-
-abbrev pub endOr : CharOffsets → ℕ → ℕ
-endOr (Chars first last) e = last .0
-endOr (Unmapped k) e = e
-
 unfoldable pub startNumber : List ℕ → OffsetType → ℕ → ℕ → ℕ
 startNumber original Byte a e = a
-startNumber original Char a e = startOr (pairOf original a e) a
+startNumber original Char a e = ofPair (λ i j. i) (λ k. a) (pairOf original a e)
 
 unfoldable pub endNumber : List ℕ → OffsetType → ℕ → ℕ → ℕ
 endNumber original Byte a e = e
-endNumber original Char a e = endOr (pairOf original a e) e
+endNumber original Char a e = ofPair (λ i j. j) (λ k. e) (pairOf original a e)
 
 -- a number for each piece, from the sum of the sizes before it on
 unfoldable pub eachPiece : (ℕ → ℕ → ℕ) → Note → OffsetReferential → ℕ → List Place → List ℕ
@@ -83,22 +73,18 @@ splitsFaults most n list behavior room =
     (also (listFaults (n .normalized) list)
     (roomFaults (length (splitPieces list behavior)) room))
 
-abbrev pub listedUnlessRefused : Verdict → List Place → Splits
-listedUnlessRefused Accepted ps = Listed (length ps)
-listedUnlessRefused (Rejected k) ps = Refused k
-
 -- THE CALL: limit, note, list, behaviour, what is asked, the lent columns before, the answer, the lent columns after
 pub record GetSplits (most : ℕ) (n : Note) (list : List ℕ) (behavior : SplitDelimiterBehavior)
     (side : OffsetReferential) (unit : OffsetType) (starts₀ ends₀ : List ℕ) (r : Splits)
     (starts ends : List ℕ) : Type 0 where
   pub says : Verdict
   pub says-is : says ≡ verdict (splitsFaults most n list behavior (min (length starts₀) (length ends₀)))
-  pub answer : r ≡ listedUnlessRefused says (splitPieces list behavior)
+  pub answer : r ≡ unlessRefused Refused says (Listed (length (splitPieces list behavior)))
   pub starts-are : starts ≡ after says (splitStarts n side unit (splitPieces list behavior)) starts₀
   pub ends-are : ends ≡ after says (splitEnds n side unit (splitPieces list behavior)) ends₀
 
 -- CLAIM: in the bytes of the transcript a piece goes from where the alignment of its first cleaned byte starts to where
--- that of its last one ends, both behind the shift.
+-- that of its last one ends, both after the shift.
 abbrev pub SplitsOriginal : Type 0
 SplitsOriginal =
     (most : ℕ) (n : Note) (list : List ℕ) (behavior : SplitDelimiterBehavior) (room : ℕ)
@@ -108,8 +94,8 @@ SplitsOriginal =
     × (splitEnds n Original Byte (splitPieces list behavior)
     ≡ map (λ p. n .original-shift + endAt n (p .end .0 - 1)) (splitPieces list behavior))
 
--- CLAIM: in the bytes of the cleaned text a piece has its own start and end under a behaviour that dropsMatches nothing.
--- (Under Removed the pieces are counted as if they stood one straight behind the other.)
+-- CLAIM: in the bytes of the cleaned text a piece has its own start and end under a behaviour that drops no match.
+-- (Under `Removed` the pieces are counted as if each came straight after the one before it.)
 abbrev pub SplitsNormalized : Type 0
 SplitsNormalized =
     (most : ℕ) (n : Note) (list : List ℕ) (behavior : SplitDelimiterBehavior) (room : ℕ)

@@ -13,7 +13,6 @@ use Rattle.convert.specs.declared.OffsetReferential.the-variants.{Original, Nor
 use Rattle.spans.specs.Packing.{spanStart, spanEnd}
 use Rattle.split_offsets.specs.declared.OffsetType.{OffsetType}
 use Rattle.split_offsets.specs.declared.OffsetType.the-variants.{Char}
-use Rattle.split_offsets.specs.declared.Bytes.{Bytes}
 use Rattle.split_offsets.specs.declared.Cursor.{Cursor}
 use Rattle.split_offsets.specs.declared.Offsets.{Offsets}
 use Rattle.split_offsets.specs.SplitOffsets.{startNumber, endNumber}
@@ -27,7 +26,7 @@ unfoldable pub toByte : List ℕ → ℕ → OffsetReferential → ℕ → ℕ �
 toByte ends shift Original sum a b = shift + getD ends (b - 1) 0
 toByte ends shift Normalized sum a b = sum + (b - a)
 
--- a piece that has a byte, behind pieces of that sum
+-- a piece that has a byte, after pieces of that sum
 pub record Piece (most : ℕ) (starts ends : List ℕ) (shift sum a b : ℕ) : Type 0 where
   pub some : a < b
   pub behind : sum ≤ a
@@ -36,14 +35,9 @@ pub record Piece (most : ℕ) (starts ends : List ℕ) (shift sum a b : ℕ) : T
   pub few : length starts ≤ most
   pub low : shift ≤ most
 
-pub record BytesAre (starts ends : List ℕ) (shift : ℕ) (side : OffsetReferential) (sum a b : ℕ)
-    (r : Bytes) : Type 0 where
-  pub start-is : r .start ≡ fromByte starts shift side sum a
-  pub end-is : r .end ≡ toByte ends shift side sum a b
-
 -- a byte of the transcript whose character is known
 abbrev pub Known : ℕ → List ℕ → Cursor → Type 0
-Known most s c = IndexKnown most s (c .at) (c .index)
+Known most s c = IndexKnown most s (c .at .0) (c .index .0)
 
 -- two of them
 pub record BothKnown (most : ℕ) (s : List ℕ) (first last : Cursor) : Type 0 where
@@ -56,11 +50,16 @@ pub record Stepped (most : ℕ) (s : List ℕ) (a e : ℕ) (r : Offsets) : Type 
   pub end-is : r .end ≡ endNumber s Char a e
   pub known : BothKnown most s (r .first) (r .last)
 
+-- at most 16 bytes of a text, from a place on that has 16
+pub record Near (s : List ℕ) (from n : ℕ) : Type 0 where
+  pub few : n ≤ 16
+  pub inside : from + 16 ≤ length s
+
 -- 16 ones and 16 zeros: from 16 - n on, n ones and then zeros
 abbrev pub nearFlags : List ℕ
 nearFlags = replicate 16 1 ++ replicate 16 0
 
--- pieces inside a text of `size` bytes, each with a byte, one behind the other from `at` on
+-- pieces inside a text of `size` bytes, each with a byte, one after the other from `at` on
 unfoldable pub inOrder : ℕ → ℕ → List ℕ → List ℕ → Bool
 inOrder size at [] [] = true
 inOrder size at [] (b ∷ to) = false

@@ -8,8 +8,15 @@ use char_offsets::index_from;
 use checks::check_note;
 use checks::least_of_two;
 use convert::OffsetReferential;
+use convert::Range;
+use convert::end_of;
+use convert::start_of;
+use note::CharIndex;
+use note::NormalizedByte;
+use note::OriginalByte;
 use note::Refusal;
 use note::Verdict;
+use note::rewrap::looked_up_as_original;
 use note::verdicts::refused_if;
 use pattern::covers;
 use pattern::most_places;
@@ -28,11 +35,11 @@ ghost use Rattle.validity.specs.Texts.{ascii};
 ghost use Rattle.note.specs.Notes.{lent, limit};
 ghost use Rattle.note.specs.Refusals.{verdict};
 ghost use Rattle.char_offsets.specs.Positions.{indexOf};
-ghost use Rattle.char_offsets.specs.Steps.{Near};
+ghost use Rattle.convert.specs.Converting.{rangeOf};
 ghost use Rattle.split_offsets.specs.SplitOffsets.{GetSplits, splitsFaults};
-ghost use Rattle.split_offsets.specs.Steps.{BothKnown, BytesAre, BytesWritten, CharsCounted, EndsCounted, Known};
+ghost use Rattle.split_offsets.specs.Steps.{BothKnown, BytesWritten, CharsCounted, EndsCounted, Known, Near};
 ghost use Rattle.split_offsets.specs.Steps.{nearFlags, PairsReady, Piece, PlainEnd, SpansConverted, SpansReady};
-ghost use Rattle.split_offsets.specs.Steps.{Stepped};
+ghost use Rattle.split_offsets.specs.Steps.{Stepped, fromByte, toByte};
 
 // What offsets count (Rust: `OffsetType`).
 pub enum OffsetType {
@@ -46,19 +53,14 @@ pub enum Splits {
     Refused(Refusal),
 }
 
-// Where a piece stands, in bytes.
-pub struct Bytes {
-    pub start: u32,
-    pub end: u32,
-}
-
 // A byte of the transcript whose character is known.
 pub struct Cursor {
-    pub at: usize,
-    pub index: u32,
+    pub at: OriginalByte,
+    pub index: CharIndex,
 }
 
-// Where a piece stands, in what was asked; and a byte near each of its ends whose character is known.
+// The offsets of a piece in characters, or the bytes themselves where the transcript has none there; and a byte near
+// each of its ends whose character is known.
 pub struct Offsets {
     pub start: u32,
     pub end: u32,
@@ -66,52 +68,65 @@ pub struct Offsets {
     pub last: Cursor,
 }
 
-// The bytes of the piece from..to of the cleaned text, behind pieces of `sum` bytes.
+// The bytes of the piece from..to of the cleaned text: in the transcript, from the shift on; or in the cleaned text,
+// after pieces of `sum` bytes.
 fn piece_bytes(
     starts: &[Offset],
     ends: &[Offset],
     original_shift: u32,
     side: OffsetReferential,
-    sum: u32,
-    from: u32,
-    to: u32,
-) -> Bytes
-    requires { ⌜ Piece limit (now starts) (now ends) «original_shift» sum from to ⌝ }
-    ensures { λ r. ⌜ BytesAre (now (starts .entry)) (now (ends .entry)) «original_shift» side sum from to r ⌝ }
+    sum: NormalizedByte,
+    from: NormalizedByte,
+    to: NormalizedByte,
+) -> Range
+    requires { ⌜ Piece limit (now starts) (now ends) «original_shift» (sum .0) (from .0) (to .0) ⌝ }
+    ensures { λ r. ⌜ r ≡ rangeOf side (fromByte (now (starts .entry)) «original_shift» side (sum .0) (from .0))
+        (toByte (now (ends .entry)) «original_shift» side (sum .0) (from .0) (to .0)) ⌝ }
 {
     match side {
         OffsetReferential::Original => {
-            let first = from as usize;
-            let past = to as usize;
-            Bytes {
-                start: original_shift + starts[first] as u32,
-                end: original_shift + ends[past - 1] as u32,
-            }
+            let first = from.0 as usize;
+            let past = to.0 as usize;
+            let start = OriginalByte(original_shift + starts[first] as u32);
+            let end = OriginalByte(original_shift + ends[past - 1] as u32);
+            Range::Original(start, end)
         }
-        OffsetReferential::Normalized => Bytes {
-            start: sum,
-            end: sum + (to - from),
-        },
+        OffsetReferential::Normalized => {
+            let end = NormalizedByte(sum.0 + (to.0 - from.0));
+            Range::Normalized(sum, end)
+        }
+    }
+}
+
+// The byte of the transcript at which the character of an offset is looked up (RULES 13.3): an offset of the transcript
+// is that byte, one of the cleaned text is taken for it.
+fn looked_up(side: OffsetReferential, offset: u32) -> OriginalByte
+    ensures { λ r. ⌜ r .0 ≡ offset ⌝ }
+{
+    match side {
+        OffsetReferential::Original => OriginalByte(offset),
+        OffsetReferential::Normalized => looked_up_as_original(NormalizedByte(offset)),
     }
 }
 
 // The character of the byte `from`: that of the last byte where they are the same, as along pieces without a gap; else
 // from the first one on.
-fn start_index(text: &[u8], first: Cursor, last: Cursor, from: usize) -> u32
+fn start_index(text: &[u8], first: Cursor, last: Cursor, from: OriginalByte) -> CharIndex
     requires { ⌜ BothKnown limit (now text) first last ⌝ }
-    requires { ⌜ from < length (now text) ⌝ }
-    ensures { λ r. ⌜ r ≡ indexOf (now (text .entry)) from ⌝ }
+    requires { ⌜ from .0 < length (now text) ⌝ }
+    ensures { λ r. ⌜ r .0 ≡ indexOf (now (text .entry)) (from .0) ⌝ }
 {
-    if from == last.at {
+    let known = last.at;
+    if from.0 == known.0 {
         return last.index;
     }
     index_from(text, first.at, first.index, from)
 }
 
 // How many of the first `n` bytes from `from` on begin a character, of which there are at most 16: a block of 16 is
-// looked at, each byte with its flag, 1 for the first `n` and 0 behind them.
+// looked at, each byte with its flag, 1 for the first `n` and 0 after them. A loop within loops: its numbers are plain.
 fn first_leads(text: &[u8], flags: &[u8; 32], from: usize, n: usize) -> u8
-    requires { ⌜ Near (now text) from (from + n) × (now flags ≡ nearFlags) ⌝ }
+    requires { ⌜ Near (now text) from n × (now flags ≡ nearFlags) ⌝ }
     ensures { λ r. ⌜ r ≡ leads (part (now (text .entry)) from (from + n)) ⌝ }
 {
     let skipped = 16 - n;
@@ -126,20 +141,23 @@ fn first_leads(text: &[u8], flags: &[u8; 32], from: usize, n: usize) -> u8
 }
 
 // The character of the byte `to`, from a byte that is most often at most 16 before it.
-fn index_behind(text: &[u8], flags: &[u8; 32], last: Cursor, to: usize) -> u32
+fn index_after(text: &[u8], flags: &[u8; 32], last: Cursor, to: OriginalByte) -> CharIndex
     requires { ⌜ Known limit (now text) last × (now flags ≡ nearFlags) ⌝ }
-    requires { ⌜ to < length (now text) ⌝ }
-    ensures { λ r. ⌜ r ≡ indexOf (now (text .entry)) to ⌝ }
+    requires { ⌜ to .0 < length (now text) ⌝ }
+    ensures { λ r. ⌜ r .0 ≡ indexOf (now (text .entry)) (to .0) ⌝ }
 {
-    let at = last.at;
-    if at <= to {
-        if to - at <= 16 {
+    let known = last.at;
+    let index = last.index;
+    let at = known.0 as usize;
+    let asked = to.0 as usize;
+    if at <= asked {
+        if asked - at <= 16 {
             if at + 17 <= text.len() {
-                return last.index + first_leads(text, flags, at + 1, to - at) as u32;
+                return CharIndex(index.0 + first_leads(text, flags, at + 1, asked - at) as u32);
             }
         }
     }
-    index_from(text, at, last.index, to)
+    index_from(text, known, index, to)
 }
 
 // Two bytes as characters of the text; the bytes themselves where the text has none at `start`. Starts and ends have a
@@ -149,39 +167,42 @@ fn in_chars(
     flags: &[u8; 32],
     first: Cursor,
     last: Cursor,
-    start: u32,
-    end: u32,
+    start: OriginalByte,
+    end: OriginalByte,
 ) -> Offsets
     requires { ⌜ BothKnown limit (now text) first last × (now flags ≡ nearFlags) ⌝ }
-    ensures { λ r. ⌜ Stepped limit (now (text .entry)) start end r ⌝ }
+    ensures { λ r. ⌜ Stepped limit (now (text .entry)) (start .0) (end .0) r ⌝ }
 {
-    let from = start as usize;
-    let to = end as usize;
-    if text.len() <= from {
+    let to = end.0 as usize;
+    if text.len() <= start.0 as usize {
         return Offsets {
-            start,
-            end,
+            start: start.0,
+            end: end.0,
             first,
             last,
         };
     }
-    let index = start_index(text, first, last, from);
-    let first = Cursor { at: from, index };
+    let index = start_index(text, first, last, start);
+    let first = Cursor { at: start, index };
     if text.len() < to {
         return Offsets {
-            start: index,
-            end: index + 2,
+            start: index.0,
+            end: index.0 + 2,
             first,
             last,
         };
     }
     let at = least_of_two(to, text.len() - 1);
-    let past = index_behind(text, flags, last, at);
+    let byte = OriginalByte(at as u32);
+    let past = index_after(text, flags, last, byte);
     Offsets {
-        start: index,
-        end: past + (to - at) as u32,
+        start: index.0,
+        end: past.0 + (to - at) as u32,
         first,
-        last: Cursor { at, index: past },
+        last: Cursor {
+            at: byte,
+            index: past,
+        },
     }
 }
 
@@ -201,35 +222,41 @@ fn write_bytes(
         (now («out_starts» .entry)) (now («out_ends» .entry))
         (now («out_starts» .exit)) (now («out_ends» .exit)) ⌝ }
 {
-    let mut sum: u32 = 0;
+    let mut sum = NormalizedByte(0);
     let mut k = 0;
     while k < count {
         let span = out_starts[k];
-        let from = span_start(span);
-        let to = span_end(span);
+        let from = NormalizedByte(span_start(span));
+        let to = NormalizedByte(span_end(span));
         let bytes = piece_bytes(starts, ends, original_shift, side, sum, from, to);
-        out_starts[k] = bytes.start;
-        out_ends[k] = bytes.end;
-        sum += to - from;
+        out_starts[k] = start_of(bytes);
+        out_ends[k] = end_of(bytes);
+        sum = NormalizedByte(sum.0 + (to.0 - from.0));
         k += 1;
     }
 }
 
 // The end of a pair of bytes in characters of an ASCII text of `size` bytes: only one past the text is another number.
-fn plain_end(size: u32, start: u32, end: u32) -> u32
+fn plain_end(size: u32, start: OriginalByte, end: OriginalByte) -> u32
     requires { ⌜ size ≤ limit ⌝ }
-    ensures { λ r. ⌜ PlainEnd size start end r ⌝ }
+    ensures { λ r. ⌜ PlainEnd size (start .0) (end .0) r ⌝ }
 {
-    if start < size {
-        if size < end {
-            return start + 2;
+    if start.0 < size {
+        if size < end.0 {
+            return start.0 + 2;
         }
     }
-    end
+    end.0
 }
 
 // Pairs of bytes of an ASCII text become its characters, of which the starts are the bytes.
-fn write_plain(text: &[u8], count: usize, out_starts: &[u32], out_ends: &mut [u32])
+fn write_plain(
+    text: &[u8],
+    side: OffsetReferential,
+    count: usize,
+    out_starts: &[u32],
+    out_ends: &mut [u32],
+)
     requires { ⌜ PairsReady limit (now text) count (now «out_starts») (now «out_ends») ⌝ }
     requires { ⌜ ascii (now text) ≡ true ⌝ }
     ensures { λ _. ⌜ EndsCounted (now (text .entry)) count (now («out_starts» .entry))
@@ -237,24 +264,37 @@ fn write_plain(text: &[u8], count: usize, out_starts: &[u32], out_ends: &mut [u3
 {
     let mut k = 0;
     while k < count {
-        out_ends[k] = plain_end(text.len() as u32, out_starts[k], out_ends[k]);
+        let start = looked_up(side, out_starts[k]);
+        let end = looked_up(side, out_ends[k]);
+        out_ends[k] = plain_end(text.len() as u32, start, end);
         k += 1;
     }
 }
 
-// Pairs of bytes become characters of the text.
-fn count_chars(text: &[u8], count: usize, out_starts: &mut [u32], out_ends: &mut [u32])
+// Pairs of offsets become characters of the text.
+fn count_chars(
+    text: &[u8],
+    side: OffsetReferential,
+    count: usize,
+    out_starts: &mut [u32],
+    out_ends: &mut [u32],
+)
     requires { ⌜ PairsReady limit (now text) count (now «out_starts») (now «out_ends») ⌝ }
     ensures { λ _. ⌜ CharsCounted (now (text .entry)) count (now («out_starts» .entry)) (now («out_ends» .entry))
         (now («out_starts» .exit)) (now («out_ends» .exit)) ⌝ }
 {
     let mut flags = [0u8; 32];
     fill_bytes(1, 16, &mut flags, 0);
-    let mut first = Cursor { at: 0, index: 0 };
-    let mut last = Cursor { at: 0, index: 0 };
+    let mut first = Cursor {
+        at: OriginalByte(0),
+        index: CharIndex(0),
+    };
+    let mut last = first;
     let mut k = 0;
     while k < count {
-        let offsets = in_chars(text, &flags, first, last, out_starts[k], out_ends[k]);
+        let start = looked_up(side, out_starts[k]);
+        let end = looked_up(side, out_ends[k]);
+        let offsets = in_chars(text, &flags, first, last, start, end);
         out_starts[k] = offsets.start;
         out_ends[k] = offsets.end;
         first = offsets.first;
@@ -295,15 +335,15 @@ fn convert_spans(
         OffsetType::Byte => {}
         OffsetType::Char => {
             if is_ascii(original) {
-                write_plain(original, count, out_starts, out_ends);
+                write_plain(original, side, count, out_starts, out_ends);
             } else {
-                count_chars(original, count, out_starts, out_ends);
+                count_chars(original, side, count, out_starts, out_ends);
             }
         }
     }
 }
 
-// What `get_splits` says of a note and a list beside the room that is lent.
+// What `get_splits` says of a note and a list beside the room that is given.
 fn check_splits(
     original: &[u8],
     normalized: &[u8],
@@ -331,8 +371,8 @@ fn check_splits(
     refused_if(room < sizes.pieces, Refusal::NoRoom)
 }
 
-// The offsets of the pieces that a list and a behaviour give, of which empty ones are dropped, stand in front of the
-// two columns. Refusals: those of a note, then `BadMatches`, `NoRoom`.
+// The offsets of the pieces that a list and a behaviour give, of which empty ones are dropped, are written in
+// front of the two columns. Refusals: those of a note, then `BadMatches`, `NoRoom`.
 pub fn get_splits(
     original: &[u8],
     normalized: &[u8],

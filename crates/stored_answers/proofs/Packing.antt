@@ -1,6 +1,6 @@
 -- Laws of `times` and `parts`: they fit the room, and a unit or a part more.
 use Prim.Native.Nat.{ℕ, zero, suc, _+_, _-_, _/_, _≤_, _<_, min}
-use mathlib.Core.Path.{_≡_, _∙_, ap, refl, sym}
+use mathlib.Core.Path.{_≡_, _∙_, ap, refl}
 use mathlib.Core.List.{List, [], _++_}
 use native.Mathlib.Omega.{arith}
 use native.Mathlib.Decide.{decLe}
@@ -44,7 +44,7 @@ unit-of part from is =
     let long : length (drop from part) ≡ length part - from = length-drop from part in
     take-all (length part - from) (drop from part) (omega arith) ∙ ap (λ k. drop k part) is ∙ drop-min part 4
 
--- k units of a part were partLaid, or there is no room for one more
+-- k units of a part were laid, or there is no room for one more
 pub record Repeating (part d₀ : List ℕ) (at n : ℕ) (unit d : List ℕ) (end k : ℕ) : Type 0 where
   pub laying : LayingFrom (partLaid part (length d₀ - at)) d₀ at (times (n - k) unit (length d - end)) d end
   pub within : end ≤ length d
@@ -96,7 +96,7 @@ parts-fit (suc n) k packed room =
     parts-fit n (k + 1) packed (room - length (partLaid (fieldOf k packed) room)) in
     rw (parts-more n k packed room, length-append (partLaid (fieldOf k packed) room) (parts n (k + 1) packed (room - length (partLaid (fieldOf k packed) room)))) (omega arith)
 
--- k of n parts were partLaid
+-- k of n parts were laid
 pub record Unpacking (packed d₀ : List ℕ) (n : ℕ) (d : List ℕ) (end k : ℕ) : Type 0 where
   pub laying : LayingFrom (parts n 0 packed (length d₀)) d₀ 0 (parts (n - k) k packed (length d - end)) d end
   pub within : end ≤ length d

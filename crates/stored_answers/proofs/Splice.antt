@@ -1,13 +1,13 @@
 -- A run that is laid into a buffer from any place on, piece by piece: none yet, one more, all of it.
 use Prim.Native.Nat.{ℕ, suc, _+_, _≤_, _<_, min}
 use mathlib.Core.Path.{_≡_, _∙_, ap, refl, sym}
-use mathlib.Core.List.{List, [], _∷_, _++_, append-assoc, append-nil}
+use mathlib.Core.List.{List, [], _∷_, _++_}
 use native.Mathlib.Numerals.{add-one}
 use native.Mathlib.Decide.{decLe}
 use native.Mathlib.Nat.{lt-of-not-le}
 use native.Mathlib.Omega.{arith}
-use lib.ListN.{length, take, drop, set, length-append, length-take, length-drop, length-set, take-append-drop}
-use lib.Seq.{take-at, drop-at, drop-drop, length-take-le, set-split, append-snoc, take-all}
+use lib.ListN.{length, take, drop, set, length-append}
+use lib.Seq.{take-at, length-take-le, set-split, append-snoc, take-all}
 use Rattle.buffers.specs.Splice.{splice, Laid}
 use Rattle.buffers.proofs.Splice.{splice-nil, length-splice, splice-splice}
 use Rattle.io.specs.Counts.{Counts}

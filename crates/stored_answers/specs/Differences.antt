@@ -7,7 +7,8 @@ use Rattle.stored_answers.specs.Framing.{leadingNumber}
 -- n elements after `last`
 unfoldable pub summed : ℕ → ℕ → ℕ → List ℕ → List ℕ
 summed width zero last s = []
-summed width (suc n) last s = ((last + leadingNumber s) % width) ∷ summed width n ((last + leadingNumber s) % width) (drop 4 s)
+summed width (suc n) last s =
+    ((last + leadingNumber s) % width) ∷ summed width n ((last + leadingNumber s) % width) (drop 4 s)
 
 -- as many as the field has, in `room` elements
 unfoldable pub numberColumn : ℕ → ℕ → List ℕ → List ℕ

@@ -8,7 +8,7 @@ use buffers::equality::same_offsets;
 use checks::least_of_two;
 use note::LIMIT;
 ghost use mathlib.Core.Path.{_≡_};
-ghost use Prim.Native.Nat.{_+_, _≤_, _^_};
+ghost use Prim.Native.Nat.{_+_, _^_};
 ghost use lib.ListN.{length, take};
 ghost use Rattle.buffers.specs.Same.{same};
 ghost use Rattle.buffers.specs.Splice.{Laid};

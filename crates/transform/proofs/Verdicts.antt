@@ -1,4 +1,4 @@
--- Laws of `editFaults` and `transformFaults`: what an accepted edit tells, and what the calls answer by the checks that
+-- Laws of `editFaults` and `callFaults`: what an accepted edit tells, and what the calls answer by the checks that
 -- were made.
 use Prim.Native.Nat.{ℕ, _+_, _-_, _≤_, _<_, min}
 use mathlib.Core.Path.{_≡_, _∙_, ap, refl, sym}
@@ -27,15 +27,14 @@ use Rattle.note.proofs.FirstMet.{accepted-meets, unmet, refused-then, accepted-
 use Rattle.note.proofs.Sound.{length-starts, length-ends, normalized-formed}
 use Rattle.note.proofs.Faults.{accepted-sound}
 use Rattle.convert.specs.declared.Range.{Range}
-use Rattle.convert.specs.declared.Range.the-variants.{Original, Normalized}
 use Rattle.convert.specs.declared.Converted.{Converted}
 use Rattle.convert.specs.declared.Converted.the-variants.{Found, Refused}
 use Rattle.convert.specs.Converting.{startOf, endOf}
 use Rattle.convert.specs.Blocks.{OrderedColumns}
 use Rattle.convert.proofs.Answered.{accepted-columns}
-use Rattle.convert.specs.Converting.{asNormalized}
+use Rattle.numbers.specs.Entries.{readFrom}
 use Rattle.script.specs.declared.Command.{Command}
-use Rattle.script.specs.Scripts.{commandsFrom, commandsOf, whole, scriptFaults}
+use Rattle.script.specs.Scripts.{commandsOf, whole, scriptFaults}
 use Rattle.transform.specs.declared.Editing.{Editing}
 use Rattle.transform.specs.declared.Editing.the-variants.{Edited, Refused as Refusing}
 use Rattle.edit_steps.specs.declared.walking.Extent.{Extent}
@@ -44,12 +43,12 @@ use Rattle.utf8.specs.Formed.{charRange}
 use Rattle.edit_steps.specs.Edits.{skipped, characters, starved, Edit, firstPosition, edited, transformed}
 use Rattle.edit_steps.specs.Walking.{Standing, Tabled, commandsSize, measured}
 use Rattle.edit_steps.specs.Laying.{Editable, EditRoom, EditLaid}
-use Rattle.transform.specs.Transforming.{target, editOf, editFaults, Rewritten}
+use Rattle.transform.specs.Transforming.{editOf, editFaults, Rewritten}
 use Rattle.edit_steps.proofs.Positions.{standing-skipped}
 use Rattle.edit_steps.proofs.Measured.{measured-starved, measured-size}
 use Rattle.edit_steps.proofs.Given.{characters-wide, length-relaid}
 
--- a range that is charRange
+-- a range from a boundary to a boundary
 module _ {s : List ℕ} (e : Edit) (formed : wellFormed s ≡ true) (p : charRange s (e .from) (e .to) ≡ true) where
   pub placed-from : Standing s (e .to) (e .from)
   unfolding charRange
@@ -101,14 +100,10 @@ pub refused-rewritten : {v : Verdict} {made : Note} {out starts ends : List ℕ}
 refused-rewritten {made = made} {out} {starts} {ends} e =
     rw (← e) (record { answer = refl; text-is = refl; starts-are = refl; ends-are = refl })
 
-pub accepted-rewritten : {v : Verdict} {made : Note} {out₀ starts₀ ends₀ : List ℕ} {size : ℕ} {out starts ends : List ℕ} → Accepted ≡ v → size ≡ length (made .normalized) → out ≡ overlay (made .normalized) out₀ → starts ≡ overlay (made .starts) starts₀ → ends ≡ overlay (made .ends) ends₀ → Rewritten v made out₀ starts₀ ends₀ (Edited size) out starts ends
+pub accepted-rewritten : {v : Verdict} {made : Note} {out₀ starts₀ ends₀ : List ℕ} {size : ℕ} {out starts ends : List ℕ} → Accepted ≡ v
+    → size ≡ length (made .normalized) → out ≡ overlay (made .normalized) out₀ → starts ≡ overlay (made .starts) starts₀
+    → ends ≡ overlay (made .ends) ends₀ → Rewritten v made out₀ starts₀ ends₀ (Edited size) out starts ends
 accepted-rewritten e long o s t = rw (← e) (record { answer = ap Edited long; text-is = o; starts-are = s; ends-are = t })
-
--- the cleaned range that a range names is the one that a reader takes
-pub target-of : (starts ends : List ℕ) (range : Range) → asNormalized starts ends range ≡ target starts ends range
-unfolding asNormalized
-target-of starts ends (Original a b) = refl
-target-of starts ends (Normalized a b) = refl
 
 -- AN EDIT of an accepted note, as the code goes through it
 module _ (most : ℕ) {s starts ends : List ℕ} (ed : Editable s starts ends) (a b skip : ℕ) (cs : List Command) (out₀ starts₀ ends₀ : List ℕ) {t : Bool} (is : t ≡ charRange s a b) where
@@ -210,7 +205,9 @@ module _ (most : ℕ) (n : Note) (inputs : Refusal → Bool) (low : unmet (drop 
   unfolding rest
   inputs-refused is = refused-rewritten (refused-then (upTo CountMismatch) inputs rest low refl judged is)
 
-  pub inputs-accepted : v ≡ Accepted → {d : Edit} → d ≡ e → {r : Editing} {out starts ends : List ℕ} → Rewritten (verdict (editFaults most (n .normalized) d (least (length out₀) (length starts₀) (length ends₀)))) (transformed (lent [] (n .normalized) (n .starts) (n .ends) 0) d) out₀ starts₀ ends₀ r out starts ends → Behind r out starts ends
+  pub inputs-accepted : v ≡ Accepted → {d : Edit} → d ≡ e → {r : Editing} {out starts ends : List ℕ}
+      → Rewritten (verdict (editFaults most (n .normalized) d (least (length out₀) (length starts₀) (length ends₀)))) (transformed (lent [] (n .normalized) (n .starts) (n .ends) 0) d) out₀ starts₀ ends₀ r out starts ends
+      → Behind r out starts ends
   unfolding rest transformed
   inputs-accepted ok same made =
       let all : verdict rest ≡ verdict (also inputs rest) = accepted-then (upTo CountMismatch) inputs rest low refl judged ok refl in
@@ -243,12 +240,12 @@ module _ (most : ℕ) (n : Note) (l : List ℕ) {v : Verdict} (noted : v ≡ ver
     pub script-accepted : not t ≡ false → Accepted ≡ verdict (also (noteFaults most n) (scriptFaults l))
     script-accepted u = accepted-then (upTo Misaligned) (noteFaults most n) (scriptFaults l) refl refl noted ok (sym (script-verdict ∙ rw (not-false t u)))
 
--- the edit that a target asks for
+-- the edit of the range that was found
 pub edit-found : {x y : Converted} {r : Range} {a b : ℕ} (skip : ℕ) (cs : List Command) → x ≡ y → x ≡ Found r → a ≡ startOf r → b ≡ endOf r → record { from = a; to = b; skip = skip; commands = cs } ≡ editOf y skip cs
 edit-found skip cs is found from to = rw (sym is ∙ found, from, to)
 
 pub edit-none : {x y : Converted} {k : Refusal} (skip : ℕ) (cs : List Command) → x ≡ y → x ≡ Refused k → record { from = 0; to = 0; skip = 0; commands = commandsOf [] } ≡ editOf y skip cs
-unfolding commandsOf commandsFrom
+unfolding commandsOf readFrom
 edit-none skip cs is none = rw (sym is ∙ none)
 
 -- a transcript or a cleaned text over the limit

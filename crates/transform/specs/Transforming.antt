@@ -2,66 +2,73 @@
 use Prim.Native.Nat.{ℕ, min}
 use mathlib.Core.Path.{_≡_}
 use mathlib.Core.Bool.{Bool, true, not}
-use mathlib.Core.List.{List}
+use mathlib.Core.List.{List, []}
 use lib.ListN.{length}
 use Rattle.note.specs.declared.Refusal.{Refusal}
 use Rattle.note.specs.declared.Refusal.the-variants.{NotBoundary, Exhausted}
 use Rattle.note.specs.declared.Verdict.{Verdict}
-use Rattle.note.specs.declared.Verdict.the-variants.{Accepted, Refused as Rejected}
-use Rattle.note.specs.Refusals.{meets, also, verdict, after}
-use Rattle.note.specs.Notes.{Note, fits, Sound}
+use Rattle.note.specs.declared.Verdict.the-variants.{Accepted}
+use Rattle.note.specs.Refusals.{meets, also, verdict, unlessRefused, least, after, OnThree}
+use Rattle.note.specs.Notes.{Note, lent, limit, fits, Sound}
 use Rattle.note.specs.Faults.{noteFaults, roomFaults}
 use Rattle.convert.specs.declared.Range.{Range}
-use Rattle.convert.specs.declared.Range.the-variants.{Original, Normalized}
 use Rattle.convert.specs.declared.Converted.{Converted}
 use Rattle.convert.specs.declared.Converted.the-variants.{Found, Refused}
-use Rattle.convert.specs.Converting.{startOf, endOf, converted, inOriginal}
+use Rattle.convert.specs.Converting.{startOf, endOf, asNormalized, inOriginal}
 use Rattle.script.specs.declared.Command.{Command}
 use Rattle.script.specs.Scripts.{commandsOf, scriptFaults}
 use Rattle.transform.specs.declared.Editing.{Editing}
 use Rattle.transform.specs.declared.Editing.the-variants.{Edited, Refused as Refusing}
 use Rattle.utf8.specs.Formed.{charRange}
-use Rattle.edit_steps.specs.Edits.{characters, starved, Edit, firstPosition, edited, transformed, unchanging}
+use Rattle.edit_steps.specs.Edits.{characters, starved, Edit, edit, firstPosition, edited, transformed, unchanging}
 
--- RULES 7.2: a range of the cleaned text as it is, one of the transcript as it converts; where it converts to nothing,
--- the note stays as it is
-abbrev pub target : List ℕ → List ℕ → Range → Converted
-target starts ends (Normalized a b) = Found (Normalized a b)
-target starts ends (Original a b) = converted starts ends (Original a b)
-
+-- RULES 7.2: the edit of a range as it lies in the cleaned text; where it lies nowhere, the note stays as it is
 abbrev pub editOf : Converted → ℕ → List Command → Edit
-editOf (Found r) skip cs = record { from = startOf r; to = endOf r; skip = skip; commands = cs }
+editOf (Found r) skip cs = edit (startOf r) (endOf r) skip cs
 editOf (Refused k) skip cs = unchanging
 
--- the refusals of an edit beside the room that is lent: 5, 7, 9
+abbrev pub rangeEdit : Note → Range → ℕ → List Command → Edit
+rangeEdit n range skip cs = editOf (asNormalized (n .starts) (n .ends) range) skip cs
+
+-- the refusals of an edit in the room that the buffers have: 5, 7, 9
 abbrev pub editFaults : ℕ → List ℕ → Edit → ℕ → Refusal → Bool
 editFaults most s e room =
     meets NotBoundary (not (charRange s (e .from) (e .to)))
     (meets Exhausted (starved s (e .to) (firstPosition s e) (e .commands))
     (roomFaults (length (edited characters s e s)) (min most room)))
 
--- the answer: how many bytes the cleaned text has then, or the refusal
-abbrev pub editing : Verdict → ℕ → Editing
-editing Accepted size = Edited size
-editing (Rejected k) size = Refusing k
-
--- what an edit of a note answers and leaves in the lent buffers: verdict, the note that it makes, the buffers before,
--- the answer, the buffers after
+-- what an edit of a note answers and leaves in the three buffers: the verdict, the note that it makes, the buffers
+-- before, the answer, the buffers after
 pub record Rewritten (says : Verdict) (made : Note) (out₀ starts₀ ends₀ : List ℕ) (r : Editing)
     (out starts ends : List ℕ) : Type 0 where
-  pub answer : r ≡ editing says (length (made .normalized))
+  pub answer : r ≡ unlessRefused Refusing says (Edited (length (made .normalized)))
   pub text-is : out ≡ after says (made .normalized) out₀
   pub starts-are : starts ≡ after says (made .starts) starts₀
   pub ends-are : ends ≡ after says (made .ends) ends₀
 
--- THE CALL: the note's refusals and the script's, then the edit's
-abbrev pub scriptEdit : Note → Range → List ℕ → ℕ → Edit
-scriptEdit n range script skip = editOf (target (n .starts) (n .ends) range) skip (commandsOf script)
+-- A CALL THAT EDITS A NOTE: its refusals by the room of the buffers, the note and the edit
+abbrev pub EditCall : (ℕ → Refusal → Bool) → Note → Edit → OnThree Editing
+EditCall faults n e out₀ starts₀ ends₀ =
+    Rewritten (verdict (faults (least (length out₀) (length starts₀) (length ends₀)))) (transformed n e)
+    out₀ starts₀ ends₀
 
-abbrev pub transformFaults : ℕ → Note → Range → List ℕ → ℕ → ℕ → Refusal → Bool
-transformFaults most n range script skip room =
-    also (also (noteFaults most n) (scriptFaults script))
-    (editFaults most (n .normalized) (scriptEdit n range script skip) room)
+-- the refusals of a call that edits a note: the note's, those of what else the call is given, then the edit's
+abbrev pub callFaults : ℕ → Note → (Refusal → Bool) → Edit → ℕ → Refusal → Bool
+callFaults most n given e room = also (also (noteFaults most n) given) (editFaults most (n .normalized) e room)
+
+abbrev pub NoteCall : Note → (Refusal → Bool) → Edit → OnThree Editing
+NoteCall n given e = EditCall (callFaults limit n given e) n e
+
+-- an inner call, after the checks: the transcript plays no part
+abbrev pub TextCall : ℕ → List ℕ → List ℕ → List ℕ → Edit → OnThree Editing
+TextCall most s starts ends e = EditCall (editFaults most s e) (lent [] s starts ends 0) e
+
+-- `transform_range`: the note's refusals and the script's, then the edit's
+abbrev pub scriptEdit : Note → Range → List ℕ → ℕ → Edit
+scriptEdit n range script skip = rangeEdit n range skip (commandsOf script)
+
+abbrev pub TransformCall : Note → Range → List ℕ → ℕ → OnThree Editing
+TransformCall n range script skip = NoteCall n (scriptFaults script) (scriptEdit n range script skip)
 
 -- the whole transcript, which `transform` takes
 abbrev pub wholeOriginal : List ℕ → Range

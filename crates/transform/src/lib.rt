@@ -13,22 +13,17 @@ use edit_steps::walking::Extent;
 use edit_steps::walking::measure;
 use edit_steps::walking::skip;
 use note::LIMIT;
+use note::NormalizedByte;
 use note::OriginalByte;
 use note::Refusal;
 use note::Verdict;
 use script::whole;
 use utf8::is_char_range;
 use utf8::lead::lengths;
-ghost use mathlib.Core.Path.{_≡_};
-ghost use mathlib.Core.List.{[]};
-ghost use lib.ListN.{length};
 ghost use Rattle.note.specs.Notes.{lent, limit};
-ghost use Rattle.note.specs.Refusals.{least, verdict};
 ghost use Rattle.script.specs.Scripts.{commandsOf};
-ghost use Rattle.edit_steps.specs.Edits.{transformed};
 ghost use Rattle.edit_steps.specs.Laying.{Editable};
-ghost use Rattle.transform.specs.Transforming.{editFaults, Rewritten, scriptEdit};
-ghost use Rattle.transform.specs.Transforming.{transformFaults, wholeOriginal};
+ghost use Rattle.transform.specs.Transforming.{TextCall, TransformCall, wholeOriginal};
 
 // How many bytes the cleaned text has after an edit; or why nothing is edited.
 pub enum Editing {
@@ -41,8 +36,8 @@ pub fn edit(
     text: &[u8],
     starts: &[Offset],
     ends: &[Offset],
-    from: usize,
-    to: usize,
+    from: NormalizedByte,
+    to: NormalizedByte,
     initial_offset: usize,
     script: &[u8],
     out: &mut [u8],
@@ -50,16 +45,14 @@ pub fn edit(
     out_ends: &mut [Offset],
 ) -> Editing
     requires { ⌜ Editable (now text) (now starts) (now ends) ⌝ }
-    ensures { λ r. ⌜ Rewritten
-        (verdict (editFaults limit (now (text .entry))
-        (record { from = from; to = to; skip = «initial_offset»; commands = commandsOf (now (script .entry)) })
-        (least (length (now (out .entry))) (length (now («out_starts» .entry))) (length (now («out_ends» .entry))))))
-        (transformed (lent [] (now (text .entry)) (now (starts .entry)) (now (ends .entry)) 0)
-        (record { from = from; to = to; skip = «initial_offset»; commands = commandsOf (now (script .entry)) }))
+    ensures { λ r. ⌜ TextCall limit (now (text .entry)) (now (starts .entry)) (now (ends .entry))
+        (record { from = from .0; to = to .0; skip = «initial_offset»; commands = commandsOf (now (script .entry)) })
         (now (out .entry)) (now («out_starts» .entry)) (now («out_ends» .entry))
         r (now (out .exit)) (now («out_starts» .exit)) (now («out_ends» .exit)) ⌝ }
 {
-    if !is_char_range(text, from, to) {
+    let first = from.0 as usize;
+    let end = to.0 as usize;
+    if !is_char_range(text, first, end) {
         return Editing::Refused(Refusal::NotBoundary);
     }
     let table = lengths();
@@ -71,7 +64,7 @@ pub fn edit(
                 LIMIT,
                 least_room(out.len(), out_starts.len(), out_ends.len()),
             );
-            let kept = from + (text.len() - to);
+            let kept = first + (text.len() - end);
             if room < kept {
                 return Editing::Refused(Refusal::NoRoom);
             }
@@ -110,19 +103,10 @@ pub fn transform_range(
     out_starts: &mut [Offset],
     out_ends: &mut [Offset],
 ) -> Editing
-    ensures { λ r. ⌜ Rewritten
-        (verdict (transformFaults limit
+    ensures { λ r. ⌜ TransformCall
         (lent (now (original .entry)) (now (normalized .entry)) (now (starts .entry)) (now (ends .entry))
         «original_shift»)
         range (now (script .entry)) «initial_offset»
-        (least (length (now (out .entry))) (length (now («out_starts» .entry))) (length (now («out_ends» .entry))))))
-        (transformed
-        (lent (now (original .entry)) (now (normalized .entry)) (now (starts .entry)) (now (ends .entry))
-        «original_shift»)
-        (scriptEdit
-        (lent (now (original .entry)) (now (normalized .entry)) (now (starts .entry)) (now (ends .entry))
-        «original_shift»)
-        range (now (script .entry)) «initial_offset»))
         (now (out .entry)) (now («out_starts» .entry)) (now («out_ends» .entry))
         r (now (out .exit)) (now («out_starts» .exit)) (now («out_ends» .exit)) ⌝ }
 {
@@ -137,8 +121,8 @@ pub fn transform_range(
                     normalized,
                     starts,
                     ends,
-                    start_of(found) as usize,
-                    end_of(found) as usize,
+                    NormalizedByte(start_of(found)),
+                    NormalizedByte(end_of(found)),
                     initial_offset as usize,
                     script,
                     out,
@@ -149,8 +133,8 @@ pub fn transform_range(
                     normalized,
                     starts,
                     ends,
-                    0,
-                    0,
+                    NormalizedByte(0),
+                    NormalizedByte(0),
                     0,
                     &script[..0],
                     out,
@@ -175,19 +159,10 @@ pub fn transform(
     out_starts: &mut [Offset],
     out_ends: &mut [Offset],
 ) -> Editing
-    ensures { λ r. ⌜ Rewritten
-        (verdict (transformFaults limit
+    ensures { λ r. ⌜ TransformCall
         (lent (now (original .entry)) (now (normalized .entry)) (now (starts .entry)) (now (ends .entry))
         «original_shift»)
         (wholeOriginal (now (original .entry))) (now (script .entry)) «initial_offset»
-        (least (length (now (out .entry))) (length (now («out_starts» .entry))) (length (now («out_ends» .entry))))))
-        (transformed
-        (lent (now (original .entry)) (now (normalized .entry)) (now (starts .entry)) (now (ends .entry))
-        «original_shift»)
-        (scriptEdit
-        (lent (now (original .entry)) (now (normalized .entry)) (now (starts .entry)) (now (ends .entry))
-        «original_shift»)
-        (wholeOriginal (now (original .entry))) (now (script .entry)) «initial_offset»))
         (now (out .entry)) (now («out_starts» .entry)) (now («out_ends» .entry))
         r (now (out .exit)) (now («out_starts» .exit)) (now («out_ends» .exit)) ⌝ }
 {

@@ -2,12 +2,12 @@
 use Prim.Native.Nat.{ℕ, suc, _+_, _-_, _≤_, _<_}
 use mathlib.Core.Path.{_≡_, _∙_, refl, sym}
 use mathlib.Core.Bool.{Bool, true, false, not, _&&_}
-use mathlib.Core.List.{List, [], _∷_, _++_}
+use mathlib.Core.List.{List, [], _∷_}
 use mathlib.Mathlib.Data.Bool.Basic.{and-intro, and-elim-left, and-elim-right}
 use native.Mathlib.Omega.{arith}
 use lib.Dec.{leb, eqb}
-use lib.ListN.{length, getD, take, drop, length-append, length-drop, List·getD-eq-default, List·getD-append}
-use lib.Seq.{drop-cons, getD-drop, getD-append-add}
+use lib.ListN.{length, getD, take, drop, length-drop, List·getD-eq-default}
+use lib.Seq.{drop-cons, getD-drop}
 use borrow.Author.Tests.{ltb-true, leb-true, le-leb, lt-leb, eq-eqb, ne-eqb, not-true}
 use Rattle.buffers.specs.Splice.{part}
 use Rattle.buffers.proofs.Cases.{le-or-lt}
@@ -69,29 +69,6 @@ formed-part s a e p q r h =
     let at : a + (e - a) ≡ e = omega arith in
     formed-cut [] (drop a s) (e - a) none (formed-drop s a p q) (rw (getD-drop a s (e - a) 0, at) (boundary-begins s e r)) .0
 
--- boundaries of joined texts
-pub boundary-append-lt : (s t : List ℕ) (i : ℕ) → i < length s → boundary (s ++ t) i ≡ boundary s i
-unfolding boundary
-boundary-append-lt s t i h =
-    rw (length-append s t, List·getD-append s t 0 i h, le-leb i (length s) (omega arith), le-leb i (length s + length t) (omega arith))
-
-pub boundary-append-add : (s t : List ℕ) (i : ℕ) → boundary (s ++ t) (length s + i) ≡ boundary t i
-unfolding boundary
-boundary-append-add s t i =
-    rw (length-append s t, getD-append-add s t i 0)
-    (le-or-lt i (length t)
-    (λ h. rw (le-leb i (length t) h, le-leb (length s + i) (length s + length t) (omega arith)))
-    (λ h. rw (lt-leb i (length t) h, lt-leb (length s + i) (length s + length t) (omega arith))))
-
-pub boundary-seam : (s t : List ℕ) → wellFormed t ≡ true → boundary (s ++ t) (length s) ≡ true
-boundary-seam s t p = let z : length s + 0 ≡ length s = omega arith in (rw z at (boundary-append-add s t 0)) ∙ boundary-zero t p
-
-pub boundary-append : (s t : List ℕ) (i : ℕ) → wellFormed t ≡ true → boundary s i ≡ true → boundary (s ++ t) i ≡ true
-boundary-append s t i p e =
-    le-or-lt (length s) i
-    (λ h. let end : i ≡ length s = omega (arith, boundary-most s i e) in rw end (boundary-seam s t p))
-    (λ h. boundary-append-lt s t i h ∙ e)
-
 -- w bytes from a on: one that begins a character, and those that continue it
 pub record CharAt (s : List ℕ) (a w : ℕ) : Type 0 where
   pub positive : 1 ≤ w
@@ -135,7 +112,24 @@ pub char-range-both : (s : List ℕ) (a e : ℕ) {x y : Bool} → a ≤ e → x 
 unfolding charRange
 char-range-both s a e h p q = rw (p, q, le-leb a e h)
 
-pub char-range-inside : (s : List ℕ) (a e : ℕ) → charRange s a e ≡ true → (a ≤ e) × (e ≤ length s)
+-- what a range from a boundary to a boundary has
+pub record Between (s : List ℕ) (a e : ℕ) : Type 0 where
+  pub onward : a ≤ e
+  pub inside : e ≤ length s
+  pub from-boundary : boundary s a ≡ true
+  pub to-boundary : boundary s e ≡ true
+
+pub char-range-between : (s : List ℕ) (a e : ℕ) → charRange s a e ≡ true → Between s a e
 unfolding charRange
-char-range-inside s a e r =
-    (leb-true a e (and-elim-left _ (boundary s a) (and-elim-left _ (boundary s e) r)), boundary-most s e (and-elim-right (leb a e && boundary s a) _ r))
+char-range-between s a e r =
+    let two : (leb a e && boundary s a) ≡ true = and-elim-left _ (boundary s e) r in
+    let end : boundary s e ≡ true = and-elim-right (leb a e && boundary s a) _ r in
+    record {
+      onward = leb-true a e (and-elim-left _ (boundary s a) two);
+      inside = boundary-most s e end;
+      from-boundary = and-elim-right (leb a e) _ two;
+      to-boundary = end;
+    }
+
+pub between-char-range : (s : List ℕ) (a e : ℕ) → a ≤ e → boundary s a ≡ true → boundary s e ≡ true → charRange s a e ≡ true
+between-char-range s a e h p q = sym (char-range-both s a e h (sym p) (sym q))

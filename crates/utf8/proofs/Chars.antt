@@ -1,4 +1,4 @@
--- Laws of `letters` and `leads`: the letters of a well-formed text are counted by the bytes that begin a character.
+-- Laws of `chars` and `leads`: the characters of a well-formed text are counted by the bytes that begin one.
 use Prim.Native.Nat.{ℕ, _+_, _-_, _≤_, _<_}
 use mathlib.Core.Path.{_≡_, _∙_, refl, sym}
 use mathlib.Core.Bool.{Bool, true, false, cond, not}

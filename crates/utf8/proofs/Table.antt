@@ -10,7 +10,7 @@ use lib.Dec.{leb, ltb, eqb}
 use borrow.Author.Tests.{eqb-true, ltb-true, lt-leb}
 use Rattle.buffers.specs.Every.{everyBelow}
 use Rattle.buffers.proofs.Cases.{le-or-lt}
-use Rattle.buffers.proofs.Booleans.{and-false-l, and-false-r}
+use Rattle.buffers.proofs.Booleans.{and-false-l, and-false-r, beq-same}
 use Rattle.buffers.proofs.Every.{every-at}
 use Rattle.utf8.specs.Table.{Bytes, bytes, within, rows, ofRow, ofSome, WellFormed, none, next}
 use Rattle.utf8.specs.Formed.{announced, second, asked, formed, wellFormed, TableAgrees}
@@ -67,12 +67,6 @@ on-bytes : everyBelow 256 agreeOn ≡ true
 unfolding everyBelow agreeOn goesOn asked rows begun announced second sameColumns within
 on-bytes = refl
 
-same-bool : (a b : Bool) → Bool·beq a b ≡ true → a ≡ b
-same-bool true true t = refl
-same-bool true false t = sym t
-same-bool false true t = t
-same-bool false false t = refl
-
 -- each row's first column ends below 256
 unfoldable ends : List (List Bytes) → Bool
 ends [] = true
@@ -96,7 +90,7 @@ ofSome-lead b s =
     (λ small.
     let t : agreeOn b ≡ true = every-at 256 agreeOn on-bytes b small in
     ofSome-cons b (asked b) rows s (and-elim-left _ _ t)
-    ∙ ap (λ (l : Bool). l && ofRow (asked b) s) (same-bool (begun b rows) _ (and-elim-right (goesOn b (asked b) rows) _ t)))
+    ∙ ap (λ (l : Bool). l && ofRow (asked b) s) (beq-same (begun b rows) _ (and-elim-right (goesOn b (asked b) rows) _ t)))
 
 row-formed : (cs : List Bytes) (s : List ℕ) → ofRow cs s ≡ true → formed cs s ≡ true
 unfolding ofRow formed

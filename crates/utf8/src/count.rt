@@ -1,4 +1,4 @@
-// Letters of a well-formed text, counted by the bytes that begin a character.
+// Characters of a well-formed text, counted by the bytes that begin a character.
 use crate::continues;
 ghost use mathlib.Core.Path.{_≡_};
 ghost use Prim.Native.Nat.{_≤_};
@@ -19,7 +19,7 @@ fn block_leads(s: &[u8]) -> u8
     n
 }
 
-// How many bytes of `s` begin a character: the letters of a well-formed text.
+// How many bytes of `s` begin a character: as many as a well-formed text has characters.
 pub fn count_leads(s: &[u8]) -> usize
     ensures { λ r. ⌜ r ≡ leads (now (s .entry)) ⌝ }
 {

@@ -1,4 +1,4 @@
-// Characters: announced lengths, well-formed UTF-8, boundaries, letter counts, a scalar value's bytes.
+// Characters: announced lengths, well-formed UTF-8, boundaries, character counts, a scalar value's bytes.
 pub mod count;
 pub mod lead;
 pub mod ranges;

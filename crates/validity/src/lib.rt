@@ -51,7 +51,7 @@ fn valid_at(s: &[u8], i: usize) -> bool
     )
 }
 
-// The same at each place from `from` up to `to`: for the first three bytes and the end.
+// `valid_at` at each place from `from` up to `to`: for the first three bytes and the end.
 fn valid_between(s: &[u8], from: usize, to: usize) -> bool
     requires { ⌜ (from ≤ to) × (to ≤ length (now s) + 3) ⌝ }
     ensures { λ r. ⌜ r ≡ validFrom (now (s .entry)) from (to - from) ⌝ }
@@ -66,7 +66,7 @@ fn valid_between(s: &[u8], from: usize, to: usize) -> bool
     true
 }
 
-// The same at each place from `i` on: the bytes that are left as one block, then the end.
+// `valid_at` at each place from `i` on: the bytes that are left as one block, then the end.
 fn valid_rest(s: &[u8], i: usize) -> bool
     requires { ⌜ (3 ≤ i) × (i ≤ length (now s) + 3) ⌝ }
     ensures { λ r. ⌜ r ≡ validFrom (now (s .entry)) i (length (now (s .entry)) + 3 - i) ⌝ }

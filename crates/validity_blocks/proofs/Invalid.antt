@@ -9,7 +9,6 @@ use native.Mathlib.Nat.{add-zero}
 use native.Mathlib.Omega.{arith}
 use lib.Dec.{leb, ltb, eqb}
 use Rattle.buffers.proofs.Cases.{clash, true-or-false, le-or-lt}
-use Rattle.buffers.proofs.Booleans.{and-false-r}
 use Rattle.utf8.specs.Table.{bytes, within, trail}
 use Rattle.utf8.specs.Formed.{second}
 use Rattle.utf8.proofs.Formed.{second-trail, second-continues, continues-high}
@@ -177,7 +176,9 @@ pub invalid-two : {b1 b0 : ℕ} → LeadBetween 2 0xE0 b1 → LeadBetween 2 0xE0
 invalid-two {b1} {b0} p1 p0 =
     simp (or-false, ne-eqb b1 0xE0 (λ e. omega (arith, p1 .low)), ne-eqb b1 0xED (λ e. omega (arith, p1 .low))) at (invalid-three {m = b1} 0 (record { far = p1 .far; low = omega (arith, p1 .low) }) (record { far = p0 .far; low = omega (arith, p0 .low) }) (omega arith))
 
-pub invalid-plain-four : {b2 b1 b0 m : ℕ} (b3 : ℕ) → LeadBetween 0x21 0xF4 b2 → LeadBetween 0x21 0xF4 b1 → LeadBetween 0x21 0xF4 b0 → m ≡ max (max b1 b2) (b3 - 0x30) → (xor (leb 0xC0 m) (within trail b0) || (eqb b1 0xED && not (within (bytes 0x80 0x9F) b0)) || (eqb b1 0xF0 && within (bytes 0x80 0x8F) b0)) ≡ invalid b3 b2 b1 b0
+pub invalid-plain-four : {b2 b1 b0 m : ℕ} (b3 : ℕ) → LeadBetween 0x21 0xF4 b2 → LeadBetween 0x21 0xF4 b1 → LeadBetween 0x21 0xF4 b0
+    → m ≡ max (max b1 b2) (b3 - 0x30)
+    → (xor (leb 0xC0 m) (within trail b0) || (eqb b1 0xED && not (within (bytes 0x80 0x9F) b0)) || (eqb b1 0xF0 && within (bytes 0x80 0x8F) b0)) ≡ invalid b3 b2 b1 b0
 unfolding invalid xor second
 invalid-plain-four {b2} {b1} {b0} b3 p2 p1 p0 larger =
     rw (plain-pending b3 b1 p2 (omega arith) larger, between-never p0 (omega arith) (omega arith))

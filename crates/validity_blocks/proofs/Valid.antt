@@ -1,7 +1,7 @@
 -- Laws of `valid` and `validFirst`: a byte of a block by the four read there, and the loops over a block's bytes.
 use Prim.Native.Nat.{ℕ, _+_, _-_, _≤_, _<_, min}
 use mathlib.Core.Path.{_≡_, _∙_, ap, refl, sym}
-use mathlib.Core.Bool.{Bool, true, false, _&&_, _||_, not, Bool·not-not}
+use mathlib.Core.Bool.{Bool, true, false, _||_, not, Bool·not-not}
 use mathlib.Core.List.{List}
 use native.Mathlib.Nat.{add-comm, add-zero}
 use native.Mathlib.Omega.{arith}
@@ -11,6 +11,7 @@ use lib.ListN.{length, getD, drop, length-take, length-drop}
 use lib.Seq.{getD-drop, take-length}
 use Rattle.buffers.specs.Every.{everyBelow}
 use Rattle.buffers.specs.Splice.{part}
+use Rattle.buffers.proofs.Booleans.{de-morgan}
 use Rattle.buffers.proofs.Cases.{le-or-lt}
 use Rattle.buffers.proofs.Every.{every-suc, every-all}
 use Rattle.validity_blocks.specs.Extremes.{largest, leastLead, LeadBetween}
@@ -34,7 +35,7 @@ rest-below s k j h = rw (rest-at s k j) (omega (arith, largest-at s (j + k)))
 pub rest-between : (s : List ℕ) {l n : ℕ} (k j : ℕ) → largest s < n → l ≤ leastLead s → LeadBetween l n (getD (part s k (length s)) j 0)
 rest-between s k j low far = record { far = rw (rest-at s k j) (omega (arith, least-at s (j + k))); low = rest-below s k j low }
 
--- the same, read from a block and what is left of it from 1, 2 and 3 on
+-- a byte judged where it is read from a block and what is left of it from 1, 2 and 3 on
 module _ (s : List ℕ) (j : ℕ) {f : Bool} where
   pub read-four : f ≡ invalid (getD s j 0) (getD (part s 1 (length s)) j 0) (getD (part s 2 (length s)) j 0) (getD (part s 3 (length s)) j 0) → not f ≡ valid (drop j s)
   read-four e = valid-read s j (e ∙ rw (rest-at s 1 j, rest-at s 2 j, rest-at s 3 j))
@@ -58,11 +59,6 @@ block-ascii s n h =
     (valid-ascii _ _ _ _ (omega (arith, largest-at s (i + 2))) (omega (arith, largest-at s (i + 1))) (omega (arith, largest-at s (i + 0))) (omega (arith, largest-at s (i + 3)))))
 
 -- the loops over a block: `bad` says whether one of its first j bytes is invalid
-de-morgan : (a b : Bool) → (not a || b) ≡ not (a && not b)
-de-morgan true true = refl
-de-morgan true false = refl
-de-morgan false b = refl
-
 pub record InvalidSoFar (s : List ℕ) (bad : Bool) (j : ℕ) : Type 0 where
   pub most : j ≤ length s - 3
   pub says : bad ≡ not (validFirst s j)
@@ -84,7 +80,7 @@ invalid-done {s} {j} k h =
     let full : j ≡ length s - 3 = omega (arith, k .most, simp (length-take, length-drop) at h) in
     ap not (k .says) ∙ Bool·not-not (validFirst s j) ∙ ap (validFirst s) full
 
--- the same by a flag: below 80 where one of the first j bytes is invalid
+-- a flag tells it: below 80 where one of the first j bytes is invalid
 pub record FlagSoFar (s : List ℕ) (flag j : ℕ) : Type 0 where
   pub so-far : InvalidSoFar s (ltb flag 0x80) j
 

@@ -32,7 +32,7 @@ pub fn valid_four(s: &[u8]) -> bool
     !bad
 }
 
-// The same without C0 and C1 and characters of four bytes.
+// `valid_four` of bytes without C0, C1 and characters of four bytes.
 fn valid_three(s: &[u8]) -> bool
     requires { ⌜ (3 ≤ length (now s)) × (largest (now s) < 0xF0) × (2 ≤ leastLead (now s)) ⌝ }
     ensures { λ r. ⌜ r ≡ validFirst (now (s .entry)) (length (now (s .entry)) - 3) ⌝ }
@@ -49,7 +49,7 @@ fn valid_three(s: &[u8]) -> bool
     0x80 <= flag
 }
 
-// The same without characters of three bytes too.
+// `valid_four` of bytes without C0, C1 and characters of three or four bytes.
 fn valid_two(s: &[u8]) -> bool
     requires { ⌜ (3 ≤ length (now s)) × (largest (now s) < 0xE0) × (2 ≤ leastLead (now s)) ⌝ }
     ensures { λ r. ⌜ r ≡ validFirst (now (s .entry)) (length (now (s .entry)) - 3) ⌝ }
@@ -65,7 +65,7 @@ fn valid_two(s: &[u8]) -> bool
     0x80 <= flag
 }
 
-// The same where every lead byte is between E1 and EC.
+// `valid_four` where every lead byte is between E1 and EC.
 fn valid_plain(s: &[u8]) -> bool
     requires { ⌜ (3 ≤ length (now s)) × (largest (now s) < 0xED) × (0x21 ≤ leastLead (now s)) ⌝ }
     ensures { λ r. ⌜ r ≡ validFirst (now (s .entry)) (length (now (s .entry)) - 3) ⌝ }
@@ -82,7 +82,7 @@ fn valid_plain(s: &[u8]) -> bool
     0x80 <= flag
 }
 
-// The same where every lead byte is between E1 and F3.
+// `valid_four` where every lead byte is between E1 and F3.
 fn valid_plain_four(s: &[u8]) -> bool
     requires { ⌜ (3 ≤ length (now s)) × (largest (now s) < 0xF4) × (0x21 ≤ leastLead (now s)) ⌝ }
     ensures { λ r. ⌜ r ≡ validFirst (now (s .entry)) (length (now (s .entry)) - 3) ⌝ }
@@ -99,7 +99,8 @@ fn valid_plain_four(s: &[u8]) -> bool
     !bad
 }
 
-// The same by the test that the largest byte and the least lead byte ask for.
+// Whether each byte of `s` but the first three can stand where it does, by the test that the largest byte and the
+// least lead byte ask for.
 pub fn valid_block(s: &[u8]) -> bool
     requires { ⌜ 3 ≤ length (now s) ⌝ }
     ensures { λ r. ⌜ r ≡ validFirst (now (s .entry)) (length (now (s .entry)) - 3) ⌝ }

@@ -4,8 +4,7 @@ use buffers::lanes::max_u8;
 use buffers::lanes::saturating_sub_u8;
 use buffers::lanes::select_or_zero_u8;
 ghost use mathlib.Core.Path.{_≡_};
-ghost use mathlib.Core.Bool.{cond, xor};
-ghost use Prim.Native.Nat.{_≤_};
+ghost use mathlib.Core.Bool.{xor};
 ghost use lib.Dec.{leb, ltb};
 ghost use Rattle.utf8.specs.Table.{trail, within};
 ghost use Rattle.validity_blocks.specs.Extremes.{LeadBetween};
@@ -51,7 +50,7 @@ pub fn standing_three(b2: u8, b1: u8, b0: u8) -> u8
     flag
 }
 
-// The same without characters of three bytes too.
+// `standing_three` without characters of three bytes too.
 pub fn standing_two(b1: u8, b0: u8) -> u8
     requires { ⌜ LeadBetween 2 0xE0 b1 × LeadBetween 2 0xE0 b0 ⌝ }
     ensures { λ r. ⌜ ltb r 0x80 ≡ invalid 0 0 b1 b0 ⌝ }
@@ -59,7 +58,7 @@ pub fn standing_two(b1: u8, b0: u8) -> u8
     standing(b1, b0)
 }
 
-// The same as `standing_three` where every lead byte is between E1 and EC: none asks for an `odd` second byte.
+// `standing_three` where every lead byte is between E1 and EC: none asks for an `odd` second byte.
 pub fn standing_plain(b2: u8, b1: u8, b0: u8) -> u8
     requires { ⌜ LeadBetween 0x21 0xED b2 × LeadBetween 0x21 0xED b1 × LeadBetween 0x21 0xED b0 ⌝ }
     ensures { λ r. ⌜ ltb r 0x80 ≡ invalid 0 b2 b1 b0 ⌝ }
@@ -67,7 +66,7 @@ pub fn standing_plain(b2: u8, b1: u8, b0: u8) -> u8
     standing(max_u8(b1, b2), b0)
 }
 
-// The same as `invalid` where every lead byte is between E1 and F3. The ranges from 80 on are one comparison each of
+// `invalid` where every lead byte is between E1 and F3. The ranges from 80 on are one comparison each of
 // signed bytes.
 pub fn invalid_plain_four(b3: u8, b2: u8, b1: u8, b0: u8) -> bool
     requires { ⌜ LeadBetween 0x21 0xF4 b2 × LeadBetween 0x21 0xF4 b1 × LeadBetween 0x21 0xF4 b0 ⌝ }

@@ -1,7 +1,6 @@
 // The largest byte of a text, and its least lead byte: which test a block asks for.
 use buffers::lanes::max_u8;
 use buffers::lanes::min_u8;
-use buffers::lanes::saturating_sub_u8;
 ghost use mathlib.Core.Path.{_≡_};
 ghost use Rattle.validity_blocks.specs.Extremes.{largest, leastLead};
 

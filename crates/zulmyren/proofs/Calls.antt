@@ -3,7 +3,6 @@ use Prim.Native.Nat.{ℕ, _≤_}
 use mathlib.Core.Path.{_≡_, _∙_, ap, sym}
 use mathlib.Core.Bool.{Bool}
 use mathlib.Core.List.{List}
-use native.Mathlib.Omega.{arith}
 use borrow.Author.Tests.{ne-eqb}
 use Rattle.note.specs.declared.Refusal.{Refusal}
 use Rattle.note.specs.declared.Verdict.{Verdict}
@@ -38,7 +37,7 @@ use Rattle.zulmyren.specs.declared.answers.Offsets.{Offsets}
 use Rattle.zulmyren.specs.declared.answers.Slice.{Slice}
 use Rattle.zulmyren.specs.declared.answers.Cut.{Cut}
 use Rattle.zulmyren.specs.declared.answers.Listed.{Listed}
-use Rattle.zulmyren.specs.Calls.{Told, offsetsOf, sliceNumbers, cutNumbers, splitsNumbers, behaviorOf, emptyOf, unitOf, sideOf, PublishedShort}
+use Rattle.zulmyren.specs.Calls.{Told, offsetsOf, sliceWith, sliceNumbers, cutNumbers, splitsNumbers, behaviorOf, emptyOf, unitOf, sideOf, PublishedShort}
 
 -- a range's call, through the side, the range and the answer's numbers
 pub range-call : (f : Range → Converted) (s : OffsetReferential) (a e : ℕ) {side : OffsetReferential} {range : Range} {answer : Converted} {r : Offsets} → side ≡ s → range ≡ rangeOf side a e → answer ≡ f range → r ≡ offsetsOf answer → r ≡ offsetsOf (f (rangeOf s a e))
@@ -70,18 +69,24 @@ pub published-within : {v : Publication} {n : ℕ} → v ≡ Published n → Pub
 published-within is short = rw is at short
 
 -- a list's call, through the side
-pub list-call : {n : Note} (b : Bool) {side : OffsetReferential} {from to numbers₀ starts₀ ends₀ : List ℕ} {v : Verdict} {numbers starts ends : List ℕ} {r : ℕ} → side ≡ sideOf b → ConvertedList limit n side from to numbers₀ starts₀ ends₀ v numbers starts ends → r ≡ answerOf v → Told answerOf (λ w. ConvertedList limit n (sideOf b) from to numbers₀ starts₀ ends₀ w numbers starts ends) r
+pub list-call :
+    {n : Note} (b : Bool) {side : OffsetReferential} {from to numbers₀ starts₀ ends₀ : List ℕ} {v : Verdict} {numbers starts ends : List ℕ} {r : ℕ}
+    → side ≡ sideOf b → ConvertedList limit n side from to numbers₀ starts₀ ends₀ v numbers starts ends → r ≡ answerOf v
+    → Told answerOf (λ w. ConvertedList limit n (sideOf b) from to numbers₀ starts₀ ends₀ w numbers starts ends) r
 list-call b {v = v} p call e = record { answer = v; told = e; met = rw p at call }
 
 -- the numbers of a slice, and of none
 pub slice-cut : {v : Sliced} {s : NoteSlice} → v ≡ Kept s → sliceNumbers (Kept s) ≡ sliceNumbers v
 slice-cut e = ap sliceNumbers (sym e)
 
-pub slice-refused : {v : Sliced} {k : Refusal} {r : ℕ} → v ≡ Uncut k → r ≡ numberOf k → record { refusal = r; «original_start» = 0; «original_end» = 0; «normalized_start» = 0; «normalized_end» = 0; «original_shift» = 0 } ≡ sliceNumbers v
+pub slice-refused : {v : Sliced} {k : Refusal} {r : ℕ} → v ≡ Uncut k → r ≡ numberOf k → sliceWith r 0 0 0 0 0 ≡ sliceNumbers v
 slice-refused e q = rw (e, q)
 
 -- a slice's call, through the side and the range
-pub slice-call : {n : Note} (b : Bool) (a e : ℕ) {side : OffsetReferential} {range : Range} {starts₀ ends₀ : List ℕ} {v : Sliced} {starts ends : List ℕ} {r : Slice} → side ≡ sideOf b → range ≡ rangeOf side a e → Slicing limit n range starts₀ ends₀ v starts ends → r ≡ sliceNumbers v → Told sliceNumbers (λ w. Slicing limit n (rangeOf (sideOf b) a e) starts₀ ends₀ w starts ends) r
+pub slice-call :
+    {n : Note} (b : Bool) (a e : ℕ) {side : OffsetReferential} {range : Range} {starts₀ ends₀ : List ℕ} {v : Sliced} {starts ends : List ℕ} {r : Slice}
+    → side ≡ sideOf b → range ≡ rangeOf side a e → Slicing limit n range starts₀ ends₀ v starts ends → r ≡ sliceNumbers v
+    → Told sliceNumbers (λ w. Slicing limit n (rangeOf (sideOf b) a e) starts₀ ends₀ w starts ends) r
 slice-call b a e {v = v} p q call t = record { answer = v; told = t; met = rw (q, p) at call }
 
 -- a behaviour by its number
@@ -107,8 +112,15 @@ module _ {n : ℕ} where
   behavior-other a b c d = rw (ne-eqb n 1 a, ne-eqb n 2 b, ne-eqb n 3 c, ne-eqb n 4 d)
 
 -- the calls that cut a note, through what is asked of them
-pub split-call : {n : Note} {list : List ℕ} (b : ℕ) (d : Bool) {behavior : SplitDelimiterBehavior} {empty : EmptyPieces} {c₀ c : PieceColumns} {v : Pieces} {r : Cut} → behavior ≡ behaviorOf b → empty ≡ emptyOf d → Splitting limit n list behavior empty c₀ v c → r ≡ cutNumbers v → Told cutNumbers (λ w. Splitting limit n list (behaviorOf b) (emptyOf d) c₀ w c) r
+pub split-call :
+    {n : Note} {list : List ℕ} (b : ℕ) (d : Bool) {behavior : SplitDelimiterBehavior} {empty : EmptyPieces} {c₀ c : PieceColumns} {v : Pieces} {r : Cut}
+    → behavior ≡ behaviorOf b → empty ≡ emptyOf d → Splitting limit n list behavior empty c₀ v c → r ≡ cutNumbers v
+    → Told cutNumbers (λ w. Splitting limit n list (behaviorOf b) (emptyOf d) c₀ w c) r
 split-call b d {v = v} p q call t = record { answer = v; told = t; met = rw (p, q) at call }
 
-pub splits-call : {n : Note} {list : List ℕ} (b : ℕ) (o u : Bool) {behavior : SplitDelimiterBehavior} {side : OffsetReferential} {unit : OffsetType} {starts₀ ends₀ : List ℕ} {v : Splits} {starts ends : List ℕ} {r : Listed} → behavior ≡ behaviorOf b → side ≡ sideOf o → unit ≡ unitOf u → GetSplits limit n list behavior side unit starts₀ ends₀ v starts ends → r ≡ splitsNumbers v → Told splitsNumbers (λ w. GetSplits limit n list (behaviorOf b) (sideOf o) (unitOf u) starts₀ ends₀ w starts ends) r
+pub splits-call :
+    {n : Note} {list : List ℕ} (b : ℕ) (o u : Bool) {behavior : SplitDelimiterBehavior} {side : OffsetReferential} {unit : OffsetType} {starts₀ ends₀ : List ℕ} {v : Splits} {starts ends : List ℕ} {r : Listed}
+    → behavior ≡ behaviorOf b → side ≡ sideOf o → unit ≡ unitOf u → GetSplits limit n list behavior side unit starts₀ ends₀ v starts ends
+    → r ≡ splitsNumbers v
+    → Told splitsNumbers (λ w. GetSplits limit n list (behaviorOf b) (sideOf o) (unitOf u) starts₀ ends₀ w starts ends) r
 splits-call b o u {v = v} p q s call t = record { answer = v; told = t; met = rw (p, q, s) at call }

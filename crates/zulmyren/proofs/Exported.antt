@@ -1,9 +1,8 @@
 -- The blanking claim of two exported calls: a refusal of 0 is an answer that was published.
 use Prim.Native.Nat.{ℕ}
-use mathlib.Core.Path.{_≡_, _∙_, ap, refl, sym}
+use mathlib.Core.Path.{_≡_, _∙_, ap, sym}
 use mathlib.Core.List.{List}
 use native.Mathlib.Omega.{arith}
-use Rattle.note.specs.declared.Refusal.{Refusal}
 use Rattle.note.specs.Refusals.{numberOf}
 use Rattle.note.specs.Notes.{Note, limit}
 use Rattle.note.proofs.Numbers.{numberOf-some}

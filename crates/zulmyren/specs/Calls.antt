@@ -1,7 +1,7 @@
--- An exported call answers the numbers of the call below, whose contract its lent buffers meet (RULES 2.6).
+-- An exported call answers the numbers of the call below, whose contract its buffers meet (RULES 2.6).
 use Prim.Native.Nat.{ℕ, _≤_}
 use mathlib.Core.Path.{_≡_}
-use mathlib.Core.Bool.{Bool, true, false, cond}
+use mathlib.Core.Bool.{Bool, false, cond}
 use lib.Dec.{eqb}
 use Rattle.note.specs.Refusals.{numberOf}
 use Rattle.note.specs.Notes.{limit}
@@ -79,25 +79,21 @@ abbrev pub comparedOf : Answer → Comparison
 comparedOf (Compared alike) = record { refusal = 0; alike = alike }
 comparedOf (Uncompared k) = record { refusal = numberOf k; alike = false }
 
+abbrev pub sliceWith : ℕ → ℕ → ℕ → ℕ → ℕ → ℕ → Slice
+sliceWith refusal a b c d shift =
+    record {
+      refusal = refusal;
+      «original_start» = a;
+      «original_end» = b;
+      «normalized_start» = c;
+      «normalized_end» = d;
+      «original_shift» = shift;
+    }
+
 abbrev pub sliceNumbers : Sliced → Slice
 sliceNumbers (Cut s) =
-    record {
-      refusal = 0;
-      «original_start» = originalStart s;
-      «original_end» = originalEnd s;
-      «normalized_start» = normalizedStart s;
-      «normalized_end» = normalizedEnd s;
-      «original_shift» = s .«original_shift»;
-    }
-sliceNumbers (Uncut k) =
-    record {
-      refusal = numberOf k;
-      «original_start» = 0;
-      «original_end» = 0;
-      «normalized_start» = 0;
-      «normalized_end» = 0;
-      «original_shift» = 0;
-    }
+    sliceWith 0 (originalStart s) (originalEnd s) (normalizedStart s) (normalizedEnd s) (s .«original_shift»)
+sliceNumbers (Uncut k) = sliceWith (numberOf k) 0 0 0 0 0
 
 abbrev pub cutNumbers : Pieces → CutCount
 cutNumbers (Divided pieces alignments) = record { refusal = 0; pieces = pieces; alignments = alignments }
@@ -114,12 +110,10 @@ behaviorOf n =
     (cond (eqb n 2) Isolated (cond (eqb n 3) MergedWithPrevious (cond (eqb n 4) MergedWithNext Contiguous)))
 
 abbrev pub emptyOf : Bool → EmptyPieces
-emptyOf true = Dropped
-emptyOf false = Kept
+emptyOf drop = cond drop Dropped Kept
 
 abbrev pub unitOf : Bool → OffsetType
-unitOf true = Char
-unitOf false = Byte
+unitOf inChars = cond inChars Char Byte
 
 abbrev pub editedOf : Editing → Count
 editedOf (Edited n) = record { refusal = 0; count = n }
@@ -131,8 +125,7 @@ clearedOf (Uncleared k) = record { refusal = numberOf k; before = 0; left = 0 }
 
 -- the text that a range is in
 abbrev pub sideOf : Bool → OffsetReferential
-sideOf true = Original
-sideOf false = Normalized
+sideOf original = cond original Original Normalized
 
 -- what is published is within the limit
 abbrev pub PublishedShort : Publication → Type 0

@@ -3,7 +3,7 @@
 use Prim.Native.Nat.{ℕ}
 use mathlib.Core.List.{List}
 use Rattle.note.specs.Notes.{Note, limit}
-use Rattle.note.specs.Refusals.{answerOf}
+use Rattle.note.specs.Refusals.{OnThree, answerOf}
 use Rattle.char_offsets.specs.Positions.{CharOffsetsList}
 use Rattle.convert.specs.declared.OffsetReferential.{OffsetReferential}
 use Rattle.convert.specs.declared.Range.{Range}
@@ -22,29 +22,25 @@ use Rattle.zulmyren.specs.declared.answers.Listed.{Listed}
 use Rattle.zulmyren.specs.declared.answers.Slice.{Slice}
 use Rattle.zulmyren.specs.Calls.{Told, cutNumbers, publishedOf, sliceNumbers, splitsNumbers}
 
--- three buffers before, an answer, and the three after
-abbrev pub OnThree : Type 0 → Type 1
-OnThree R = List ℕ → List ℕ → List ℕ → R → List ℕ → List ℕ → List ℕ → Type 0
+-- a contract on three buffers, its answer told in numbers
+abbrev pub ToldThree : {A N : Type 0} → (A → N) → OnThree A → OnThree N
+ToldThree tell call x₀ y₀ z₀ r x y z = Told tell (λ v. call x₀ y₀ z₀ v x y z) r
 
 -- a text, starts and ends
 abbrev pub CharOffsetsAllCall : List ℕ → List ℕ → List ℕ → OnThree ℕ
-CharOffsetsAllCall text from to numbers₀ starts₀ ends₀ r numbers starts ends =
-    Told answerOf (λ v. CharOffsetsList limit text from to numbers₀ starts₀ ends₀ v numbers starts ends) r
+CharOffsetsAllCall text from to = ToldThree answerOf (CharOffsetsList limit text from to)
 
 -- a note, the text that the ranges are in, their starts and ends
 abbrev pub ConvertAllCall : Note → OffsetReferential → List ℕ → List ℕ → OnThree ℕ
-ConvertAllCall n side from to numbers₀ starts₀ ends₀ r numbers starts ends =
-    Told answerOf (λ v. ConvertedList limit n side from to numbers₀ starts₀ ends₀ v numbers starts ends) r
+ConvertAllCall n side from to = ToldThree answerOf (ConvertedList limit n side from to)
 
 -- a note, a list, a content
 abbrev pub ReplaceCall : Note → List ℕ → List ℕ → OnThree Count
-ReplaceCall n list content out₀ starts₀ ends₀ r out starts ends =
-    Told publishedOf (λ v. Replacing limit n list content out₀ starts₀ ends₀ v out starts ends) r
+ReplaceCall n list content = ToldThree publishedOf (Replacing limit n list content)
 
 -- a text, a literal, a content
 abbrev pub RedactCall : List ℕ → List ℕ → List ℕ → OnThree Count
-RedactCall text literal content out₀ starts₀ ends₀ r out starts ends =
-    Told publishedOf (λ v. Redacted limit text literal content out₀ starts₀ ends₀ v out starts ends) r
+RedactCall text literal content = ToldThree publishedOf (Redacted limit text literal content)
 
 -- a note, a range; two columns
 abbrev pub SliceCall : Note → Range → List ℕ → List ℕ → Slice → List ℕ → List ℕ → Type 0

@@ -23,7 +23,7 @@ pub extern "C" fn zulmyren_well_formed(text: &[u8]) -> bool
 pub extern "C" fn zulmyren_letter_count(text: &[u8], start: u32, end: u32) -> Count
     ensures { λ r. ⌜ r ≡ lettersOf (letterCount limit (now (text .entry)) start end) ⌝ }
 {
-    letters_to_c(char_offsets::letters::letter_count(text, start, end))
+    letters_to_c(char_offsets::letters::letter_count(text, OriginalByte(start), OriginalByte(end)))
 }
 
 #[no_mangle]

@@ -1,10 +1,10 @@
--- An untouched note is aligned; of another, the alignments one beside the other, then the transcript's boundaries.
+-- A starting note is aligned; of another, the alignments one beside the other, then the transcript's boundaries.
 use mathlib.Core.Path.{sym, ap, _∙_}
 use borrow.Author.Needs.{needs}
 use borrow.Author.Tests.{not-false}
 use Rattle.validity.specs.Texts.{ascii}
 use Rattle.boundaries.proofs.Monotone.{not-monotone, monotone-ascii, monotone-uncut}
-use Rattle.aligned.proofs.Unedited.{untouched-aligned}
+use Rattle.aligned.proofs.IsStarting.{starting-aligned}
 use Rattle.aligned.proofs.aligned.Statement.{statement}
 use Rattle.aligned.proofs.aligned.Tie as tie
 
@@ -16,7 +16,7 @@ is-starting-requires c κs =
 returns : tie.Need-returns
 returns c =
     let known = c .before .before .before .before .before .before .before .pre in
-    untouched-aligned _ _ _ _ _ (known .formed) (known .starts-paired) (known .ends-paired) (known .alike (c .before .before .if1 .taken)) (c .before .is-starting .ensures) (c .if2 .taken)
+    starting-aligned _ _ _ _ _ (known .formed) (known .starts-paired) (known .ends-paired) (known .alike (c .before .before .if1 .taken)) (c .before .is-starting .ensures) (c .if2 .taken)
 
 returns-4 : tie.Need-returns-4
 returns-4 c =
@@ -35,8 +35,7 @@ aligned-spec =
     (tie.spec
     is-starting-requires
     returns
-    (λ c. search needs)
-    (λ c κs. search needs)
+    (λ c. search needs) (λ c κs. search needs)
     (λ c. not-monotone _ _ _ _ (c .before .monotone .ensures) (c .if3 .taken))
     (λ c.
     let tested = c .before in

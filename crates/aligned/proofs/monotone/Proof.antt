@@ -1,12 +1,12 @@
--- None so far strays from what can follow the one before it.
+-- No bit is set so far: each alignment can follow the one before it.
 use Prim.Native.Nat.{_≤_, _-_}
-use mathlib.Core.Path.{_≡_, refl}
+use mathlib.Core.Path.{_≡_}
 use lib.Dec.{eqb}
 use lib.ListN.{length}
 use Rattle.boundaries.specs.Monotone.{monotone}
 use Rattle.boundaries.proofs.Monotone.{monotone-none, at-end}
 use Rattle.aligned.specs.MisalignedBits.{noneMisaligned}
-use Rattle.aligned.proofs.Straying.{first-calm, next-calm, calm-is-monotone}
+use Rattle.aligned.proofs.MisalignedBits.{first-none, next-none, none-is-monotone}
 use native.Mathlib.Omega.{arith}
 use Rattle.aligned.proofs.monotone.Statement.{statement}
 use Rattle.aligned.proofs.monotone.Tie as tie
@@ -21,15 +21,17 @@ returns : tie.Need-returns Inv-loop μ-loop
 returns c = at-end (monotone _ _ _ _) 0 _ _ (omega arith) (omega arith) (monotone-none _ _ _ _)
 
 loop-holds : tie.Need-loop-holds Inv-loop μ-loop
-loop-holds c = (omega arith, (omega arith, first-calm _ _ _ (c .saturating-sub-offset .ensures)))
+loop-holds c = (omega arith, (omega arith, first-none _ _ _ (c .saturating-sub-offset .ensures)))
 
 loop-again : tie.Need-loop-again Inv-loop μ-loop
-loop-again c = (omega arith, (omega (arith, c .before .before .before .before .before .before .loop-test .taken), next-calm _ _ _ _ (c .before .before .before .before .before .before .before .loop .found) (c .before .before .before .before .before .before .before .loop .inv .0) (c .before .before .before .before .before .before .before .loop .inv .1 .1) (c .misaligned-bits .ensures)))
+loop-again c =
+    let turn = c .before .before .before .before .before .before .before .loop in
+    (omega arith, (omega (arith, c .before .before .before .before .before .before .loop-test .taken), next-none _ _ _ _ (turn .found) (turn .inv .0) (turn .inv .1 .1) (c .misaligned-bits .ensures)))
 
 returns-2 : tie.Need-returns-2 Inv-loop μ-loop
 returns-2 c =
     let head = c .before .before .before in
-    calm-is-monotone _ _ _ _ _ (head .loop .found) (omega arith)
+    none-is-monotone _ _ _ _ _ (head .loop .found) (omega arith)
     (at-end (noneMisaligned _ _ _) _ _ _ (head .loop .inv .1 .0) (c .before .before .loop-test .left) (head .loop .inv .1 .1)) (c .saturating-sub-offset2 .ensures)
 
 pub monotone-spec : {M : Type 1} → statement M
@@ -39,27 +41,11 @@ monotone-spec =
     Inv-loop
     μ-loop
     returns
-    (λ c. omega arith)
-    (λ c. omega arith)
-    (λ c κs. omega arith)
+    (λ c. omega arith) (λ c. omega arith) (λ c κs. omega arith)
     loop-holds
-    (λ c. omega arith)
-    (λ c. omega arith)
-    (λ c. omega arith)
-    (λ c. omega arith)
-    (λ c. omega arith)
-    (λ c. omega arith)
-    (λ c. omega arith)
-    (λ c. omega arith)
-    (λ c. omega arith)
-    (λ c. omega arith)
-    (λ c. omega arith)
-    (λ c κs. omega arith)
-    (λ c. omega arith)
-    (λ c. omega arith)
+    (λ c. omega arith) (λ c. omega arith) (λ c. omega arith) (λ c. omega arith) (λ c. omega arith) (λ c. omega arith)
+    (λ c. omega arith) (λ c. omega arith) (λ c. omega arith) (λ c. omega arith) (λ c. omega arith) (λ c κs. omega arith)
+    (λ c. omega arith) (λ c. omega arith)
     loop-again
-    (λ c. omega arith)
-    (λ c. omega arith)
-    (λ c. omega arith)
-    (λ c κs. omega arith)
+    (λ c. omega arith) (λ c. omega arith) (λ c. omega arith) (λ c κs. omega arith)
     returns-2)

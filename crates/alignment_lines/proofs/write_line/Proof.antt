@@ -1,4 +1,4 @@
--- One field behind the other; after each there is room for those that are left.
+-- One field after the other; after each there is room for those that are left.
 use borrow.Author.Needs.{needs}
 use Rattle.alignment_lines.proofs.Lines.{first-room, second-room, third-room, fourth-room, line-laid}
 use Rattle.alignment_lines.proofs.write_line.Statement.{statement}

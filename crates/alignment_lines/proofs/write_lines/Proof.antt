@@ -17,21 +17,23 @@ write-line-requires : tie.Need-write-line-requires Inv-loop μ-loop
 write-line-requires c κs =
     let head = c .before .before .before .before .before in
     let entry = head .before .before .before .before in
-    line-room (head .loop .inv) (entry .pre .0) (entry .pre .1) (entry .pre .2) (c .before .before .before .before .loop-test .taken) (c .before .before .before .run-at .ensures)
+    line-room (head .loop .inv) (entry .pre .0) (entry .pre .1) (entry .pre .2) (c .before .before .before .before .loop-test .taken) (c .before .before .before .run-at .ensures) _ _
     (omega (arith, c .before .before .shared-slice-known3 .given (head .loop .at), c .before .shared-slice-known4 .given (head .loop .at)))
     (omega (arith, c .before .before .shared-slice-known3 .given (head .loop .at), c .before .shared-slice-known4 .given (head .loop .at)))
 
 add-at : tie.Need-add-at Inv-loop μ-loop
 add-at c =
-    let head = c .before .before .before .before .before .before .before .before in
+    let counted = c .before .before .before .before .before .before in
+    let head = counted .before .before in
     let entry = head .before .before .before .before in
-    omega (arith, run-within (entry .args .starts .now) (entry .args .ends .now) (head .loop .at) (c .before .before .before .before .before .before .run-at .result) (entry .pre .0) (c .before .before .before .before .before .before .before .loop-test .taken) (c .before .before .before .before .before .before .run-at .ensures))
+    omega (arith, run-within (entry .args .starts .now) (entry .args .ends .now) (head .loop .at) (counted .run-at .result) (entry .pre .0) (counted .before .loop-test .taken) (counted .run-at .ensures))
 
 loop-less : tie.Need-loop-less Inv-loop μ-loop
 loop-less c =
-    let head = c .before .before .before .before .before .before .before .before in
+    let counted = c .before .before .before .before .before .before in
+    let head = counted .before .before in
     let entry = head .before .before .before .before in
-    omega (arith, run-within (entry .args .starts .now) (entry .args .ends .now) (head .loop .at) (c .before .before .before .before .before .before .run-at .result) (entry .pre .0) (c .before .before .before .before .before .before .before .loop-test .taken) (c .before .before .before .before .before .before .run-at .ensures))
+    omega (arith, run-within (entry .args .starts .now) (entry .args .ends .now) (head .loop .at) (counted .run-at .result) (entry .pre .0) (counted .before .loop-test .taken) (counted .run-at .ensures))
 
 loop-again : tie.Need-loop-again Inv-loop μ-loop
 loop-again c =
@@ -50,10 +52,7 @@ write-lines-spec =
     μ-loop
     (λ c. no-line)
     (λ c κs. (c .before .before .before .before .before .pre .0, c .loop-test .taken))
-    (λ c. omega arith)
-    (λ c. omega arith)
-    (λ c. omega arith)
-    (λ c. omega arith)
+    (λ c. omega arith) (λ c. omega arith) (λ c. omega arith) (λ c. omega arith)
     write-line-requires
     add-at
     loop-less

@@ -1,11 +1,8 @@
 -- Note and string first, then the room; past these both are laid down.
-use Prim.Native.Nat.{_+_, _≤_, _<_}
-use lib.ListN.{length}
 use borrow.Author.Needs.{needs}
 use Rattle.note.specs.Notes.{Note, lent, limit}
 use Rattle.edits.specs.Whole.{appendEdit}
-use Rattle.append_prepend.proofs.Closed.{appended-closed}
-use Rattle.append_prepend.proofs.Joined.{join-refused, join-sound, join-formed, append-large, append-room, append-made}
+use Rattle.append_prepend.proofs.Joined.{join-refused, append-large, append-room, append-made}
 use Rattle.append_prepend.proofs.append.Statement.{statement}
 use Rattle.append_prepend.proofs.append.Tie as tie
 
@@ -29,20 +26,29 @@ returns : tie.Need-returns
 returns c =
     let told = c .before .before .before .before in
     let given = entry (checked told) .args in
-    append-large limit (note (entry (checked told))) (given .string .now) (checked told .check-note .ensures) (told .before .before .before .check-string .ensures) (told .before .before .earlier .ensures) (told .enum-told .given .1) (given .out .now) (given .out-starts .now) (given .out-ends .now) (c .before .before .before .least-room .ensures) (c .before .before .least-of-two .ensures) (c .before .has-room .ensures) (c .if1 .taken)
+    append-large limit (note (entry (checked told))) (given .string .now) (checked told .check-note .ensures)
+    (told .before .before .before .check-string .ensures) (told .before .before .earlier .ensures) (told .enum-told .given .1)
+    (given .out .now) (given .out-starts .now) (given .out-ends .now) (c .before .before .before .least-room .ensures)
+    (c .before .before .least-of-two .ensures) (c .before .has-room .ensures) (c .if1 .taken)
 
 lay-append-requires : tie.Need-lay-append-requires
 lay-append-requires c κs =
     let fits = c .before .before .before in
     let told = told fits in
     let given = entry (checked told) .args in
-    append-room limit (note (entry (checked told))) (given .string .now) (checked told .check-note .ensures) (told .before .before .before .check-string .ensures) (told .before .before .earlier .ensures) (told .enum-told .given .1) (given .out .now) (given .out-starts .now) (given .out-ends .now) (fits .before .before .before .least-room .ensures) (fits .before .before .least-of-two .ensures) (fits .before .has-room .ensures) (fits .if1 .left)
+    append-room limit (note (entry (checked told))) (given .string .now) (checked told .check-note .ensures)
+    (told .before .before .before .check-string .ensures) (told .before .before .earlier .ensures) (told .enum-told .given .1)
+    (given .out .now) (given .out-starts .now) (given .out-ends .now) (fits .before .before .before .least-room .ensures)
+    (fits .before .before .least-of-two .ensures) (fits .before .has-room .ensures) (fits .if1 .left)
 
 returns-2 : tie.Need-returns-2
 returns-2 c =
     let checked = c .before .before .before .before .before in
     let given = entry checked .args in
-    join-refused limit (note (entry checked)) (given .string .now) (checked .check-note .ensures) (c .before .before .before .before .check-string .ensures) (c .before .before .before .earlier .ensures) (appendEdit (note (entry checked)) (given .string .now)) (given .out .now) (given .out-starts .now) (given .out-ends .now) (c .before .k .given .1)
+    join-refused limit (note (entry checked)) (given .string .now) (checked .check-note .ensures)
+    (c .before .before .before .before .check-string .ensures) (c .before .before .before .earlier .ensures)
+    (appendEdit (note (entry checked)) (given .string .now)) (given .out .now) (given .out-starts .now) (given .out-ends .now)
+    (c .before .k .given .1)
 
 returns-3 : tie.Need-returns-3
 returns-3 c =
@@ -50,24 +56,19 @@ returns-3 c =
     let fits = fits laid in
     let told = told fits in
     let given = entry (checked told) .args in
-    append-made limit (note (entry (checked told))) (given .string .now) (checked told .check-note .ensures) (told .before .before .before .check-string .ensures) (told .before .before .earlier .ensures) (told .enum-told .given .1) (given .out .now) (given .out-starts .now) (given .out-ends .now) (fits .before .before .before .least-room .ensures) (fits .before .before .least-of-two .ensures) (fits .before .has-room .ensures) (fits .if1 .left) (laid .lay-append .ensures)
+    append-made limit (note (entry (checked told))) (given .string .now) (checked told .check-note .ensures)
+    (told .before .before .before .check-string .ensures) (told .before .before .earlier .ensures) (told .enum-told .given .1)
+    (given .out .now) (given .out-starts .now) (given .out-ends .now) (fits .before .before .before .least-room .ensures)
+    (fits .before .before .least-of-two .ensures) (fits .before .has-room .ensures) (fits .if1 .left) (laid .lay-append .ensures)
 
 pub append-spec : {M : Type 1} → statement M
 append-spec =
     tie.close
     (tie.spec
-    (λ c κs. search needs)
-    (λ c κs. search needs)
-    (λ c κs. search needs)
-    (λ c. search needs)
-    (λ c. search needs)
-    (λ c κs. search needs)
-    (λ c κs. search needs)
-    (λ c κs. search needs)
+    (λ c κs. search needs) (λ c κs. search needs) (λ c κs. search needs) (λ c. search needs) (λ c. search needs)
+    (λ c κs. search needs) (λ c κs. search needs) (λ c κs. search needs)
     returns
     lay-append-requires
     returns-2
-    (λ c. search needs)
-    (λ c. search needs)
-    (λ c. search needs)
+    (λ c. search needs) (λ c. search needs) (λ c. search needs)
     returns-3)

@@ -1,5 +1,5 @@
 -- The text stays, and the string stands behind it.
-use Prim.Native.Nat.{_+_, _^_, _<_}
+use Prim.Native.Nat.{_^_, _<_}
 use lib.ListN.{length}
 use native.Mathlib.Omega.{arith}
 use borrow.Author.Needs.{needs}
@@ -26,20 +26,16 @@ add-result c =
 returns : tie.Need-returns
 returns c =
     let started = c .before .before .before .before .before .before .before in
-    append-laid (entry (front (copied started)) .pre) (front (copied started) .keep .ensures) (copied started .copy-bytes .ensures) (started .before .before .before-end .ensures) (started .fill-offsets .ensures) (c .before .before .before .before .before-end2 .ensures) (c .before .before .fill-offsets2 .ensures)
+    append-laid (entry (front (copied started)) .pre) (front (copied started) .keep .ensures) (copied started .copy-bytes .ensures)
+    (started .before .before .before-end .ensures) (started .fill-offsets .ensures)
+    (c .before .before .before .before .before-end2 .ensures) (c .before .before .fill-offsets2 .ensures)
 
 pub lay-append-spec : {M : Type 1} → statement M
 lay-append-spec =
     tie.close
     (tie.spec
-    (λ c κs. search needs)
-    (λ c κs. search needs)
-    (λ c κs. search needs)
-    (λ c κs. search needs)
-    (λ c κs. search needs)
+    (λ c κs. search needs) (λ c κs. search needs) (λ c κs. search needs) (λ c κs. search needs) (λ c κs. search needs)
     (λ c κs. search needs)
     add-result
-    (λ c. search needs)
-    (λ c. search needs)
-    (λ c. search needs)
+    (λ c. search needs) (λ c. search needs) (λ c. search needs)
     returns)

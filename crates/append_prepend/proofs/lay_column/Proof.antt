@@ -12,19 +12,12 @@ returns : tie.Need-returns
 returns c =
     let filled = c .before .before .before .before .before .before .before in
     let given = entry filled .args in
-    column-laid (given .front) (given .count) (given .wide) (given .column .now) (given .out .now) (filled .fill-offsets .ensures) (c .before .before .copy-offsets .ensures)
+    column-laid (given .front) (given .count) (given .size) (given .column .now) (given .out .now) (filled .fill-offsets .ensures) (c .before .before .copy-offsets .ensures)
 
 pub lay-column-spec : {M : Type 1} → statement M
 lay-column-spec =
     tie.close
     (tie.spec
-    (λ c. search needs)
-    (λ c κs. search needs)
-    (λ c. search needs)
-    (λ c. search needs)
-    (λ c. search needs)
-    (λ c. search needs)
-    (λ c. search needs)
-    (λ c κs. search needs)
-    (λ c. search needs)
+    (λ c. search needs) (λ c κs. search needs) (λ c. search needs) (λ c. search needs) (λ c. search needs)
+    (λ c. search needs) (λ c. search needs) (λ c κs. search needs) (λ c. search needs)
     returns)

@@ -1,5 +1,5 @@
 -- The string first, then the text; the columns likewise.
-use Prim.Native.Nat.{_+_, _^_, _<_}
+use Prim.Native.Nat.{_^_, _<_}
 use lib.ListN.{length}
 use native.Mathlib.Omega.{arith}
 use borrow.Author.Needs.{needs}
@@ -27,7 +27,9 @@ add-result c =
 returns : tie.Need-returns
 returns c =
     let started = c .before .before .before .before .before .before .before in
-    prepend-laid (told (copied started) .char-len .ensures .long) (copied started .before .before .before .before .copy-bytes .ensures) (copied started .copy-bytes2 .ensures) (started .before .before .front-of .ensures) (started .lay-column .ensures) (c .before .before .before .before .front-of2 .ensures) (c .before .before .lay-column2 .ensures)
+    prepend-laid (told (copied started) .char-len .ensures .long) (copied started .before .before .before .before .copy-bytes .ensures)
+    (copied started .copy-bytes2 .ensures) (started .before .before .front-of .ensures) (started .lay-column .ensures)
+    (c .before .before .before .before .front-of2 .ensures) (c .before .before .lay-column2 .ensures)
 
 pub lay-prepend-spec : {M : Type 1} → statement M
 lay-prepend-spec =
@@ -35,14 +37,8 @@ lay-prepend-spec =
     (tie.spec
     (λ c κs. search needs)
     (λ c κs. let room = entry (c .before) .pre in record { formed = room .formed; begins = boundary-zero _ (room .formed); more = room .some; lent = c .before .lengths .ensures })
-    (λ c κs. search needs)
-    (λ c κs. search needs)
-    (λ c κs. search needs)
-    (λ c κs. search needs)
-    (λ c κs. search needs)
+    (λ c κs. search needs) (λ c κs. search needs) (λ c κs. search needs) (λ c κs. search needs) (λ c κs. search needs)
     (λ c κs. search needs)
     add-result
-    (λ c. search needs)
-    (λ c. search needs)
-    (λ c. search needs)
+    (λ c. search needs) (λ c. search needs) (λ c. search needs)
     returns)

@@ -26,26 +26,39 @@ returns : tie.Need-returns
 returns c =
     let told = c .before in
     let given = entry (checked told) .args in
-    prepend-empty limit (note (entry (checked told))) (given .string .now) (checked told .check-note .ensures) (told .before .before .before .check-string .ensures) (told .before .before .earlier .ensures) (told .enum-told .given .1) (given .out .now) (given .out-starts .now) (given .out-ends .now) (c .if1 .taken)
+    prepend-empty limit (note (entry (checked told))) (given .string .now) (checked told .check-note .ensures)
+    (told .before .before .before .check-string .ensures) (told .before .before .earlier .ensures) (told .enum-told .given .1)
+    (given .out .now) (given .out-starts .now) (given .out-ends .now) (c .if1 .taken)
 
 returns-2 : tie.Need-returns-2
 returns-2 c =
     let told = c .before .before .before .before .before in
     let given = entry (checked told) .args in
-    prepend-large limit (note (entry (checked told))) (given .string .now) (checked told .check-note .ensures) (told .before .before .before .check-string .ensures) (told .before .before .earlier .ensures) (told .enum-told .given .1) (given .out .now) (given .out-starts .now) (given .out-ends .now) (c .before .before .before .before .if1 .left) (c .before .before .before .least-room .ensures) (c .before .before .least-of-two .ensures) (c .before .has-room .ensures) (c .if2 .taken)
+    prepend-large limit (note (entry (checked told))) (given .string .now) (checked told .check-note .ensures)
+    (told .before .before .before .check-string .ensures) (told .before .before .earlier .ensures) (told .enum-told .given .1)
+    (given .out .now) (given .out-starts .now) (given .out-ends .now) (c .before .before .before .before .if1 .left)
+    (c .before .before .before .least-room .ensures) (c .before .before .least-of-two .ensures) (c .before .has-room .ensures)
+    (c .if2 .taken)
 
 lay-prepend-requires : tie.Need-lay-prepend-requires
 lay-prepend-requires c κs =
     let fits = c .before .before .before in
     let told = told fits in
     let given = entry (checked told) .args in
-    prepend-room limit (note (entry (checked told))) (given .string .now) (checked told .check-note .ensures) (told .before .before .before .check-string .ensures) (told .before .before .earlier .ensures) (told .enum-told .given .1) (given .out .now) (given .out-starts .now) (given .out-ends .now) (fits .before .before .before .before .if1 .left) (fits .before .before .before .least-room .ensures) (fits .before .before .least-of-two .ensures) (fits .before .has-room .ensures) (fits .if2 .left)
+    prepend-room limit (note (entry (checked told))) (given .string .now) (checked told .check-note .ensures)
+    (told .before .before .before .check-string .ensures) (told .before .before .earlier .ensures) (told .enum-told .given .1)
+    (given .out .now) (given .out-starts .now) (given .out-ends .now) (fits .before .before .before .before .if1 .left)
+    (fits .before .before .before .least-room .ensures) (fits .before .before .least-of-two .ensures) (fits .before .has-room .ensures)
+    (fits .if2 .left)
 
 returns-3 : tie.Need-returns-3
 returns-3 c =
     let checked = c .before .before .before .before .before in
     let given = entry checked .args in
-    join-refused limit (note (entry checked)) (given .string .now) (checked .check-note .ensures) (c .before .before .before .before .check-string .ensures) (c .before .before .before .earlier .ensures) (prependEdit (note (entry checked)) (given .string .now)) (given .out .now) (given .out-starts .now) (given .out-ends .now) (c .before .k .given .1)
+    join-refused limit (note (entry checked)) (given .string .now) (checked .check-note .ensures)
+    (c .before .before .before .before .check-string .ensures) (c .before .before .before .earlier .ensures)
+    (prependEdit (note (entry checked)) (given .string .now)) (given .out .now) (given .out-starts .now) (given .out-ends .now)
+    (c .before .k .given .1)
 
 returns-4 : tie.Need-returns-4
 returns-4 c =
@@ -53,25 +66,21 @@ returns-4 c =
     let fits = fits laid in
     let told = told fits in
     let given = entry (checked told) .args in
-    prepend-made limit (note (entry (checked told))) (given .string .now) (checked told .check-note .ensures) (told .before .before .before .check-string .ensures) (told .before .before .earlier .ensures) (told .enum-told .given .1) (given .out .now) (given .out-starts .now) (given .out-ends .now) (fits .before .before .before .before .if1 .left) (fits .before .before .before .least-room .ensures) (fits .before .before .least-of-two .ensures) (fits .before .has-room .ensures) (fits .if2 .left) (laid .lay-prepend .ensures)
+    prepend-made limit (note (entry (checked told))) (given .string .now) (checked told .check-note .ensures)
+    (told .before .before .before .check-string .ensures) (told .before .before .earlier .ensures) (told .enum-told .given .1)
+    (given .out .now) (given .out-starts .now) (given .out-ends .now) (fits .before .before .before .before .if1 .left)
+    (fits .before .before .before .least-room .ensures) (fits .before .before .least-of-two .ensures) (fits .before .has-room .ensures)
+    (fits .if2 .left) (laid .lay-prepend .ensures)
 
 pub prepend-spec : {M : Type 1} → statement M
 prepend-spec =
     tie.close
     (tie.spec
-    (λ c κs. search needs)
-    (λ c κs. search needs)
-    (λ c κs. search needs)
-    (λ c. search needs)
-    (λ c. search needs)
+    (λ c κs. search needs) (λ c κs. search needs) (λ c κs. search needs) (λ c. search needs) (λ c. search needs)
     returns
-    (λ c κs. search needs)
-    (λ c κs. search needs)
-    (λ c κs. search needs)
+    (λ c κs. search needs) (λ c κs. search needs) (λ c κs. search needs)
     returns-2
     lay-prepend-requires
     returns-3
-    (λ c. search needs)
-    (λ c. search needs)
-    (λ c. search needs)
+    (λ c. search needs) (λ c. search needs) (λ c. search needs)
     returns-4)

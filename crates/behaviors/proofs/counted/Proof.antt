@@ -8,9 +8,6 @@ pub counted-spec : {M : Type 1} → statement M
 counted-spec =
     tie.close
     (tie.spec
-    (λ c. search needs)
-    (λ c. search needs)
-    (λ c. search needs)
-    (λ c. search needs)
+    (λ c. search needs) (λ c. search needs) (λ c. search needs) (λ c. search needs)
     (λ c. one-counted _ _ _ (c .before .before .before .before .before .before .if1 .taken))
     (λ c. none-counted _ _ _ (c .if1 .left)))

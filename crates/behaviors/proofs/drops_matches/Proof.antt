@@ -11,11 +11,7 @@ unfolding dropsMatches
 drops-matches-spec =
     tie.close
     (tie.spec
-    (λ c. search needs)
-    (λ c. search needs)
-    (λ c. search needs)
-    (λ c. search needs)
-    (λ c. search needs)
+    (λ c. search needs) (λ c. search needs) (λ c. search needs) (λ c. search needs) (λ c. search needs)
     (λ c. loses-as _ Removed (c .enum-told .given .1))
     (λ c. loses-as _ Isolated (c .enum-told2 .given .1))
     (λ c. loses-as _ MergedWithPrevious (c .enum-told3 .given .1))

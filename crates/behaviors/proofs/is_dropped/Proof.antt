@@ -8,7 +8,6 @@ pub is-dropped-spec : {M : Type 1} → statement M
 is-dropped-spec =
     tie.close
     (tie.spec
-    (λ c. search needs)
-    (λ c. search needs)
+    (λ c. search needs) (λ c. search needs)
     (λ c. goes-kept _ _ (c .enum-told .given .1))
     (λ c. goes-empty _ _ (c .before .before .before .before .enum-told2 .given .1)))

@@ -8,6 +8,5 @@ pub is-kept-run-spec : {M : Type 1} → statement M
 is-kept-run-spec =
     tie.close
     (tie.spec
-    (λ c κs. search needs)
-    (λ c κs. search needs)
+    (λ c κs. search needs) (λ c κs. search needs)
     (λ c. stays-by _ _ _ (c .before .before .drops-matches .ensures) (c .is-dropped .ensures)))

@@ -8,11 +8,7 @@ pub joins-spec : {M : Type 1} → statement M
 joins-spec =
     tie.close
     (tie.spec
-    (λ c. search needs)
-    (λ c. search needs)
-    (λ c. search needs)
-    (λ c. search needs)
-    (λ c. search needs)
+    (λ c. search needs) (λ c. search needs) (λ c. search needs) (λ c. search needs) (λ c. search needs)
     (λ c. joins-removed _ _ _ (c .enum-told .given .1))
     (λ c. joins-isolated _ _ _ (c .enum-told2 .given .1))
     (λ c. joins-previous _ _ _ (c .enum-told3 .given .1))

@@ -1,4 +1,4 @@
--- Each turn counts the run that is over, if it gives a piece; the last run is counted behind the loop.
+-- Each turn counts the run that is over, if it gives a piece; the last run is counted after the loop.
 use Prim.Native.Nat.{_-_}
 use mathlib.Core.Logic.{⊎-elim}
 use lib.ListN.{length}
@@ -44,21 +44,15 @@ measure-spec =
     (tie.spec
     Inv-loop
     μ-loop
-    (λ c κs. search needs)
-    (λ c. search needs)
-    (λ c. search needs)
+    (λ c κs. search needs) (λ c. search needs) (λ c. search needs)
     (λ c. none-measured _ (c .before .before .entry-at .ensures) (c .enum-told .given .1) _ _)
     (λ c κs. search needs)
     (λ c. none-counting _ _ (c .before .before .before .before .before .before .pre) (c .before .before .before .before .entry-at .ensures) (c .before .before .first .given .1))
-    (λ c κs. search needs)
-    (λ c. search needs)
-    (λ c κs. search needs)
-    (λ c κs. search needs)
+    (λ c κs. search needs) (λ c. search needs) (λ c κs. search needs) (λ c κs. search needs)
     counted-requires
     (λ c κs. search needs)
     loop-less
     loop-again
-    (λ c. search needs)
-    (λ c κs. search needs)
+    (λ c. search needs) (λ c κs. search needs)
     (λ c κs. addable (c .before .before .loop .inv) (omega arith) (omega arith))
     returns-2)

@@ -23,9 +23,6 @@ all-lead-spec =
     Inv-loop
     μ-loop
     (λ c. (omega arith, leads-none _))
-    (λ c. omega arith)
-    (λ c κs. search needs)
-    (λ c. omega arith)
-    (λ c. omega arith)
+    (λ c. omega arith) (λ c κs. search needs) (λ c. omega arith) (λ c. omega arith)
     (λ c. (omega arith, leads-more _ _ (c .before .before .before .loop .inv .1) (c .continues .ensures)))
     (λ c. at-end (leadsBelow _) _ _ _ (c .before .loop .inv .0) (c .loop-test .left) (c .before .loop .inv .1)))

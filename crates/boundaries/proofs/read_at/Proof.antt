@@ -21,13 +21,10 @@ read-at-spec =
     Inv-loop
     μ-loop
     (λ c. (omega arith, none-filled _ _ _))
-    (λ c. omega arith)
-    (λ c. omega arith)
+    (λ c. omega arith) (λ c. omega arith)
     (λ c. omega (arith, c .shared-slice-known .given (c .before .before .loop .j)))
     (λ c. c .before .before .before .before .pre .1 .below _ (omega arith))
-    (λ c. omega arith)
-    (λ c. omega arith)
-    (λ c. omega arith)
+    (λ c. omega arith) (λ c. omega arith) (λ c. omega arith)
     (λ c. (omega arith, filled-up _ _ _ _ _ _ (c .before .before .before .loop .inv .1) (omega arith) refl))
     (λ c. c .before .loop .inv .1 .same)
     (λ c. filled-at _ _ _ _ _ _ _ (c .before .loop .inv .1) (omega arith) (omega arith)))

@@ -16,11 +16,8 @@ pub uncut-all-spec : {M : Type 1} → statement M
 uncut-all-spec =
     tie.close
     (tie.spec
-    (λ c. search needs)
-    (λ c. search needs)
-    (λ c. search needs)
+    (λ c. search needs) (λ c. search needs) (λ c. search needs)
     (λ c. omega (arith, c .shared-slice-known5 .given (length (c .before .before .before .before .before .before .args .starts .now) - 1)))
     uncut-blocks-requires
-    (λ c. search needs)
-    (λ c κs. search needs)
+    (λ c. search needs) (λ c κs. search needs)
     (λ c. search needs))

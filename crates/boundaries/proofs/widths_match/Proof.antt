@@ -26,14 +26,8 @@ widths-match-spec =
     Inv-loop
     μ-loop
     (λ c. (omega arith, spans-none _ _ _))
-    (λ c. omega arith)
-    (λ c. omega arith)
-    (λ c. omega arith)
-    (λ c. omega arith)
-    (λ c κs. omega arith)
-    (λ c. omega arith)
+    (λ c. omega arith) (λ c. omega arith) (λ c. omega arith) (λ c. omega arith) (λ c κs. omega arith) (λ c. omega arith)
     (λ c. omega (arith, c .shared-slice-known6 .given (c .before .before .before .before .before .loop .j)))
-    (λ c. omega arith)
-    (λ c. omega arith)
+    (λ c. omega arith) (λ c. omega arith)
     loop-again
     (λ c. at-end (spansBelow _ _ _) _ _ _ (c .before .loop .inv .0) (c .loop-test .left) (c .before .loop .inv .1)))

@@ -25,11 +25,7 @@ copy-bytes-spec =
     Inv-loop
     μ-loop
     (λ c. none-yet)
-    (λ c. omega arith)
-    (λ c. omega arith)
-    (λ c. omega arith)
-    (λ c. omega arith)
-    (λ c. omega arith)
+    (λ c. omega arith) (λ c. omega arith) (λ c. omega arith) (λ c. omega arith) (λ c. omega arith)
     loop-again
     (λ c. c .before .loop .inv .same)
     (λ c. all-written (c .before .loop .inv) (c .loop-test .left)))

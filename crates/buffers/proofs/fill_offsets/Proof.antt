@@ -19,11 +19,7 @@ fill-offsets-spec =
     Inv-loop
     μ-loop
     (λ c. none-yet)
-    (λ c. omega arith)
-    (λ c. omega arith)
-    (λ c. omega arith)
-    (λ c. omega arith)
-    (λ c. omega arith)
+    (λ c. omega arith) (λ c. omega arith) (λ c. omega arith) (λ c. omega arith) (λ c. omega arith)
     (λ c. one-same _ _ (c .before .loop .inv) (c .before .before .pre) (c .loop-test .taken))
     (λ c. c .before .loop .inv .same)
     (λ c. all-same _ _ (c .before .loop .inv) (c .loop-test .left)))

@@ -31,20 +31,11 @@ write-marks-spec =
     μ-loop
     (λ c. omega arith)
     (λ c. first-mark (c .before .before .args .marks .now) (c .before .before .pre .some) (c .before .before .pre .room))
-    (λ c. omega arith)
-    (λ c. omega arith)
-    (λ c. omega arith)
-    (λ c. omega arith)
-    (λ c. omega arith)
-    (λ c. omega arith)
+    (λ c. omega arith) (λ c. omega arith) (λ c. omega arith) (λ c. omega arith) (λ c. omega arith) (λ c. omega arith)
     (λ c κs. search needs)
     (λ c. omega (arith, add-count c))
     add-count
-    (λ c. omega arith)
-    (λ c. omega arith)
-    (λ c. omega arith)
-    (λ c. omega arith)
-    (λ c. omega arith)
+    (λ c. omega arith) (λ c. omega arith) (λ c. omega arith) (λ c. omega arith) (λ c. omega arith)
     loop-again
     (λ c. c .before .loop .inv .same ∙ length-set (c .before .before .before .before .args .marks .now) 0 0)
     (λ c. all-marks (c .before .loop .inv) (c .loop-test .left)))

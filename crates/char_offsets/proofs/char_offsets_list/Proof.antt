@@ -2,7 +2,7 @@
 use native.Mathlib.Omega.{arith}
 use borrow.Author.Needs.{needs}
 use Rattle.note.proofs.Faults.{text-short}
-use Rattle.note.proofs.Uneven.{input-accepted, list-even}
+use Rattle.note.proofs.LengthFaults.{input-accepted, list-even}
 use Rattle.char_offsets.proofs.CharOffsetsList.{list-refused, too-little-room, list-written}
 use Rattle.char_offsets.proofs.char_offsets_list.Statement.{statement}
 use Rattle.char_offsets.proofs.char_offsets_list.Tie as tie
@@ -43,16 +43,10 @@ pub char-offsets-list-spec : {M : Type 1} → statement M
 char-offsets-list-spec =
     tie.close
     (tie.spec
-    (λ c κs. search needs)
-    (λ c κs. search needs)
-    (λ c κs. search needs)
-    (λ c. search needs)
+    (λ c κs. search needs) (λ c κs. search needs) (λ c κs. search needs) (λ c. search needs)
     returns
-    (λ c. search needs)
-    (λ c κs. search needs)
+    (λ c. search needs) (λ c κs. search needs)
     returns-2
     count-and-write-requires
-    (λ c. search needs)
-    (λ c. search needs)
-    (λ c. search needs)
+    (λ c. search needs) (λ c. search needs) (λ c. search needs)
     returns-3)

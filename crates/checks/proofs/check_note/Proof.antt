@@ -42,8 +42,7 @@ check-note-spec =
     (λ c. too-long _ _ _ _ _ _ (c .before .lengths-fit .ensures) (c .if1 .taken))
     (λ c κs. search needs)
     (λ c. unpaired _ _ _ _ _ _ (c .before .before .before .lengths-fit .ensures) (c .before .before .if1 .left) (c .before .lengths-paired .ensures) (c .if2 .taken))
-    (λ c κs. search needs)
-    (λ c κs. search needs)
+    (λ c κs. search needs) (λ c κs. search needs)
     (λ c κs. (c .before .is-ascii .ensures, λ t. same-equal _ _ (sym (c .same-bytes .ensures) ∙ t)))
     (λ c.
     let paired = c .before .before .before .before in

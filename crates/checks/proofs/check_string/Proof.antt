@@ -9,6 +9,5 @@ pub check-string-spec : {M : Type 1} → statement M
 check-string-spec =
     tie.close
     (tie.spec
-    (λ c κs. search needs)
-    (λ c κs. search needs)
+    (λ c κs. search needs) (λ c κs. search needs)
     (λ c. c .refused-if .ensures ∙ string-verdict _ (c .before .well-formed .ensures)))

@@ -10,6 +10,5 @@ check-text-spec =
     tie.close
     (tie.spec
     (λ c. text-long _ _ (c .if1 .taken))
-    (λ c κs. search needs)
-    (λ c κs. search needs)
+    (λ c κs. search needs) (λ c κs. search needs)
     (λ c. c .refused-if .ensures ∙ text-verdict _ _ (c .before .before .if1 .left) (c .before .well-formed .ensures)))

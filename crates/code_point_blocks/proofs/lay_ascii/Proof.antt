@@ -25,13 +25,11 @@ lay-ascii-spec =
     Inv-loop
     μ-loop
     (λ c. none-yet)
-    (λ c. omega arith)
-    (λ c. omega arith)
+    (λ c. omega arith) (λ c. omega arith)
     (λ c. omega (arith, c .before .before .before .pre .0 (c .before .before .loop .i) (c .before .loop-test .taken)))
     (λ c. omega (arith, c .before .before .before .pre .1))
     (λ c. omega (arith, c .before .before .before .pre .1))
-    (λ c. omega arith)
-    (λ c. omega arith)
+    (λ c. omega arith) (λ c. omega arith)
     loop-again
     (λ c. c .before .loop .inv .same)
     (λ c. all-written (c .before .loop .inv) (c .loop-test .left)))

@@ -45,13 +45,11 @@ lay-text-block-spec =
     (λ c. search needs)
     (λ c κs. c .before .before .before .pre .0 .many)
     (λ c. no-word)
-    (λ c. omega arith)
-    (λ c. omega arith)
+    (λ c. omega arith) (λ c. omega arith)
     put-u32-le-requires
     cast-at
     add-at
-    (λ c. omega arith)
-    (λ c. omega arith)
+    (λ c. omega arith) (λ c. omega arith)
     loop-again
     (λ c. c .before .loop .inv .texts .parts .over .same)
     returns)

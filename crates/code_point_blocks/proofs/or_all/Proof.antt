@@ -1,8 +1,8 @@
--- Each turn adds one more number's bits, and takes none away.
+-- Each turn adds one more number's bits.
 use Prim.Native.Nat.{_-_}
 use lib.ListN.{length}
 use native.Mathlib.Omega.{arith}
-use Rattle.code_point_blocks.proofs.Packing.{Gathered, none-gathered, one-gathered}
+use Rattle.code_point_blocks.proofs.Packing.{Gathered, none-gathered, one-gathered, all-gathered}
 use Rattle.code_point_blocks.proofs.or_all.Statement.{statement}
 use Rattle.code_point_blocks.proofs.or_all.Tie as tie
 
@@ -19,9 +19,6 @@ or-all-spec =
     Inv-loop
     μ-loop
     (λ c. none-gathered)
-    (λ c. omega arith)
-    (λ c. omega arith)
-    (λ c. omega arith)
-    (λ c. omega arith)
+    (λ c. omega arith) (λ c. omega arith) (λ c. omega arith) (λ c. omega arith)
     (λ c. one-gathered (c .before .before .loop .inv) (c .before .loop-test .taken))
-    (λ c i h. c .before .loop .inv .most i (omega (arith, h, c .loop-test .left))))
+    (λ c. all-gathered (c .before .loop .inv) (c .loop-test .left)))

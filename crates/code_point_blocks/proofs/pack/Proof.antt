@@ -25,13 +25,8 @@ pack-spec =
     Inv-loop
     μ-loop
     (λ c. (omega arith, none-filled _ _ _))
-    (λ c. omega arith)
-    (λ c. omega arith)
-    (λ c κs. search needs)
-    (λ c. omega arith)
-    (λ c. omega arith)
-    (λ c. omega arith)
-    (λ c. omega arith)
+    (λ c. omega arith) (λ c. omega arith) (λ c κs. search needs) (λ c. omega arith) (λ c. omega arith)
+    (λ c. omega arith) (λ c. omega arith)
     loop-again
     (λ c. c .before .loop .inv .1 .same)
     (λ c. filled-at _ _ _ _ _ _ _ (c .before .loop .inv .1) (omega arith) (omega arith)))

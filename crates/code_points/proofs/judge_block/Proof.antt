@@ -30,13 +30,10 @@ judge-block-spec =
     Inv-loop
     μ-loop
     (λ c. none-judged)
-    (λ c. omega arith)
-    (λ c. omega arith)
-    (λ c κs. search needs)
+    (λ c. omega arith) (λ c. omega arith) (λ c κs. search needs)
     more-few
     add-size
-    (λ c. omega arith)
-    (λ c. omega arith)
+    (λ c. omega arith) (λ c. omega arith)
     (λ c. one-judged (c .before .before .before .loop .inv) (c .before .before .loop-test .taken) (c .len-utf8 .ensures))
     (λ c. search needs)
     (λ c. all-judged (c .before .loop .inv) (c .loop-test .left)))

@@ -14,7 +14,10 @@ add-result c = let entry = c .before .before .before .before .before .before .be
     omega (arith, entry .pre .free)
 
 returns : tie.Need-returns
-returns c = ascii-laid (c .before .before .before .before .before .before .before .before .pre) (each-below (c .before .before .before .before .before .before .before .before .pre) 0x80 (c .before .before .before .before .before .or-all .ensures) (c .before .before .before .before .if1 .taken)) (c .before .before .lay-ascii .ensures)
+returns c =
+    ascii-laid (c .before .before .before .before .before .before .before .before .pre)
+    (each-below (c .before .before .before .before .before .before .before .before .pre) 0x80 (c .before .before .before .before .before .or-all .ensures) (c .before .before .before .before .if1 .taken))
+    (c .before .before .lay-ascii .ensures)
 
 lay-text-block-requires : tie.Need-lay-text-block-requires
 lay-text-block-requires c κs = (c .before .before .before .before .before .before .pre, each-below (c .before .before .before .before .before .before .pre) 0x10000 (c .before .before .before .or-all .ensures) (c .before .if2 .taken))
@@ -29,8 +32,7 @@ lay-block-spec =
     (λ c. search needs)
     returns
     lay-text-block-requires
-    (λ c. search needs)
-    (λ c. search needs)
+    (λ c. search needs) (λ c. search needs)
     (λ c κs. singly-room (c .before .before .before .before .before .before .pre))
     (λ c. search needs)
     (λ c. search needs))

@@ -32,12 +32,10 @@ lay-singly-spec =
     Inv-loop
     μ-loop
     (λ c. no-text)
-    (λ c. omega arith)
-    (λ c. omega arith)
+    (λ c. omega arith) (λ c. omega arith)
     put-character-requires
     add-at
-    (λ c. omega arith)
-    (λ c. omega arith)
+    (λ c. omega arith) (λ c. omega arith)
     (λ c. one-character (c .before .before .before .before .before .before .loop .inv) (c .before .before .before .before .before .loop-test .taken) (c .before .before .put-character .ensures))
     (λ c. c .before .loop .inv .parts .over .same)
     (λ c. all-characters (c .before .loop .inv) (c .loop-test .left)))

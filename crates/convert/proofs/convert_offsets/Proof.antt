@@ -20,9 +20,7 @@ pub convert-offsets-spec : {M : Type 1} → statement M
 convert-offsets-spec =
     tie.close
     (tie.spec
-    (λ c κs. search needs)
-    (λ c. search needs)
-    (λ c. search needs)
+    (λ c κs. search needs) (λ c. search needs) (λ c. search needs)
     (λ c κs. accepted-columns _ _ (sym (c .before .before .check-note .ensures) ∙ c .enum-told .given .1))
     returns
     returns-2)

@@ -11,11 +11,8 @@ expand-alignments-spec =
     tie.close
     (tie.spec
     (λ c. expanded-past _ _ _ _ (omega arith))
-    (λ c. search needs)
-    (λ c. search needs)
+    (λ c. search needs) (λ c. search needs)
     (λ c. omega (arith, c .shared-slice-known .given (c .before .before .args .from)))
-    (λ c. search needs)
-    (λ c. search needs)
-    (λ c. search needs)
+    (λ c. search needs) (λ c. search needs) (λ c. search needs)
     (λ c. omega (arith, c .shared-slice-known2 .given (c .before .before .before .args .to - 1)))
     (λ c. expanded-inside _ _ _ _ (omega arith)))

@@ -8,11 +8,7 @@ pub step-spec : {M : Type 1} → statement M
 step-spec =
     tie.close
     (tie.spec
-    (λ c. search needs)
-    (λ c. search needs)
-    (λ c. search needs)
-    (λ c κs. search needs)
-    (λ c. search needs)
+    (λ c. search needs) (λ c. search needs) (λ c. search needs) (λ c κs. search needs) (λ c. search needs)
     (λ c κs. search needs)
     (λ c. stepped-both _ _ _ _ (c .before .before .found .given .1))
     (λ c. stepped-last _ _ _ _ (c .before .enum-told .given .1) (c .begin .ensures))

@@ -20,14 +20,10 @@ pub to-normalized-spec : {M : Type 1} → statement M
 to-normalized-spec =
     tie.close
     (tie.spec
-    (λ c κs. search needs)
-    (λ c κs. search needs)
+    (λ c κs. search needs) (λ c κs. search needs)
     returns
     (λ c. toNormalized-reversed _ _ _ _ (c .before .if1 .left) (c .if2 .taken))
-    (λ c κs. search needs)
-    (λ c. search needs)
-    (λ c. search needs)
-    (λ c. search needs)
+    (λ c κs. search needs) (λ c. search needs) (λ c. search needs) (λ c. search needs)
     returns-3
     returns-4
     returns-5)

@@ -14,8 +14,7 @@ pub to-original-spec : {M : Type 1} → statement M
 to-original-spec =
     tie.close
     (tie.spec
-    (λ c κs. search needs)
-    (λ c κs. search needs)
+    (λ c κs. search needs) (λ c κs. search needs)
     returns
     (λ c. toOriginal-reversed _ _ _ _ (c .before .if1 .left) (c .if2 .taken))
     (λ c κs. search needs)

@@ -22,12 +22,7 @@ all-expand-spec =
     Inv-loop
     μ-loop
     (λ c t. none-expand)
-    (λ c. omega arith)
-    (λ c. omega arith)
-    (λ c. omega arith)
-    (λ c. omega arith)
-    (λ c κs. search needs)
-    (λ c. omega arith)
-    (λ c. omega arith)
+    (λ c. omega arith) (λ c. omega arith) (λ c. omega arith) (λ c. omega arith) (λ c κs. search needs)
+    (λ c. omega arith) (λ c. omega arith)
     (λ c. one-expands (c .before .before .before .before .loop .inv) (c .expands .ensures))
     (λ c t. all-expanding (c .before .loop .inv t) (c .loop-test .left)))

@@ -1,7 +1,7 @@
 -- Each turn writes one more answer: by two reads, or as `convert_checked` answers.
 use Prim.Native.Nat.{_-_, _≤_}
 use mathlib.Core.Logic.{⊎-elim}
-use mathlib.Core.Path.{_≡_, _∙_, sym}
+use mathlib.Core.Path.{_∙_, sym}
 use native.Mathlib.Omega.{arith}
 use lib.ListN.{length}
 use borrow.Author.Needs.{needs}
@@ -81,14 +81,11 @@ convert-between-spec =
     (λ c κs. entry (turn (c .before .before)) .pre .0)
     (λ c κs. search needs)
     (λ c. let known = entry (turn (c .before .before .before .before)) .pre .1 in omega (arith, turn (c .before .before .before .before) .loop .inv .1 .numbers-are .same, known .inside, known .room .of-numbers))
-    (λ c κs. search needs)
-    (λ c. omega arith)
+    (λ c κs. search needs) (λ c. omega arith)
     (λ c. let known = entry (turn (c .before .before .before .before .before)) .pre .1 in omega (arith, turn (c .before .before .before .before .before) .loop .inv .1 .starts-are .same, known .inside, known .room .of-starts))
-    (λ c κs. search needs)
-    (λ c. omega arith)
+    (λ c κs. search needs) (λ c. omega arith)
     (λ c. let known = entry (turn (c .before .before .before .before .before .before)) .pre .1 in omega (arith, turn (c .before .before .before .before .before .before) .loop .inv .1 .ends-are .same, known .inside, known .room .of-ends))
-    (λ c. omega arith)
-    (λ c. omega arith)
+    (λ c. omega arith) (λ c. omega arith)
     loop-again
     (λ c. c .before .loop .inv .1 .numbers-are .same)
     (λ c. c .before .loop .inv .1 .starts-are .same)

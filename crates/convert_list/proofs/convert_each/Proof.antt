@@ -1,6 +1,6 @@
 -- Each turn answers one block more: by two reads each, or one after the other.
-use Prim.Native.Nat.{_-_, _≤_}
-use mathlib.Core.Path.{_≡_, _∙_, sym}
+use Prim.Native.Nat.{_-_}
+use mathlib.Core.Path.{_∙_}
 use native.Mathlib.Omega.{arith}
 use lib.ListN.{length, length-take, length-drop}
 use borrow.Author.Needs.{needs}
@@ -43,7 +43,9 @@ expand-block-requires c κs =
     let judged = c .before .before .before .before .before in
     let turn = turn judged in
     let room = zeroed-room _ (entry (filled turn) .pre .1) (filled turn .fill-bytes .ensures) in
-    readable (entry (filled turn) .args .side) (entry (filled turn) .pre .0) (between room (turn .loop .inv) (judged .before .before .before .before .loop-test .taken) (judged .before .before .before .least-of-two .ensures)) (turn .before .expandable .ensures) (judged .all-expand .ensures (c .before .before .before .before .if1 .taken))
+    let here = between room (turn .loop .inv) (judged .before .before .before .before .loop-test .taken) (judged .before .before .before .least-of-two .ensures) in
+    readable (entry (filled turn) .args .side) (entry (filled turn) .pre .0) here
+    (turn .before .expandable .ensures) (judged .all-expand .ensures (c .before .before .before .before .if1 .taken))
 
 convert-between-requires : tie.Need-convert-between-requires Inv-loop μ-loop
 convert-between-requires c κs =
@@ -81,23 +83,11 @@ convert-each-spec =
     (λ c κs. search needs)
     cast-len
     (λ c. none-answered _ (entry (c .before .before .before) .pre .1 .of-numbers) (c .before .before .before .fill-bytes .ensures))
-    (λ c. omega arith)
-    (λ c κs. search needs)
-    (λ c. omega arith)
-    (λ c. omega arith)
-    (λ c. omega arith)
-    (λ c. omega arith)
-    (λ c. omega arith)
-    (λ c. omega arith)
-    (λ c. omega arith)
+    (λ c. omega arith) (λ c κs. search needs) (λ c. omega arith) (λ c. omega arith) (λ c. omega arith)
+    (λ c. omega arith) (λ c. omega arith) (λ c. omega arith) (λ c. omega arith)
     (λ c. omega (arith, entry (filled (c .before .before .before)) .pre .1 .same))
     (λ c κs. simp (length-take, length-drop) (omega (arith, entry (filled (c .before .before .before .before)) .pre .1 .same)))
-    (λ c. omega arith)
-    (λ c. omega arith)
-    (λ c. omega arith)
-    (λ c. omega arith)
-    (λ c. omega arith)
-    (λ c. omega arith)
+    (λ c. omega arith) (λ c. omega arith) (λ c. omega arith) (λ c. omega arith) (λ c. omega arith) (λ c. omega arith)
     (λ c. omega arith)
     (λ c. omega (arith, entry (filled (turn (c .before .before))) .pre .1 .same))
     expand-block-requires

@@ -1,7 +1,7 @@
 -- The earlier refusal of the note and the list, then the room; past these the answers are written.
 use native.Mathlib.Omega.{arith}
 use borrow.Author.Needs.{needs}
-use Rattle.note.proofs.Uneven.{input-accepted, list-even}
+use Rattle.note.proofs.LengthFaults.{input-accepted, list-even}
 use Rattle.convert.proofs.Answered.{accepted-columns}
 use Rattle.convert_list.proofs.ConvertedList.{list-refused, too-little-room, all-converted}
 use Rattle.convert_list.proofs.convert_list.Statement.{statement}
@@ -43,16 +43,10 @@ pub convert-list-spec : {M : Type 1} → statement M
 convert-list-spec =
     tie.close
     (tie.spec
-    (λ c κs. search needs)
-    (λ c κs. search needs)
-    (λ c κs. search needs)
-    (λ c. search needs)
+    (λ c κs. search needs) (λ c κs. search needs) (λ c κs. search needs) (λ c. search needs)
     returns
-    (λ c. search needs)
-    (λ c κs. search needs)
+    (λ c. search needs) (λ c κs. search needs)
     returns-2
     convert-each-requires
-    (λ c. search needs)
-    (λ c. search needs)
-    (λ c. search needs)
+    (λ c. search needs) (λ c. search needs) (λ c. search needs)
     returns-3)

@@ -42,8 +42,7 @@ expand-block-spec =
     Inv-loop
     μ-loop
     (λ c. none-read)
-    (λ c. omega arith)
-    (λ c. omega arith)
+    (λ c. omega arith) (λ c. omega arith)
     first-start-requires
     (λ c. omega (arith, entry (c .before .before .before) .pre .of-starts))
     (λ c. omega (arith, entry (c .before .before .before) .pre .of-starts))
@@ -54,8 +53,7 @@ expand-block-spec =
     (λ c. omega (arith, entry (c .before .before .before .before .before) .pre .of-ends))
     (λ c. omega (arith, entry (c .before .before .before .before .before) .pre .of-ends))
     (λ c. omega (arith, entry (c .before .before .before .before .before) .pre .of-ends, c .before .before .before .before .before .loop .inv .ends-so .same))
-    (λ c. omega arith)
-    (λ c. omega arith)
+    (λ c. omega arith) (λ c. omega arith)
     loop-again
     (λ c. c .before .loop .inv .starts-so .same)
     (λ c. c .before .loop .inv .ends-so .same)

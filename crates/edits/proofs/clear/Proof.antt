@@ -70,9 +70,7 @@ pub clear-spec : {M : Type 1} → statement M
 clear-spec =
     tie.close
     (tie.spec
-    (λ c κs. search needs)
-    (λ c. search needs)
-    (λ c. search needs)
+    (λ c κs. search needs) (λ c. search needs) (λ c. search needs)
     widthless-requires
     (λ c κs. search needs)
     returns
@@ -83,7 +81,5 @@ clear-spec =
     (λ c. ends-fit (fits (copied (c .before .before .before)) .before .before))
     (λ c κs. let started = c .before .before .before .before in omega (arith, ends-fit (fits (copied started) .before .before), fits (copied started) .if1 .left, fits (copied started) .before .least-room .ensures))
     returns-2
-    (λ c. search needs)
-    (λ c. search needs)
-    (λ c. search needs)
+    (λ c. search needs) (λ c. search needs) (λ c. search needs)
     returns-3)

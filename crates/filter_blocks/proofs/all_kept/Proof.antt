@@ -2,7 +2,7 @@
 use native.Mathlib.Omega.{arith}
 use Prim.Native.Nat.{_-_}
 use lib.ListN.{length}
-use Rattle.filter_blocks.proofs.Whole.{Keeping, none-keeping, one-keeping}
+use Rattle.filter_blocks.proofs.Whole.{Keeping, none-keeping, one-keeping, all-keeping}
 use Rattle.filter_blocks.proofs.all_kept.Statement.{statement}
 use Rattle.filter_blocks.proofs.all_kept.Tie as tie
 
@@ -19,8 +19,6 @@ all-kept-spec =
     Inv-loop
     μ-loop
     (λ c. none-keeping)
-    (λ c. omega arith)
-    (λ c. omega arith)
-    (λ c. omega arith)
+    (λ c. omega arith) (λ c. omega arith) (λ c. omega arith)
     (λ c. one-keeping (c .before .before .loop .inv) (c .before .loop-test .taken))
-    (λ c. λ t i h. c .before .loop .inv .so-far t i (omega (arith, h, c .loop-test .left))))
+    (λ c. all-keeping (c .before .loop .inv) (c .loop-test .left)))

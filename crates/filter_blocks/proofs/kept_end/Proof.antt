@@ -40,8 +40,7 @@ kept-end-spec =
     (λ c. omega (arith, flag-there (c .before .before .before .before .before .pre) (c .before .before .loop .inv)))
     sub-q
     shared-slice-read-continues
-    (λ c κs. search needs)
-    (λ c. search needs)
+    (λ c κs. search needs) (λ c. search needs)
     sub-i
     loop-less
     loop-again

@@ -43,7 +43,8 @@ add-at c =
 
 add-q : tie.Need-add-q Inv-loop μ-loop
 add-q c =
-    omega (arith, char-inside (entry (turn (told (c .before .before .before .before .before .before .before .before))) .pre) (turn (told (c .before .before .before .before .before .before .before .before)) .loop .inv .1) (told (c .before .before .before .before .before .before .before .before) .before .before .loop-test .taken) (told (c .before .before .before .before .before .before .before .before) .lead-len .ensures))
+    omega
+    (arith, char-inside (entry (turn (told (c .before .before .before .before .before .before .before .before))) .pre) (turn (told (c .before .before .before .before .before .before .before .before)) .loop .inv .1) (told (c .before .before .before .before .before .before .before .before) .before .before .loop-test .taken) (told (c .before .before .before .before .before .before .before .before) .lead-len .ensures))
 
 loop-again : tie.Need-loop-again Inv-loop μ-loop
 loop-again c =
@@ -66,8 +67,7 @@ lay-chars-spec =
     (λ c κs. search needs)
     add-at
     add-q
-    (λ c. omega arith)
-    (λ c. omega arith)
+    (λ c. omega arith) (λ c. omega arith)
     loop-again
     (λ c. c .before .loop .inv .1 .laid .text .same)
     (λ c. c .before .loop .inv .1 .laid .starts-so-far .same)

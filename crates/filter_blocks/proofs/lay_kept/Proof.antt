@@ -1,10 +1,10 @@
--- Letter by letter up to the last four kept ones, then byte by byte.
+-- Character by character up to the last four kept ones, then byte by byte.
 use borrow.Author.Needs.{needs}
 use Rattle.filter_blocks.proofs.Chars.{chars-room, rest-room, rest-kept}
 use Rattle.filter_blocks.proofs.lay_kept.Statement.{statement}
 use Rattle.filter_blocks.proofs.lay_kept.Tie as tie
 
--- the places that others are told by: the entry, where the end of the letters is known, and where they are laid
+-- the places that others are told by: the entry, where the end of the characters is known, and where they are laid
 abbrev entry : tie.After-before-four → tie.Start
 entry c = c .before .before .before .before .before .before .before .before
 
@@ -26,7 +26,5 @@ lay-kept-spec =
     (λ c κs. search needs)
     (λ c κs. let four = c .before .before .before in chars-room (entry four .pre) (four .before-four .ensures))
     (λ c κs. rest-room (entry (four (chars c)) .pre) (four (chars c) .before-four .ensures) (chars c .lay-chars .ensures))
-    (λ c. search needs)
-    (λ c. search needs)
-    (λ c. search needs)
+    (λ c. search needs) (λ c. search needs) (λ c. search needs)
     returns)

@@ -51,8 +51,7 @@ lay-rest-spec =
     μ-loop
     (λ c. c .before .before .before .before .before .before .before .pre .1)
     (λ c. there (c .before) .0)
-    (λ c κs. search needs)
-    (λ c. search needs)
+    (λ c κs. search needs) (λ c. search needs)
     (λ c. omega (arith, index c))
     (λ c. there (c .before .before .before) .0)
     (λ c. room (c .before .before .before) .0)
@@ -68,8 +67,7 @@ lay-rest-spec =
     (λ c. omega (arith, index (c .before .before .before .before)))
     (λ c. search needs)
     add-at
-    (λ c. omega arith)
-    (λ c. omega arith)
+    (λ c. omega arith) (λ c. omega arith)
     loop-again
     (λ c. c .before .loop .inv .laid .text .same)
     (λ c. c .before .loop .inv .laid .starts-so-far .same)

@@ -1,11 +1,11 @@
 -- The note first, then the number of flags; what the whole range names is edited.
-use mathlib.Core.Path.{_∙_, refl}
+use mathlib.Core.Path.{refl}
 use native.Mathlib.Omega.{arith}
 use borrow.Author.Needs.{needs}
 use Rattle.note.specs.Refusals.{also}
 use Rattle.note.specs.Notes.{Note, lent, limit}
 use Rattle.note.specs.Faults.{noteFaults}
-use Rattle.transform.proofs.Verdicts.{inputs-refused, inputs-accepted, note-columns, note-editable, target-of}
+use Rattle.transform.proofs.Verdicts.{inputs-refused, inputs-accepted, note-columns, note-editable}
 use Rattle.edits.specs.Whole.{filterEdit}
 use Rattle.edits.proofs.Inputs.{note-short}
 use Rattle.filters.proofs.Counted.{flagFaults, note-first, flag-each, miscounted, well-counted, filter-found, filter-none}
@@ -52,7 +52,9 @@ returns-2 : tie.Need-returns-2
 returns-2 c =
     let given = entry (c .before .before .before) .args in
     let note = note (entry (c .before .before .before)) in
-    inputs-refused limit note (also (noteFaults limit note) (flagFaults (given .normalized .now) (given .flags .now))) refl (filterEdit note (given .flags .now)) (given .out .now) (given .out-starts .now) (given .out-ends .now) (note-first limit note (given .flags .now) (c .before .before .before .check-note .ensures) (c .before .k .given .1)) refl
+    inputs-refused limit note (also (noteFaults limit note) (flagFaults (given .normalized .now) (given .flags .now))) refl
+    (filterEdit note (given .flags .now)) (given .out .now) (given .out-starts .now) (given .out-ends .now)
+    (note-first limit note (given .flags .now) (c .before .before .before .check-note .ensures) (c .before .k .given .1)) refl
 
 returns-3 : tie.Need-returns-3
 returns-3 c =
@@ -62,7 +64,7 @@ returns-3 c =
     let note = note (entry (told sought .before .before)) in
     inputs-accepted limit note (also (noteFaults limit note) (flagFaults (given .normalized .now) (given .flags .now))) refl (filterEdit note (given .flags .now)) (given .out .now) (given .out-starts .now) (given .out-ends .now)
     (well-counted limit note (given .flags .now) (told sought .before .before .check-note .ensures) (told sought .enum-told .given .1) (sought .before .before .count-leads .ensures) (sought .before .if1 .left)) refl
-    (filter-found note (given .flags .now) (sought .as-normalized .ensures ∙ target-of _ _ _) (measured laid .before .before .before .found .given .1) (measured laid .before .start-of .ensures) (measured laid .end-of .ensures))
+    (filter-found note (given .flags .now) (sought .as-normalized .ensures) (measured laid .before .before .before .found .given .1) (measured laid .before .start-of .ensures) (measured laid .end-of .ensures))
     (laid .filter-range .ensures)
 
 returns-4 : tie.Need-returns-4
@@ -73,35 +75,23 @@ returns-4 c =
     let note = note (entry (told sought .before .before)) in
     inputs-accepted limit note (also (noteFaults limit note) (flagFaults (given .normalized .now) (given .flags .now))) refl (filterEdit note (given .flags .now)) (given .out .now) (given .out-starts .now) (given .out-ends .now)
     (well-counted limit note (given .flags .now) (told sought .before .before .check-note .ensures) (told sought .enum-told .given .1) (sought .before .before .count-leads .ensures) (sought .before .if1 .left)) refl
-    (filter-none note (given .flags .now) (sought .as-normalized .ensures ∙ target-of _ _ _) (missed left .enum-told2 .given .1))
+    (filter-none note (given .flags .now) (sought .as-normalized .ensures) (missed left .enum-told2 .given .1))
     (left .edit .ensures)
 
 pub filter-spec : {M : Type 1} → statement M
 filter-spec =
     tie.close
     (tie.spec
-    (λ c κs. search needs)
-    (λ c. search needs)
-    (λ c. search needs)
-    (λ c κs. search needs)
+    (λ c κs. search needs) (λ c. search needs) (λ c. search needs) (λ c κs. search needs)
     returns
     (λ c. omega (arith, note-short limit _ (c .before .before .before .before .check-note .ensures) (c .before .before .enum-told .given .1)))
     (λ c κs. note-columns limit _ (c .before .before .before .before .check-note .ensures) (c .before .before .enum-told .given .1))
-    (λ c. search needs)
-    (λ c κs. search needs)
-    (λ c. search needs)
-    (λ c κs. search needs)
-    (λ c. search needs)
+    (λ c. search needs) (λ c κs. search needs) (λ c κs. search needs)
     filter-range-requires
-    (λ c. search needs)
-    (λ c. search needs)
+    (λ c. search needs) (λ c. search needs)
     (λ c κs. let missed = c .before .before .before .before in note-editable limit _ (told (missed .before .before) .before .before .check-note .ensures) (told (missed .before .before) .enum-told .given .1))
     returns-2
-    (λ c. search needs)
-    (λ c. search needs)
-    (λ c. search needs)
+    (λ c. search needs) (λ c. search needs) (λ c. search needs)
     returns-3
-    (λ c. search needs)
-    (λ c. search needs)
-    (λ c. search needs)
+    (λ c. search needs) (λ c. search needs) (λ c. search needs)
     returns-4)

@@ -1,5 +1,5 @@
 -- What stays in front, what the flags keep, what stays behind.
-use Prim.Native.Nat.{_+_, _-_, _^_, _≤_, _<_}
+use Prim.Native.Nat.{_-_, _^_, _<_}
 use lib.ListN.{length}
 use native.Mathlib.Omega.{arith}
 use borrow.Author.Needs.{needs}
@@ -9,7 +9,7 @@ use Rattle.filters.proofs.lay_filtered.Tie as tie
 
 -- the places that others are told by: the entry, and where the front and the middle are laid
 abbrev entry : tie.After-keep-arg3 → tie.Start
-entry c = c .before .before .before .before .before .before .before .before .before .before
+entry c = c .before .before .before .before .before .before .before .before .before .before .before .before
 
 abbrev front : tie.After-lay-flags-arg3 → tie.After-keep
 front c = c .before .before .before .before .before .before .before .before .before
@@ -33,12 +33,11 @@ pub lay-filtered-spec : {M : Type 1} → statement M
 lay-filtered-spec =
     tie.close
     (tie.spec
+    (λ c. search needs) (λ c. search needs)
     (λ c κs. front-room (entry c .pre .rooms))
     (λ c κs. let room = entry (front c .before) .pre in record { ready = room .ready; rooms = middle-room (room .rooms) (front c .keep .ensures) })
     (λ c κs. back-room (entry (front (middle c .before) .before) .pre .rooms) (front (middle c .before) .keep .ensures) (middle c .lay-flags .ensures))
     (λ c. entry (front (middle (c .before .before .before .before .before .before .before) .before) .before) .pre .rooms .inside)
     add-result
-    (λ c. search needs)
-    (λ c. search needs)
-    (λ c. search needs)
+    (λ c. search needs) (λ c. search needs) (λ c. search needs)
     returns)

@@ -9,11 +9,11 @@ use Rattle.filters.proofs.lay_flags.Statement.{statement}
 use Rattle.filters.proofs.lay_flags.Tie as tie
 
 abbrev Inv-loop : tie.InvT-loop
-Inv-loop text starts ends to from flags table out₀ out-starts₀ out-ends₀ at q₀ p₀ written₀ i₀ out out-starts out-ends q p written i =
-    Flagged text starts ends to from flags out₀ out-starts₀ out-ends₀ at q p written i out out-starts out-ends
+Inv-loop text starts ends to flags table out₀ out-starts₀ out-ends₀ at q₀ p₀ written₀ i₀ out out-starts out-ends q p written i =
+    Flagged text starts ends (to .0) (p₀ .0) flags out₀ out-starts₀ out-ends₀ at q (p .0) written i out out-starts out-ends
 
 abbrev μ-loop : tie.MeasureT-loop
-μ-loop text starts ends to from flags table out₀ out-starts₀ out-ends₀ at q₀ p₀ written₀ i₀ out out-starts out-ends q p written i =
+μ-loop text starts ends to flags table out₀ out-starts₀ out-ends₀ at q₀ p₀ written₀ i₀ out out-starts out-ends q p written i =
     length flags - i
 
 -- the places that others are told by: the entry, the turn's beginning, and where its character is laid

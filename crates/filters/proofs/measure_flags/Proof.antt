@@ -1,6 +1,6 @@
 -- Each turn passes one character of the text and one of the range, unless a kept one finds none.
-use Prim.Native.Nat.{_+_, _-_, _^_, _≤_, _<_}
-use lib.ListN.{length, getD}
+use Prim.Native.Nat.{_-_, _^_, _<_}
+use lib.ListN.{length}
 use native.Mathlib.Omega.{arith}
 use borrow.Author.Needs.{needs}
 use Rattle.filters.proofs.Kept.{char-there, Filtering, none-filtered, flag-starves, next-filtered, all-filtered, counts-most}
@@ -8,10 +8,10 @@ use Rattle.filters.proofs.measure_flags.Statement.{statement}
 use Rattle.filters.proofs.measure_flags.Tie as tie
 
 abbrev Inv-loop : tie.InvT-loop
-Inv-loop text to from flags table q₀ p₀ written₀ i₀ q p written i = Filtering text to from flags q p written i
+Inv-loop text to flags table q₀ p₀ written₀ i₀ q p written i = Filtering text (to .0) (p₀ .0) flags q (p .0) written i
 
 abbrev μ-loop : tie.MeasureT-loop
-μ-loop text to from flags table q₀ p₀ written₀ i₀ q p written i = length flags - i
+μ-loop text to flags table q₀ p₀ written₀ i₀ q p written i = length flags - i
 
 -- the places that others are told by: the entry and the turn's beginning
 abbrev entry : tie.At-loop Inv-loop μ-loop → tie.Start Inv-loop μ-loop
@@ -21,7 +21,7 @@ add-written : tie.Need-add-written Inv-loop μ-loop
 add-written c =
     let turn = c .before .before .before .before .before .before .before in
     let long : length (entry turn .args .text .now) < 2 ^ 64 = entry turn .good .0 .0 in
-    omega (arith, long, counts-most _ _ (c .flag-len .ensures), c .before .before .before .before .before .char-len .ensures .inside, turn .loop .inv .small)
+    omega (arith, long, counts-most _ _ (c .kept-len .ensures), c .before .before .before .before .before .char-len .ensures .inside, turn .loop .inv .small)
 
 add-q : tie.Need-add-q Inv-loop μ-loop
 add-q c =
@@ -37,15 +37,12 @@ measure-flags-spec =
     μ-loop
     (λ c. none-filtered (c .before .before .pre))
     (λ c κs. char-there (c .before .loop .inv .beside) (c .loop-test .taken) (entry (c .before) .pre .tabled))
-    (λ c. search needs)
-    (λ c κs. search needs)
+    (λ c. search needs) (λ c κs. search needs)
     (λ c. flag-starves (c .before .before .before .before .before .loop .inv) (c .before .before .before .before .loop-test .taken) (c .before .before .before .char-len .ensures) (c .before .flag-starves .ensures) (c .if1 .taken))
-    (λ c. search needs)
-    (λ c κs. search needs)
+    (λ c. search needs) (λ c κs. search needs)
     add-written
     (λ c κs. let turn = c .before .before .before .before .before .before .before in record { standing = turn .loop .inv .beside .standing; lent = entry turn .pre .tabled .lent })
     add-q
-    (λ c. omega arith)
-    (λ c. omega arith)
-    (λ c. next-filtered (c .before .before .before .before .before .before .before .before .loop .inv) (c .before .before .before .before .before .before .before .loop-test .taken) (c .before .before .before .before .before .before .char-len .ensures) (c .before .before .before .before .flag-starves .ensures) (c .before .before .before .if1 .left) (c .before .flag-len .ensures) (c .skip .ensures))
+    (λ c. omega arith) (λ c. omega arith)
+    (λ c. next-filtered (c .before .before .before .before .before .before .before .before .loop .inv) (c .before .before .before .before .before .before .before .loop-test .taken) (c .before .before .before .before .before .before .char-len .ensures) (c .before .before .before .before .flag-starves .ensures) (c .before .before .before .if1 .left) (c .before .kept-len .ensures) (c .skip .ensures))
     (λ c. all-filtered (c .before .loop .inv) (c .loop-test .left)))

@@ -16,7 +16,7 @@ abbrev μ-loop : tie.MeasureT-loop
 next-match-requires : tie.Need-next-match-requires Inv-loop μ-loop
 next-match-requires c κs =
     let s = c .before .before .loop .inv .stands in
-    (s .some, match-inside s (c .before .loop-test .taken))
+    (s .some, omega (arith, s .some, match-inside s (c .before .loop-test .taken)))
 
 loop-less : tie.Need-loop-less Inv-loop μ-loop
 loop-less c =

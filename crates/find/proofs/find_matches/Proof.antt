@@ -28,19 +28,21 @@ write-list-requires c κs =
       leb-true _ _ (sym (c .before .before .list-fits .ensures) ∙ not-false _ (c .before .if1 .left)),
     )
 
+returns-3 : tie.Need-returns-3
+returns-3 c =
+    let fit = c .before .before .before .before in
+    list-written _ _ _ _ (judged (fit .before .before .before .before .before)) (fit .before .before .before .enum-told .given .1)
+    (fit .before .list-fits .ensures) (fit .if1 .left) (c .before .before .write-list .ensures)
+
 pub find-matches-spec : {M : Type 1} → statement M
 find-matches-spec =
     tie.close
     (tie.spec
-    (λ c κs. search needs)
-    (λ c κs. search needs)
-    (λ c κs. search needs)
-    (λ c. search needs)
+    (λ c κs. search needs) (λ c κs. search needs) (λ c κs. search needs) (λ c. search needs)
     (λ c. input-refused _ _ _ _ (judged (c .before .before .before)) (c .before .k .given .1))
-    (λ c. search needs)
-    (λ c κs. search needs)
+    (λ c. search needs) (λ c κs. search needs)
     list-fits-requires
     (λ c. room-refused _ _ _ _ (judged (c .before .before .before .before .before)) (c .before .before .before .enum-told .given .1) (c .before .list-fits .ensures) (c .if1 .taken))
     write-list-requires
     (λ c. search needs)
-    (λ c. list-written _ _ _ _ (judged (c .before .before .before .before .before .before .before .before .before)) (c .before .before .before .before .before .before .before .enum-told .given .1) (c .before .before .before .before .before .list-fits .ensures) (c .before .before .before .before .if1 .left) (c .before .before .write-list .ensures)))
+    returns-3)

@@ -33,6 +33,5 @@ list-fits-spec =
     add-room-for
     room-for-requires-2
     (λ c. fits-longest _ _ _ (omega arith) (c .before .room-for2 .ensures) (c .if2 .taken))
-    (λ c κs. search needs)
-    (λ c κs. search needs)
+    (λ c κs. search needs) (λ c κs. search needs)
     (λ c. fits-counted _ _ _ (c .before .count-places .ensures .0) (c .room-for3 .ensures)))

@@ -48,6 +48,12 @@ loop-less c =
     let s = turn passed .loop .inv .stands in
     omega (arith, s .some, first-there s .from, match-inside s (passed .before .before .loop-test .taken))
 
+loop-again : tie.Need-loop-again Inv-loop μ-loop
+loop-again c =
+    let passed = c .before .before .before .before .before .before .before .before in
+    next-listed (turn passed .loop .inv) (passed .write-between .ensures) (passed .before .before .loop-test .taken)
+    (c .before .before .before .before .before .place-from2 .ensures) (c .before .before .before .write-place2 .ensures) (c .next-match .ensures)
+
 pub write-list-spec : {M : Type 1} → statement M
 write-list-spec =
     tie.close
@@ -65,7 +71,7 @@ write-list-spec =
     write-place-requires-2
     (λ c κs. let passed = c .before .before .before .before .before .before .before in (turn passed .loop .inv .stands .some, match-inside (turn passed .loop .inv .stands) (passed .before .before .loop-test .taken)))
     loop-less
-    (λ c. let passed = c .before .before .before .before .before .before .before .before in next-listed (turn passed .loop .inv) (passed .write-between .ensures) (passed .before .before .loop-test .taken) (c .before .before .before .before .before .place-from2 .ensures) (c .before .before .before .write-place2 .ensures) (c .next-match .ensures))
+    loop-again
     (λ c κs. room-between (c .before .before .loop .inv) (entry (c .before .before) .pre .0))
     (λ c. search needs)
     (λ c. all-listed (c .before .before .before .before .before .loop .inv) (c .before .before .write-between2 .ensures) (c .before .before .before .before .loop-test .left)))

@@ -34,14 +34,11 @@ pub from-text-spec : {M : Type 1} → statement M
 from-text-spec =
     tie.close
     (tie.spec
-    (λ c κs. search needs)
-    (λ c. search needs)
+    (λ c κs. search needs) (λ c. search needs)
     (λ c. text-refused _ _ _ _ (c .before .before .before .check-text .ensures) (c .before .k .given .1))
-    (λ c. search needs)
-    (λ c κs. search needs)
+    (λ c. search needs) (λ c κs. search needs)
     (λ c. too-little-room _ _ _ _ (c .before .before .before .before .check-text .ensures) (c .before .before .enum-told .given .1) (omega arith))
     write-starts-requires
     write-ends-requires
-    (λ c. search needs)
-    (λ c. search needs)
+    (λ c. search needs) (λ c. search needs)
     returns-3)

@@ -15,8 +15,7 @@ pub get-range-spec : {M : Type 1} → statement M
 get-range-spec =
     tie.close
     (tie.spec
-    (λ c κs. search needs)
-    (λ c. search needs)
+    (λ c κs. search needs) (λ c. search needs)
     (λ c. getRange-refused _ _ _ (c .before .before .before .check-note .ensures) (c .before .k .given .1))
     (λ c. search needs)
     (λ c κs. accepted-columns _ _ (sym (c .before .before .check-note .ensures) ∙ c .enum-told .given .1))

@@ -67,7 +67,9 @@ loop-again : tie.Need-loop-again Inv-loop μ-loop
 loop-again c =
     let filled = c .before .before .before .before .before .before .before in
     let told = told filled in
-    one-spread (entry (turn told) .pre) (turn told .loop .inv) (told .before .before .before .before .before .loop-test .taken) (told .before .before .before .continues .ensures) (told .before .len-utf8 .ensures) (told .select-or-zero-usize .ensures) (filled .fill-char .ensures) (c .before .before .fill-char2 .ensures)
+    one-spread (entry (turn told) .pre) (turn told .loop .inv) (told .before .before .before .before .before .loop-test .taken)
+    (told .before .before .before .continues .ensures) (told .before .len-utf8 .ensures) (told .select-or-zero-usize .ensures)
+    (filled .fill-char .ensures) (c .before .before .fill-char2 .ensures)
 
 pub lay-chars-spec : {M : Type 1} → statement M
 lay-chars-spec =
@@ -77,11 +79,7 @@ lay-chars-spec =
     μ-loop
     (λ c. none-spread (c .before .before .before .before .before .before .pre .inside))
     (λ c. more-text (entry (c .before .before) .pre) (c .before .before .loop .inv) (c .before .loop-test .taken))
-    (λ c κs. search needs)
-    (λ c. omega arith)
-    (λ c. omega arith)
-    (λ c κs. search needs)
-    (λ c κs. search needs)
+    (λ c κs. search needs) (λ c. omega arith) (λ c. omega arith) (λ c κs. search needs) (λ c κs. search needs)
     mul-fill-char
     (λ c. omega (arith, more (c .before), entry (turn (c .before)) .pre .starts-room .one-each))
     fill-char-requires

@@ -3,7 +3,7 @@ use native.Mathlib.Omega.{arith}
 use borrow.Author.Needs.{needs}
 use Prim.Native.Nat.{_-_}
 use lib.ListN.{length}
-use Rattle.map_columns.proofs.Alike.{Alike, none-alike, one-alike}
+use Rattle.map_columns.proofs.Alike.{Alike, none-alike, one-alike, all-alike}
 use Rattle.map_columns.proofs.same_leads.Statement.{statement}
 use Rattle.map_columns.proofs.same_leads.Tie as tie
 
@@ -23,11 +23,7 @@ same-leads-spec =
     Inv-loop
     μ-loop
     (λ c. none-alike)
-    (λ c. omega arith)
-    (λ c κs. search needs)
-    (λ c. omega arith)
-    (λ c κs. search needs)
-    (λ c. omega arith)
+    (λ c. omega arith) (λ c κs. search needs) (λ c. omega arith) (λ c κs. search needs) (λ c. omega arith)
     (λ c. omega arith)
     loop-again
-    (λ c. λ t i h. c .before .loop .inv .so-far t i (omega (arith, h, c .loop-test .left))))
+    (λ c. all-alike (c .before .loop .inv) (c .loop-test .left)))

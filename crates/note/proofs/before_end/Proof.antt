@@ -11,7 +11,5 @@ before-end-spec =
     tie.close
     (tie.spec
     (λ c. sym (before-none _ _ (c .if1 .taken)))
-    (λ c. search needs)
-    (λ c. search needs)
-    (λ c. search needs)
+    (λ c. search needs) (λ c. search needs) (λ c. search needs)
     (λ c. sym (before-some _ _ (omega arith))))

@@ -6,6 +6,7 @@ use borrow.Author.Needs.{needs}
 use Rattle.pattern.specs.Placed.{Covering}
 use Rattle.pattern.proofs.Entries.{entry-step}
 use Rattle.pattern.proofs.Places.{next-covered, not-covered, broken-covered, all-covered}
+use Rattle.pattern.proofs.Placed.{judged-covered}
 use Rattle.pattern.proofs.covers.Statement.{statement}
 use Rattle.pattern.proofs.covers.Tie as tie
 
@@ -44,10 +45,8 @@ covers-spec =
     Inv-loop
     μ-loop
     (λ c κs. search needs)
-    (λ c. c .judge-blocks .ensures)
-    (λ c κs. search needs)
-    (λ c. search needs)
-    (λ c κs. search needs)
+    (λ c. judged-covered (c .judge-blocks .ensures))
+    (λ c κs. search needs) (λ c. search needs) (λ c κs. search needs)
     returns
     (λ c. search needs)
     loop-less

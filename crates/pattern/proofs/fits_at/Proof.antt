@@ -12,6 +12,5 @@ fits-at-spec =
     (λ c. search needs)
     (λ c. fits-elsewhere _ _ _ (c .if1 .taken))
     (λ c. fits-back _ _ _ (c .if2 .taken))
-    (λ c. search needs)
-    (λ c κs. search needs)
+    (λ c. search needs) (λ c κs. search needs)
     (λ c. fits-on _ _ _ (omega arith) (omega arith) (c .is-char-boundary .ensures)))

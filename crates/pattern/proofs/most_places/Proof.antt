@@ -1,7 +1,12 @@
 -- By the bytes of each place.
-use Rattle.pattern.proofs.Entries.{places-most, places-exact}
+use mathlib.Core.Path.{refl}
+use Rattle.pattern.specs.Entries.{mostPlaces}
 use Rattle.pattern.proofs.most_places.Statement.{statement}
 use Rattle.pattern.proofs.most_places.Tie as tie
 
+returns : tie.Need-returns
+unfolding mostPlaces
+returns c = refl
+
 pub most-places-spec : {M : Type 1} → statement M
-most-places-spec = tie.close (tie.spec (λ c. (places-most _, places-exact _)))
+most-places-spec = tie.close (tie.spec returns)

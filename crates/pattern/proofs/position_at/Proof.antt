@@ -1,5 +1,4 @@
 -- The two bytes' value, wrapped.
-use mathlib.Core.Path.{ap}
 use borrow.Author.Needs.{needs}
 use Rattle.pattern.specs.Entries.{positionAt}
 use Rattle.pattern.proofs.position_at.Statement.{statement}

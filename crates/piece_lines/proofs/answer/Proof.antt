@@ -1,5 +1,5 @@
 -- Another shape, a line that is too long, or three lines to cut by.
-use mathlib.Core.Path.{_≡_, refl, sym}
+use mathlib.Core.Path.{_≡_, refl}
 use mathlib.Core.Bool.{false}
 use mathlib.Core.List.{[], _∷_}
 use mathlib.Core.Logic.{⊎-elim}
@@ -38,22 +38,15 @@ pub answer-spec : {M : Type 1} → statement M
 answer-spec =
     tie.close
     (tie.spec
-    (λ c. search needs)
-    (λ c κs. search needs)
-    (λ c. search needs)
+    (λ c. search needs) (λ c κs. search needs) (λ c. search needs)
     (λ c input k. laid-as (shapeless-printed k (not-whole (c .before .before .before .before .before .before .before .args .seen) (c .before .before .before .before .match .keys2))) (c .before .before .write-refusal .ensures))
-    (λ c κs. search needs)
-    (λ c. search needs)
+    (λ c κs. search needs) (λ c. search needs)
     (λ c input k. laid-as (literal-long k (c .before .before .before .before .before .before .seen .given .1) (omega arith)) (c .before .before .write-refusal2 .ensures))
-    (λ c κs. search needs)
-    (λ c. search needs)
+    (λ c κs. search needs) (λ c. search needs)
     (λ c input k. laid-as (note-long k (c .before .before .before .before .before .before .before .seen .given .1) (omega arith)) (c .before .before .write-refusal3 .ensures))
-    (λ c. search needs)
-    (λ c. search needs)
+    (λ c. search needs) (λ c. search needs)
     (λ c. literal-sized (entry (c .before) .pre .0 .is-kept) (c .before .before .before .before .seen .given .1) (omega arith) (omega arith))
-    (λ c κs. search needs)
-    (λ c. search needs)
-    (λ c. search needs)
+    (λ c κs. search needs) (λ c. search needs) (λ c. search needs)
     (λ c. omega (arith, head-enough (entry (c .before .before) .pre .0 .is-kept) (c .before .before .before .before .before .seen .given .1) (omega arith) (omega arith)))
     cut-requires
     (λ c. search needs)

@@ -33,11 +33,7 @@ pub cut-spec : {M : Type 1} → statement M
 cut-spec =
     tie.close
     (tie.spec
-    (λ c κs. search needs)
-    (λ c. search needs)
-    (λ c κs. search needs)
-    (λ c. search needs)
-    (λ c κs. search needs)
+    (λ c κs. search needs) (λ c. search needs) (λ c κs. search needs) (λ c. search needs) (λ c κs. search needs)
     (λ c. search needs)
     (λ c. list-long (found c .find-matches .ensures) (entry (found c) .pre .0) (entry (found c) .pre .1) (found c .before .before .list-buffer .ensures) (c .before .size .given .1))
     (λ c. let told = c .before in sym (length-take-le _ _ (list-long (found told .find-matches .ensures) (entry (found told) .pre .0) (entry (found told) .pre .1) (found told .before .before .list-buffer .ensures) (told .before .size .given .1))))

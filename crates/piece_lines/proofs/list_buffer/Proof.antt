@@ -1,4 +1,4 @@
--- As many zeros as are asked for.
+-- As much room as the places take.
 use Prim.Native.Nat.{ℕ, _+_, _*_}
 use mathlib.Core.Path.{sym}
 use lib.ListN.{length-replicate}

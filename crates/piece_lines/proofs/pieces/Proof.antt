@@ -1,4 +1,4 @@
--- What is headSize of an input is all of it, or its first bytes.
+-- What is kept of an input is all of it, or its first bytes.
 use mathlib.Core.Path.{sym}
 use native.Mathlib.Omega.{arith}
 use lib.Seq.{length-take-le}

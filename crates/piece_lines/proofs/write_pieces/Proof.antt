@@ -1,4 +1,4 @@
--- The line in front, and behind it the others.
+-- The line in front, and after it the others.
 use borrow.Author.Needs.{needs}
 use Rattle.piece_lines.proofs.Written.{front-room, lines-room, spans-laid}
 use Rattle.piece_lines.proofs.write_pieces.Statement.{statement}

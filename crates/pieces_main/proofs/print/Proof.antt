@@ -10,13 +10,8 @@ pub print-spec : {M : Type 1} → statement M
 print-spec =
     tie.close
     (tie.spec
-    (λ c κs. search needs)
-    (λ c. search needs)
-    (λ c κs. search needs)
+    (λ c κs. search needs) (λ c. search needs) (λ c κs. search needs)
     (λ c. printed-within (c .before .answer .ensures _ (c .before .before .before .before .before .pre .is-kept)))
     (λ c. sym (length-take-le _ _ (printed-within (c .before .before .answer .ensures _ (c .before .before .before .before .before .before .pre .is-kept)))))
-    (λ c κs. search needs)
-    (λ c. search needs)
-    (λ c κs. search needs)
-    (λ c. search needs)
+    (λ c κs. search needs) (λ c. search needs) (λ c κs. search needs) (λ c. search needs)
     (λ c. search needs))

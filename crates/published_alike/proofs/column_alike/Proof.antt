@@ -9,8 +9,7 @@ pub column-alike-spec : {M : Type 1} → statement M
 column-alike-spec =
     tie.close
     (tie.spec
-    (λ c. search needs)
-    (λ c. search needs)
+    (λ c. search needs) (λ c. search needs)
     (λ c. column-empty _ _ _ _ (c .before .if1 .taken) (c .if2 .taken))
     (λ c κs. within (c .before .before .before .before .before .before .before .before .pre) .in-one)
     (λ c κs. within (c .before .before .before .before .before .before .before .before .before .pre) .in-other)

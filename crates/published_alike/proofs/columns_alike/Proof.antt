@@ -10,10 +10,10 @@ use Rattle.published_alike.proofs.columns_alike.Statement.{statement}
 use Rattle.published_alike.proofs.columns_alike.Tie as tie
 
 abbrev Inv-loop : tie.InvT-loop
-Inv-loop a b list wide i₀ i = WalkedTo (columnAlike wide a b) a b list i
+Inv-loop a b list contentLen i₀ i = WalkedTo (columnAlike contentLen a b) a b list i
 
 abbrev μ-loop : tie.MeasureT-loop
-μ-loop a b list wide i₀ i = length list - i
+μ-loop a b list contentLen i₀ i = length list - i
 
 loop-less : tie.Need-loop-less Inv-loop μ-loop
 loop-less c =
@@ -28,8 +28,7 @@ columns-alike-spec =
     Inv-loop
     μ-loop
     (λ c. none-walked _ (c .before .before .before .pre))
-    (λ c κs. search needs)
-    (λ c. search needs)
+    (λ c κs. search needs) (λ c. search needs)
     (λ c κs. let there = c .before in lying (there .before .before .before .before .loop .inv) (there .before .before .entry-at .ensures) (there .place .given .1))
     (λ c. let there = c .before .before .before in one-unlike (there .before .before .before .before .loop .inv) (there .before .before .entry-at .ensures) (there .place .given .1) (c .before .column-alike .ensures) (c .if1 .taken))
     loop-less

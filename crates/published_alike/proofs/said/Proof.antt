@@ -9,7 +9,6 @@ pub said-spec : {M : Type 1} → statement M
 said-spec =
     tie.close
     (tie.spec
-    (λ c. search needs)
-    (λ c. search needs)
+    (λ c. search needs) (λ c. search needs)
     (λ c v size e. sym (says-published v _ size (sym (c .enum-told .given .1) ∙ e) .0))
     (λ c v size e. sym (says-refused v _ size (sym (c .before .answer .given .1) ∙ e))))

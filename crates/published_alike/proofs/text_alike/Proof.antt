@@ -9,8 +9,7 @@ pub text-alike-spec : {M : Type 1} → statement M
 text-alike-spec =
     tie.close
     (tie.spec
-    (λ c. search needs)
-    (λ c. search needs)
+    (λ c. search needs) (λ c. search needs)
     (λ c. text-matched _ _ _ (c .if1 .taken))
     (λ c. let in-both = within (c .before .before .before .before .before .before .before .pre) in omega (arith, in-both .onward, in-both .in-one))
     (λ c. let in-both = within (c .before .before .before .before .before .before .before .pre) in omega (arith, in-both .onward, in-both .in-one))

@@ -28,8 +28,7 @@ texts-alike-spec =
     Inv-loop
     μ-loop
     (λ c. none-walked _ (c .before .before .before .pre))
-    (λ c κs. search needs)
-    (λ c. search needs)
+    (λ c κs. search needs) (λ c. search needs)
     (λ c κs. let there = c .before in lying (there .before .before .before .before .loop .inv) (there .before .before .entry-at .ensures) (there .place .given .1))
     (λ c. let there = c .before .before .before in one-unlike (there .before .before .before .before .loop .inv) (there .before .before .entry-at .ensures) (there .place .given .1) (c .before .text-alike .ensures) (c .if1 .taken))
     loop-less

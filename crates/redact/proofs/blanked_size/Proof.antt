@@ -7,10 +7,10 @@ use Rattle.redact.proofs.blanked_size.Statement.{statement}
 use Rattle.redact.proofs.blanked_size.Tie as tie
 
 abbrev Inv-loop : tie.InvT-loop
-Inv-loop text literal first wide total₀ at₀ p₀ total at p = Sizing text literal wide total at p
+Inv-loop text literal first contentLen total₀ at₀ p₀ total at p = Sizing text literal contentLen total at p
 
 abbrev μ-loop : tie.MeasureT-loop
-μ-loop text literal first wide total₀ at₀ p₀ total at p = length text - at
+μ-loop text literal first contentLen total₀ at₀ p₀ total at p = length text - at
 
 loop-less : tie.Need-loop-less Inv-loop μ-loop
 loop-less c =

@@ -15,10 +15,6 @@ pub lay-whole-spec : {M : Type 1} → statement M
 lay-whole-spec =
     tie.close
     (tie.spec
-    (λ c κs. search needs)
-    (λ c κs. search needs)
-    (λ c κs. search needs)
-    (λ c. search needs)
-    (λ c. search needs)
+    (λ c κs. search needs) (λ c κs. search needs) (λ c κs. search needs) (λ c. search needs) (λ c. search needs)
     (λ c. search needs)
     (λ c. let started = c .before .before .before .before .before .before in whole-laid (entry (copied started) .pre) (copied started .copy-bytes .ensures) (started .write-starts .ensures) (c .before .before .write-ends .ensures)))

@@ -9,11 +9,7 @@ pub max-byte-spec : {M : Type 1} → statement M
 max-byte-spec =
     tie.close
     (tie.spec
-    (λ c κs. search needs)
-    (λ c. search needs)
-    (λ c. search needs)
-    (λ c. search needs)
-    (λ c κs. search needs)
+    (λ c κs. search needs) (λ c. search needs) (λ c. search needs) (λ c. search needs) (λ c κs. search needs)
     (λ c. bytes-most _ (λ k. omega (arith, c .before .before .before .before .shared-slice-known .given k)))
     (λ c κs. search needs)
     (λ c. omega (arith, c .largest2 .ensures)))

@@ -13,10 +13,8 @@ safe-margin-spec =
     (tie.spec
     (λ c. search needs)
     (λ c. no-margin _ _ _)
-    (λ c κs. search needs)
-    (λ c. search needs)
+    (λ c κs. search needs) (λ c. search needs)
     (λ c. no-margin _ _ _)
-    (λ c. search needs)
-    (λ c. search needs)
+    (λ c. search needs) (λ c. search needs)
     (λ c. omega (arith, div-le-self (80 * c .before .before .before .args .literal) (c .before .least-of-two .result)))
     (λ c. margin-share _ _ _ (c .before .least-of-two .ensures) (omega arith)))

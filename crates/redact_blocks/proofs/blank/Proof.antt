@@ -1,4 +1,4 @@
--- Three stages, one behind the other.
+-- Three stages, one after the other.
 use mathlib.Core.Path.{_∙_}
 use native.Mathlib.Omega.{arith}
 use borrow.Author.Needs.{needs}
@@ -39,10 +39,7 @@ pub blank-spec : {M : Type 1} → statement M
 blank-spec =
     tie.close
     (tie.spec
-    (λ c κs. search needs)
-    (λ c κs. search needs)
-    (λ c κs. search needs)
-    (λ c. search needs)
+    (λ c κs. search needs) (λ c κs. search needs) (λ c κs. search needs) (λ c. search needs)
     blank-blocks-requires
     blank-bytes-requires-2
     (λ c. let last = c .before .before .before .before .before .before in last .blank-bytes2 .ensures .0 .text-on .same ∙ second (last .before) .blank-blocks .ensures .text-on .same ∙ first (second (last .before) .before) .blank-bytes .ensures .0 .text-on .same)

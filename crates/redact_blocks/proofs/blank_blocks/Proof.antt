@@ -9,11 +9,11 @@ use Rattle.redact_blocks.proofs.blank_blocks.Statement.{statement}
 use Rattle.redact_blocks.proofs.blank_blocks.Tie as tie
 
 abbrev Inv-loop : tie.InvT-loop
-Inv-loop text most literal front content padded margin until from base out₀ out-starts₀ out-ends₀ first last wide i₀ gap₀ out out-starts out-ends i gap =
+Inv-loop text most literal front content padded margin until from base out₀ out-starts₀ out-ends₀ first last contentLen i₀ gap₀ out out-starts out-ends i gap =
     (length text ≤ i + gap) × Blanked text literal content from base out₀ out-starts₀ out-ends₀ i (i + gap - length text) out out-starts out-ends
 
 abbrev μ-loop : tie.MeasureT-loop
-μ-loop text most literal front content padded margin until from base out₀ out-starts₀ out-ends₀ first last wide i₀ gap₀ out out-starts out-ends i gap = length text - i
+μ-loop text most literal front content padded margin until from base out₀ out-starts₀ out-ends₀ first last contentLen i₀ gap₀ out out-starts out-ends i gap = length text - i
 
 -- the places that others are told by: the entry, the turn's beginning, where its block is laid, and where it is known whether the literal stands there
 abbrev entry : tie.At-loop Inv-loop μ-loop → tie.Start Inv-loop μ-loop
@@ -31,7 +31,7 @@ matched c = c .before .before .before .before
 abbrev unmatched : tie.After-lay-byte Inv-loop μ-loop → tie.Else3 Inv-loop μ-loop
 unmatched c = c .before .before .before .before
 
--- behind what is laid there is a byte, and room for the literal
+-- after what is laid there is a byte, and room for the literal
 inside : (c : tie.After-lay-ahead Inv-loop μ-loop) → turn c .loop .i + c .lay-ahead .result + length (entry (turn c) .args .literal .now) + 16 ≤ length (entry (turn c) .args .text .now)
 inside c = omega (arith, entry (turn c) .pre .1 .window, c .before .before .before .before .before .loop-test .taken, c .lay-ahead .ensures .most)
 
@@ -56,13 +56,16 @@ fill-requires c κs =
     let turn = turn (ahead judged) in
     let on = turned (entry turn .pre .0) (turn .loop .inv .1) (entry turn .pre .1) (ahead judged .before .before .before .before .before .loop-test .taken) (ahead judged .before .before .before .before .if1 .left) (ahead judged .lay-ahead .ensures) in
     let fits = block-within (entry turn .pre .0) (turn .loop .inv .1) (entry turn .pre .1) (ahead judged .before .before .before .before .before .loop-test .taken) (ahead judged .before .before .before .before .if1 .left) in
-    match-room (entry turn .pre .0) on (sym (judged .begins .ensures) ∙ c .before .before .before .if3 .taken) (entry turn .pre .1 .padded-long) (omega (arith, fits, ahead judged .lay-ahead .ensures .most))
+    match-room (entry turn .pre .0) on (sym (judged .begins .ensures) ∙ c .before .before .before .if3 .taken) (omega (arith, entry turn .pre .1 .padded-long)) (omega (arith, fits, ahead judged .lay-ahead .ensures .most))
 
 add-gap-2 : tie.Need-add-gap-2 Inv-loop μ-loop
 add-gap-2 c =
     let filled = c .before .before .before .before .before .before in
     let turn = turn (ahead (matched filled .before)) in
-    let on = turned (entry turn .pre .0) (turn .loop .inv .1) (entry turn .pre .1) (ahead (matched filled .before) .before .before .before .before .before .loop-test .taken) (ahead (matched filled .before) .before .before .before .before .if1 .left) (ahead (matched filled .before) .lay-ahead .ensures) in
+    let on =
+    turned (entry turn .pre .0) (turn .loop .inv .1) (entry turn .pre .1)
+    (ahead (matched filled .before) .before .before .before .before .before .loop-test .taken)
+    (ahead (matched filled .before) .before .before .before .before .if1 .left) (ahead (matched filled .before) .lay-ahead .ensures) in
     omega (arith, match-within (entry turn .pre .0) on (sym (matched filled .before .begins .ensures) ∙ matched filled .if3 .taken), blanked-size (entry turn .pre .0) (turn .loop .inv .1), entry turn .pre .0 .within, entry turn .pre .0 .short)
 
 loop-again : tie.Need-loop-again Inv-loop μ-loop
@@ -73,7 +76,9 @@ loop-again c =
     let on = turned (entry turn .pre .0) (turn .loop .inv .1) (entry turn .pre .1) (ahead .before .before .before .before .before .loop-test .taken) (ahead .before .before .before .before .if1 .left) (ahead .lay-ahead .ensures) in
     let fits = block-within (entry turn .pre .0) (turn .loop .inv .1) (entry turn .pre .1) (ahead .before .before .before .before .before .loop-test .taken) (ahead .before .before .before .before .if1 .left) in (
       omega (arith, turn .loop .inv .0, entry turn .pre .1 .window, ahead .before .before .before .before .before .loop-test .taken),
-      more-match (entry turn .pre .0) on (sym (matched filled .before .begins .ensures) ∙ matched filled .if3 .taken) (entry turn .pre .1 .padded-is) (omega (arith, fits, ahead .lay-ahead .ensures .most)) (filled .fill .ensures) refl (omega (arith, turn .loop .inv .0, entry turn .pre .1 .window, ahead .before .before .before .before .before .loop-test .taken)),
+      more-match (entry turn .pre .0) on (sym (matched filled .before .begins .ensures) ∙ matched filled .if3 .taken) (entry turn .pre .1 .padded-is)
+          (omega (arith, fits, ahead .lay-ahead .ensures .most)) (filled .fill .ensures) refl
+          (omega (arith, turn .loop .inv .0, entry turn .pre .1 .window, ahead .before .before .before .before .before .loop-test .taken)),
     )
 
 lay-byte-requires : tie.Need-lay-byte-requires Inv-loop μ-loop
@@ -104,11 +109,7 @@ blank-blocks-spec =
     (tie.spec
     Inv-loop
     μ-loop
-    (λ c. omega arith)
-    (λ c. omega arith)
-    (λ c. omega arith)
-    (λ c. omega arith)
-    (λ c. omega arith)
+    (λ c. omega arith) (λ c. omega arith) (λ c. omega arith) (λ c. omega arith) (λ c. omega arith)
     (λ c. let r = c .before .before .before .before .before .before .before .before .before .before .pre .0 in (omega arith, none-blanked (r .inside) (omega (arith, r .inside))))
     (λ c. c .loop .inv .1 .inside)
     (λ c. let r = entry (c .before) .pre .0 in omega (arith, blanked-size r (c .before .loop .inv .1), r .within, r .short))

@@ -1,11 +1,10 @@
--- What stands before the candidate is the front of the block.
+-- What is before the candidate is the front of the block.
 use Prim.Native.Nat.{ℕ}
 use mathlib.Core.Path.{_≡_, refl}
 use mathlib.Core.List.{List}
 use native.Mathlib.Omega.{arith}
 use borrow.Author.Needs.{needs}
-use Rattle.find.specs.Searching.{Candidate}
-use Rattle.find.proofs.Candidates.{absent-none, absent-block}
+use Rattle.find.proofs.Candidates.{Candidate, first-candidate, absent-none, absent-block}
 use Rattle.redact_blocks.proofs.Keeping.{stretch-front}
 use Rattle.redact_blocks.proofs.Blanks.{passed-none}
 use Rattle.redact_blocks.proofs.lay_ahead.Statement.{statement}
@@ -26,7 +25,7 @@ returns-2 : tie.Need-returns-2
 returns-2 c =
     let laid = c .before .before .before .before .before .before in
     let r = entry (found laid) .pre in
-    let found = found laid .first-candidate .ensures in
+    let found = first-candidate (found laid .first-candidate .ensures) in
     record {
       most = found .most;
       away = absent-block _ _ _ (r .some) refl refl _ (absent-none (omega (arith, r .high))) (by-ends (r .first-is) (r .last-is) found) (found .most) (omega arith) (omega (arith, r .high, found .most));
@@ -37,20 +36,9 @@ pub lay-ahead-spec : {M : Type 1} → statement M
 lay-ahead-spec =
     tie.close
     (tie.spec
-    (λ c. omega arith)
-    (λ c. omega arith)
-    (λ c. omega arith)
-    (λ c. search needs)
-    (λ c. omega arith)
-    (λ c. omega arith)
-    (λ c. omega arith)
-    (λ c. search needs)
-    (λ c. omega arith)
-    (λ c. omega arith)
-    (λ c κs. search needs)
+    (λ c. omega arith) (λ c. omega arith) (λ c. omega arith) (λ c. search needs) (λ c. omega arith) (λ c. omega arith)
+    (λ c. omega arith) (λ c. search needs) (λ c. omega arith) (λ c. omega arith) (λ c κs. search needs)
     (λ c. passed-none (omega (arith, entry (c .before) .pre .high)))
     (λ c κs. let found = c .before .before .before .before in ((entry found .pre .room, (entry found .pre .low, omega (arith, entry found .pre .high, entry found .pre .some))), entry found .pre .most-is))
-    (λ c. search needs)
-    (λ c. search needs)
-    (λ c. search needs)
+    (λ c. search needs) (λ c. search needs) (λ c. search needs)
     returns-2)

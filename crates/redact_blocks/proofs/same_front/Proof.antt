@@ -1,4 +1,4 @@
--- Each turn compares one more byte, which counts below `few`.
+-- Each turn compares one more byte, which counts below `front_len`.
 use Prim.Native.Nat.{_-_}
 use native.Mathlib.Omega.{arith}
 use Rattle.redact_blocks.proofs.Front.{Fronted, none-fronted, one-fronted, all-fronted}
@@ -18,10 +18,6 @@ same-front-spec =
     Inv-loop
     μ-loop
     (λ c. none-fronted (omega arith) (omega arith))
-    (λ c. omega arith)
-    (λ c. omega arith)
-    (λ c. omega arith)
-    (λ c. omega arith)
-    (λ c. omega arith)
+    (λ c. omega arith) (λ c. omega arith) (λ c. omega arith) (λ c. omega arith) (λ c. omega arith)
     (λ c. one-fronted (c .before .before .before .loop .inv))
     (λ c. all-fronted (c .before .loop .inv) (omega arith)))

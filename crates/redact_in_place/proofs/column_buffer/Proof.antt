@@ -1,4 +1,4 @@
--- As many zeros as are asked for.
+-- As much room as the limit.
 use Prim.Native.Nat.{ℕ}
 use mathlib.Core.Path.{sym}
 use lib.ListN.{length-replicate}

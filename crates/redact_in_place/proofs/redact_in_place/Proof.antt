@@ -1,7 +1,11 @@
 -- The call, and what it has published copied to where the note was.
+use Prim.Native.Nat.{ℕ, _+_, _*_}
 use mathlib.Core.Path.{_∙_, sym}
+use lib.ListN.{length-replicate}
 use lib.Seq.{length-take-le}
 use borrow.Author.Needs.{needs}
+use Rattle.note.specs.Notes.{limit}
+use Rattle.pattern.specs.Encoding.{roomFor}
 use Rattle.redact_note.proofs.Moved.{call-fits, moved-refused, moved-published}
 use Rattle.redact_in_place.proofs.Holding.{text-copied, starts-copied, ends-copied, text-within, starts-within, ends-within}
 use Rattle.redact_in_place.proofs.redact_in_place.Statement.{statement}
@@ -24,6 +28,7 @@ abbrev copied : tie.After-copy-offsets → tie.After-copy-bytes
 copied c = c .before .before .before .before .before
 
 returns : tie.Need-returns
+unfolding roomFor
 returns c =
     let started = c .before .before .before .before .before .before .before in
     let copied = copied started in
@@ -31,37 +36,39 @@ returns c =
     record {
       list₀ = _;
       list = _;
-      call = moved-published (called (told copied) .redact-note .ensures) _ _ _ (sym (made .before .before .text-buffer .ensures) ∙ sym (entry made .pre .text-long)) (sym (made .before .column-buffer .ensures) ∙ sym (entry made .pre .starts-long)) (sym (made .column-buffer2 .ensures) ∙ sym (entry made .pre .ends-long)) (told copied .before .n .given .1) (copied .copy-bytes .ensures) (started .copy-offsets .ensures) (c .before .before .copy-offsets2 .ensures);
+      list-room = length-replicate {0} {A = ℕ} (roomFor (2 * limit + 1)) 0;
+      call =
+          moved-published (called (told copied) .redact-note .ensures) _ _ _ (sym (made .before .before .text-buffer .ensures) ∙ sym (entry made .pre .text-long))
+          (sym (made .before .column-buffer .ensures) ∙ sym (entry made .pre .starts-long)) (sym (made .column-buffer2 .ensures) ∙ sym (entry made .pre .ends-long))
+          (told copied .before .n .given .1) (copied .copy-bytes .ensures) (started .copy-offsets .ensures) (c .before .before .copy-offsets2 .ensures);
     }
 
 returns-2 : tie.Need-returns-2
+unfolding roomFor
 returns-2 c =
     let called = c .before .before .before .before .before .before .before in
     let made = made called in
     record {
       list₀ = _;
       list = _;
-      call = moved-refused (called .redact-note .ensures) _ _ _ (sym (made .before .before .text-buffer .ensures) ∙ sym (entry made .pre .text-long)) (sym (made .before .column-buffer .ensures) ∙ sym (entry made .pre .starts-long)) (sym (made .column-buffer2 .ensures) ∙ sym (entry made .pre .ends-long)) (c .before .k .given .1);
+      list-room = length-replicate {0} {A = ℕ} (roomFor (2 * limit + 1)) 0;
+      call =
+          moved-refused (called .redact-note .ensures) _ _ _ (sym (made .before .before .text-buffer .ensures) ∙ sym (entry made .pre .text-long))
+          (sym (made .before .column-buffer .ensures) ∙ sym (entry made .pre .starts-long)) (sym (made .column-buffer2 .ensures) ∙ sym (entry made .pre .ends-long))
+          (c .before .k .given .1);
     }
 
 pub redact-in-place-spec : {M : Type 1} → statement M
 redact-in-place-spec =
     tie.close
     (tie.spec
-    (λ c κs. search needs)
-    (λ c κs. search needs)
-    (λ c κs. search needs)
-    (λ c. search needs)
+    (λ c κs. search needs) (λ c κs. search needs) (λ c κs. search needs) (λ c. search needs)
     (λ c. sym (length-take-le _ _ (text-within (entry (c .before) .pre))))
     (λ c. search needs)
     (λ c. sym (length-take-le _ _ (starts-within (entry (c .before .before) .pre))))
     (λ c. search needs)
     (λ c. sym (length-take-le _ _ (ends-within (entry (c .before .before .before) .pre))))
-    (λ c. search needs)
-    (λ c. search needs)
-    (λ c. search needs)
-    (λ c. search needs)
-    (λ c κs. search needs)
+    (λ c. search needs) (λ c. search needs) (λ c. search needs) (λ c. search needs) (λ c κs. search needs)
     (λ c. search needs)
     (λ c. call-fits (called c .redact-note .ensures) (c .before .n .given .1) .text-fits)
     (λ c. sym (length-take-le _ _ (call-fits (called (c .before) .redact-note .ensures) (c .before .before .n .given .1) .text-fits)))
@@ -72,12 +79,7 @@ redact-in-place-spec =
     (λ c. call-fits (called (told (copied (c .before .before))) .redact-note .ensures) (told (copied (c .before .before)) .before .n .given .1) .ends-fit)
     (λ c. sym (length-take-le _ _ (call-fits (called (told (copied (c .before .before .before))) .redact-note .ensures) (told (copied (c .before .before .before)) .before .n .given .1) .ends-fit)))
     (λ c κs. let started = c .before .before .before .before in ends-copied (call-fits (called (told (copied started)) .redact-note .ensures) (told (copied started) .before .n .given .1)) (entry (made (called (told (copied started)))) .pre))
-    (λ c. search needs)
-    (λ c. search needs)
-    (λ c. search needs)
-    (λ c. search needs)
+    (λ c. search needs) (λ c. search needs) (λ c. search needs) (λ c. search needs)
     returns
-    (λ c. search needs)
-    (λ c. search needs)
-    (λ c. search needs)
+    (λ c. search needs) (λ c. search needs) (λ c. search needs)
     returns-2)

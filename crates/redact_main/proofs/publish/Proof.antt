@@ -27,7 +27,8 @@ blank-all-requires : tie.Need-blank-all-requires
 blank-all-requires c κs =
     let copied = c .before .before .before .before in
     let noted = noted copied in (
-      started-held (noted .from-text .ensures) (copied .before .before .enum-told .given .1) _ (noted .before .before .before .before .column-buffer .ensures) (noted .before .before .before .column-buffer2 .ensures) (noted .before .before .before .before .before .text-buffer .ensures) (copied .copy-bytes .ensures),
+      started-held (noted .from-text .ensures) (copied .before .before .enum-told .given .1) _ (noted .before .before .before .before .column-buffer .ensures)
+          (noted .before .before .before .column-buffer2 .ensures) (noted .before .before .before .before .before .text-buffer .ensures) (copied .copy-bytes .ensures),
       entry noted .pre,
     )
 
@@ -35,21 +36,11 @@ pub publish-spec : {M : Type 1} → statement M
 publish-spec =
     tie.close
     (tie.spec
-    (λ c κs. search needs)
-    (λ c κs. search needs)
-    (λ c κs. search needs)
-    (λ c. search needs)
-    (λ c. search needs)
-    (λ c κs. search needs)
-    (λ c. search needs)
-    (λ c κs. search needs)
-    (λ c. search needs)
-    (λ c. search needs)
+    (λ c κs. search needs) (λ c κs. search needs) (λ c κs. search needs) (λ c. search needs) (λ c. search needs)
+    (λ c κs. search needs) (λ c. search needs) (λ c κs. search needs) (λ c. search needs) (λ c. search needs)
     (λ c. search needs)
     copy-bytes-requires
-    (λ c. search needs)
-    (λ c. search needs)
-    (λ c. search needs)
+    (λ c. search needs) (λ c. search needs) (λ c. search needs)
     blank-all-requires
     (λ c. search needs)
     (λ c. starts-within (held-left (blanked (c .before) .blank-all .ensures) (c .before .before .n .given .1)))
@@ -60,9 +51,5 @@ publish-spec =
     (λ c κs. search needs)
     (λ c. text-within (held-left (blanked (c .before) .blank-all .ensures) (c .before .before .n .given .1)))
     (λ c. sym (length-take-le _ _ (text-within (held-left (blanked (c .before .before) .blank-all .ensures) (c .before .before .before .n .given .1)))))
-    (λ c κs. search needs)
-    (λ c κs. search needs)
-    (λ c. search needs)
-    (λ c. search needs)
-    (λ c. search needs)
+    (λ c κs. search needs) (λ c κs. search needs) (λ c. search needs) (λ c. search needs) (λ c. search needs)
     (λ c. search needs))

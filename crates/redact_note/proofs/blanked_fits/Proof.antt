@@ -23,8 +23,7 @@ blanked-fits-spec =
     (tie.spec
     (λ c. none-fits _ (c .before .pre .0) (c .before .pre .1) (c .if1 .taken))
     (λ c. wide-over _ (c .before .before .pre .0) (c .before .before .pre .1) (c .before .if1 .left) (c .if2 .taken))
-    (λ c. search needs)
-    (λ c. search needs)
+    (λ c. search needs) (λ c. search needs)
     mul-result-2
     add-result
     returns-3)

@@ -45,18 +45,13 @@ pub redact-note-spec : {M : Type 1} → statement M
 redact-note-spec =
     tie.close
     (tie.spec
-    (λ c κs. search needs)
-    (λ c. search needs)
+    (λ c κs. search needs) (λ c. search needs)
     (λ c. refused-all _ _ _ _ _ _ _ refl (inputs-refused _ _ _ _ _ (c .before .before .before .check-inputs .ensures) (c .before .k .given .1)))
-    (λ c. search needs)
-    (λ c κs. search needs)
+    (λ c. search needs) (λ c κs. search needs)
     count-matches-requires
     (λ c κs. search needs)
     rooms-fit-requires
     returns-2
     blank-requires
-    (λ c. search needs)
-    (λ c. search needs)
-    (λ c. search needs)
-    (λ c. search needs)
+    (λ c. search needs) (λ c. search needs) (λ c. search needs) (λ c. search needs)
     returns-3)

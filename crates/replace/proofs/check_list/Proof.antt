@@ -12,7 +12,6 @@ check-list-spec =
     (tie.spec
     (λ c κs. search needs)
     (λ c. not-covering _ _ _ (c .before .covers .ensures) (min limit (c .before .before .before .before .args .room)) (c .if1 .taken))
-    (λ c κs. search needs)
-    (λ c κs. search needs)
+    (λ c κs. search needs) (λ c κs. search needs)
     (λ c. too-large _ _ _ (c .before .before .before .before .covers .ensures) limit _ (c .before .before .before .if1 .left) (c .before .before .result-len .ensures) (c .before .least-of-two .ensures) (c .if2 .taken))
     (λ c. small-enough _ _ _ (c .before .before .before .before .covers .ensures) limit _ (c .before .before .before .if1 .left) (c .before .before .result-len .ensures) (c .before .least-of-two .ensures) (c .if2 .left)))

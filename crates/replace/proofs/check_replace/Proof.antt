@@ -9,11 +9,7 @@ pub check-replace-spec : {M : Type 1} → statement M
 check-replace-spec =
     tie.close
     (tie.spec
-    (λ c κs. search needs)
-    (λ c κs. search needs)
-    (λ c κs. search needs)
-    (λ c. search needs)
-    (λ c κs. search needs)
+    (λ c κs. search needs) (λ c κs. search needs) (λ c κs. search needs) (λ c. search needs) (λ c κs. search needs)
     (λ c. search needs)
     (λ c. accepted-lent limit _ _ _ _ (c .before .before .before .before .before .check-note .ensures) (c .before .before .before .before .check-string .ensures) (c .before .before .before .earlier .ensures) _ (c .before .enum-told .given .1) (c .check-list .ensures))
     (λ c. refused-lent limit _ _ _ _ (c .before .before .before .before .before .check-note .ensures) (c .before .before .before .before .check-string .ensures) (c .before .before .before .earlier .ensures) _ (c .before .k .given .1)))

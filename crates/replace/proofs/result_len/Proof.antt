@@ -10,10 +10,10 @@ use Rattle.replace.proofs.result_len.Statement.{statement}
 use Rattle.replace.proofs.result_len.Tie as tie
 
 abbrev Inv-loop : tie.InvT-loop
-Inv-loop list wide total₀ i₀ total i = Measured limit list wide total i
+Inv-loop list contentLen total₀ i₀ total i = Measured limit list contentLen total i
 
 abbrev μ-loop : tie.MeasureT-loop
-μ-loop list wide total₀ i₀ total i = length list - i
+μ-loop list contentLen total₀ i₀ total i = length list - i
 
 loop-less : tie.Need-loop-less Inv-loop μ-loop
 loop-less c =
@@ -28,11 +28,7 @@ result-len-spec =
     Inv-loop
     μ-loop
     (λ c. none-measured _ _)
-    (λ c κs. search needs)
-    (λ c. search needs)
-    (λ c κs. search needs)
-    (λ c. omega arith)
-    (λ c. omega arith)
+    (λ c κs. search needs) (λ c. search needs) (λ c κs. search needs) (λ c. omega arith) (λ c. omega arith)
     (λ c. let there = c .before .before .before in too-much (there .before .before .before .before .loop .inv) (there .before .before .entry-at .ensures) (there .place .given .1) (c .before .place-size .ensures) (c .if1 .taken))
     (λ c. omega arith)
     loop-less

@@ -47,10 +47,7 @@ replayed-spec =
     (λ c κs. search needs)
     array-share-prefix-space
     slice-aggregate-agrees
-    (λ c κs. search needs)
-    (λ c. omega arith)
-    (λ c. omega arith)
-    (λ c. omega arith)
+    (λ c κs. search needs) (λ c. omega arith) (λ c. omega arith) (λ c. omega arith)
     loop-again
     (λ c. search needs)
     (λ c. search needs))

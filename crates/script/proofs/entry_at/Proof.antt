@@ -19,7 +19,9 @@ returns-5 c =
     let tested = c .before .before in
     let read = tested .before .before in
     let given = read .before .before .before .before .before .before .before .args in
-    entry-removal (given .script .now) (given .i) (read .before .before .before .command-size .ensures) (character-read (given .script .now) (given .i) (read .get-u32-le .ensures)) (tested .before .len-utf8 .ensures) (tested .if4 .left) (read .before .before .if2 .left) (omega arith) (c .before .if5 .taken) (c .removal-at .ensures)
+    entry-removal (given .script .now) (given .i) (read .before .before .before .command-size .ensures)
+    (character-read (given .script .now) (given .i) (read .get-u32-le .ensures)) (tested .before .len-utf8 .ensures) (tested .if4 .left)
+    (read .before .before .if2 .left) (omega arith) (c .before .if5 .taken) (c .removal-at .ensures)
 
 returns-6 : tie.Need-returns-6
 returns-6 c =
@@ -33,8 +35,7 @@ entry-at-spec =
     tie.close
     (tie.spec
     (λ c. entry-past _ _ (c .if1 .taken))
-    (λ c. search needs)
-    (λ c κs. search needs)
+    (λ c. search needs) (λ c κs. search needs)
     (λ c. entry-unknown _ _ (c .before .command-size .ensures) (c .if2 .taken))
     (λ c. search needs)
     (λ c. entry-cut _ _ (c .before .before .command-size .ensures) (omega arith))

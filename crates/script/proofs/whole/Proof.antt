@@ -25,8 +25,7 @@ whole-spec =
     Inv-loop
     μ-loop
     (λ c. none-judged)
-    (λ c κs. search needs)
-    (λ c. search needs)
+    (λ c κs. search needs) (λ c. search needs)
     loop-less
     (λ c. next-judged (c .before .before .before .before .before .loop .inv) (c .before .before .before .entry-at .ensures) (c .before .next .given .1))
     (λ c. search needs)

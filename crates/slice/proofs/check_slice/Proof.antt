@@ -49,17 +49,14 @@ pub check-slice-spec : {M : Type 1} → statement M
 check-slice-spec =
     tie.close
     (tie.spec
-    (λ c κs. search needs)
-    (λ c. search needs)
+    (λ c κs. search needs) (λ c. search needs)
     (λ c. judged-note limit _ _ _ (c .before .before .before .check-note .ensures) (c .before .k .given .1))
-    (λ c. search needs)
-    (λ c κs. search needs)
+    (λ c. search needs) (λ c κs. search needs)
     (λ c. judged-off limit _ _ _ (c .before .before .before .before .check-note .ensures) (c .before .before .enum-told .given .1) (c .before .validate-range .ensures) (not-true _ (c .if1 .taken)))
     (λ c κs. accepted-columns limit _ (sym (c .before .before .before .before .check-note .ensures) ∙ c .before .before .enum-told .given .1))
     (λ c κs. accepted-columns limit _ (sym (c .before .before .before .before .before .check-note .ensures) ∙ c .before .before .before .enum-told .given .1))
     shifts
-    (λ c. search needs)
-    (λ c. search needs)
+    (λ c. search needs) (λ c. search needs)
     forward
     (λ c. search needs)
     returns-3

@@ -32,13 +32,8 @@ pub slice-spec : {M : Type 1} → statement M
 slice-spec =
     tie.close
     (tie.spec
-    (λ c κs. search needs)
-    (λ c κs. search needs)
-    (λ c. search needs)
-    (λ c. search needs)
-    (λ c. search needs)
-    (λ c. search needs)
-    (λ c. search needs)
+    (λ c κs. search needs) (λ c κs. search needs) (λ c. search needs) (λ c. search needs) (λ c. search needs)
+    (λ c. search needs) (λ c. search needs)
     (λ c. cuttable (cut c) .forward)
     (λ c. cuttable (cut c) .forward)
     (λ c. cuttable (cut c) .in-starts)
@@ -51,6 +46,5 @@ slice-spec =
     (λ c. omega (arith, cuttable (cut (known (c .before .before .before .before))) .low))
     (λ c κs. cuttable (cut (known (c .before .before .before .before .before))) .ends-lowerable)
     (λ c. refused limit _ _ _ _ (c .before .before .before .before .least-of-two .ensures) (c .before .before .before .check-slice .ensures) (c .before .k .given .1))
-    (λ c. search needs)
-    (λ c. search needs)
+    (λ c. search needs) (λ c. search needs)
     returns-2)

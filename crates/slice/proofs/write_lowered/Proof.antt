@@ -27,14 +27,9 @@ write-lowered-spec =
     Inv-loop
     μ-loop
     (λ c. none-yet)
-    (λ c. omega arith)
-    (λ c. omega arith)
+    (λ c. omega arith) (λ c. omega arith)
     (λ c. c .before .before .before .pre .above _ (omega arith))
-    (λ c. omega arith)
-    (λ c. omega arith)
-    (λ c. omega arith)
-    (λ c. omega arith)
-    (λ c. omega arith)
+    (λ c. omega arith) (λ c. omega arith) (λ c. omega arith) (λ c. omega arith) (λ c. omega arith)
     loop-again
     (λ c. c .before .loop .inv .same)
     (λ c. all-lowered _ _ (c .before .loop .inv) (c .loop-test .left)))

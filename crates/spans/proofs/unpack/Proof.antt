@@ -39,20 +39,15 @@ unpack-spec =
     Inv-loop
     μ-loop
     (λ c. none-unpacked (c .before .before .before .pre))
-    (λ c. omega arith)
-    (λ c. omega arith)
-    (λ c κs. search needs)
+    (λ c. omega arith) (λ c. omega arith) (λ c κs. search needs)
     (λ c. omega (arith, start-small _ (c .span-start .ensures)))
     mul-starts
     (λ c. let turn = c .before .before .before in unpack-room (entry turn .pre) (turn .loop .inv) (c .before .before .loop-test .taken) .0)
-    (λ c. omega arith)
-    (λ c. omega arith)
-    (λ c κs. search needs)
+    (λ c. omega arith) (λ c. omega arith) (λ c κs. search needs)
     (λ c. omega (arith, end-small _ (c .span-end .ensures) (omega (arith, c .before .shared-slice-known3 .given (c .before .before .before .before .before .loop .k)))))
     mul-ends
     (λ c. let turn = c .before .before .before .before .before in unpack-room (entry turn .pre) (turn .loop .inv) (c .before .before .before .before .loop-test .taken) .1)
-    (λ c. omega arith)
-    (λ c. omega arith)
+    (λ c. omega arith) (λ c. omega arith)
     loop-again
     (λ c. c .before .loop .inv .starts-laid .same)
     (λ c. c .before .loop .inv .ends-laid .same)

@@ -10,8 +10,7 @@ write-packed-spec =
     (tie.spec
     (λ c. search needs)
     (λ c κs. room-isolated (c .before .enum-told .given .1) (c .before .before .before .before .before .pre))
-    (λ c κs. search needs)
-    (λ c. search needs)
+    (λ c κs. search needs) (λ c. search needs)
     (λ c. laid-isolated _ _ (c .before .before .before .before .enum-told .given .1) (c .before .before .write-places .ensures))
     (λ c. search needs)
     (λ c. search needs))

@@ -8,11 +8,8 @@ pub write-run-spec : {M : Type 1} → statement M
 write-run-spec =
     tie.close
     (tie.spec
-    (λ c. search needs)
-    (λ c. search needs)
-    (λ c. search needs)
+    (λ c. search needs) (λ c. search needs) (λ c. search needs)
     (λ c. run-room (c .before .before .before .before .before .pre) (c .before .before .before .before .if1 .taken))
-    (λ c. search needs)
-    (λ c. search needs)
+    (λ c. search needs) (λ c. search needs)
     (λ c. run-laid (c .before .before .before .before .before .pre) (c .before .before .before .before .if1 .taken))
     (λ c. run-passed (c .if1 .left)))

@@ -1,4 +1,4 @@
--- Each turn writes the run that is over, if it gives a piece; the last run is written behind the loop.
+-- Each turn writes the run that is over, if it gives a piece; the last run is written after the loop.
 use Prim.Native.Nat.{_-_}
 use mathlib.Core.Logic.{⊎-elim}
 use mathlib.Core.Path.{_∙_}
@@ -63,22 +63,16 @@ write-runs-spec =
     (tie.spec
     Inv-loop
     μ-loop
-    (λ c κs. search needs)
-    (λ c. search needs)
-    (λ c. search needs)
+    (λ c κs. search needs) (λ c. search needs) (λ c. search needs)
     (λ c. nothing-placed (c .before .before .before .before .before .pre) (omega arith) (none-listed _ (c .before .before .entry-at .ensures) (c .enum-told .given .1) _ _))
     (λ c κs. search needs)
     (λ c. none-placed (c .before .before .before .before .before .before .before .pre) (c .before .before .before .before .entry-at .ensures) (c .before .before .first .given .1))
-    (λ c κs. search needs)
-    (λ c. search needs)
-    (λ c κs. search needs)
-    (λ c κs. search needs)
+    (λ c κs. search needs) (λ c. search needs) (λ c κs. search needs) (λ c κs. search needs)
     write-run-requires
     (λ c κs. search needs)
     loop-less
     loop-again
-    (λ c. search needs)
-    (λ c κs. search needs)
+    (λ c. search needs) (λ c κs. search needs)
     write-run-requires-2
     (λ c. c .before .spans2 .given ∙ c .before .before .before .before .before .before .loop .inv .laid .same)
     returns-2)

@@ -21,7 +21,5 @@ write-spans-spec =
     (λ c. packed-long (c .before .before .write-packed .ensures))
     (λ c. sym (length-take-le _ _ (packed-long (c .before .before .before .write-packed .ensures))))
     (λ c κs. let packed = c .before .before .before .before .before in unpackable (packed .write-packed .ensures) (entry packed .pre .starts-room) (entry packed .pre .ends-room))
-    (λ c. search needs)
-    (λ c. search needs)
-    (λ c. search needs)
+    (λ c. search needs) (λ c. search needs) (λ c. search needs)
     (λ c. let unpacked = c .before .before .before .before in spans-laid (packed unpacked .write-packed .ensures) (unpacked .unpack .ensures)))

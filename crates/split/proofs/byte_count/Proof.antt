@@ -29,13 +29,11 @@ byte-count-spec =
     (λ c. none-added _ _)
     (λ c. omega arith)
     (λ c. omega (arith, c .before .before .before .pre .paired))
-    (λ c. omega arith)
-    (λ c. omega arith)
+    (λ c. omega arith) (λ c. omega arith)
     sub-sum
     (λ c. omega (arith, c .before .shared-slice-known .given (c .before .before .before .loop .k)))
     add-sum
-    (λ c. omega arith)
-    (λ c. omega arith)
+    (λ c. omega arith) (λ c. omega arith)
     (λ c. one-added (c .before .before .before .loop .inv) (c .before .before .before .before .pre .paired) (c .before .before .loop-test .taken))
     (λ c. omega arith)
     (λ c. all-added (c .before .loop .inv) (c .loop-test .left)))

@@ -1,6 +1,7 @@
 -- The note, then the list, then the two rooms: by bounds that need no look at the places, else by the sizes.
 use borrow.Author.Needs.{needs}
 use Rattle.note.specs.Notes.{limit}
+use Rattle.pattern.proofs.Entries.{places-most}
 use Rattle.split.proofs.Judged.{note-refused, list-refused, roomy-accepted, measurable, no-piece-room, no-alignment-room, all-accepted}
 use Rattle.split.proofs.check_split.Statement.{statement}
 use Rattle.split.proofs.check_split.Tie as tie
@@ -16,7 +17,7 @@ returns-2 c =
 returns-3 : tie.Need-returns-3
 returns-3 c =
     let covered = c .before .before .before in
-    roomy-accepted limit _ _ _ _ _ _ (covered .before .before .before .before .check-note .ensures) (covered .before .before .enum-told .given .1) (covered .before .covers .ensures) (covered .if1 .left) (c .before .before .most-places .ensures .0) (c .before .if2 .taken) (c .if3 .taken)
+    roomy-accepted limit _ _ _ _ _ _ (covered .before .before .before .before .check-note .ensures) (covered .before .before .enum-told .given .1) (covered .before .covers .ensures) (covered .if1 .left) (places-most _ (c .before .before .most-places .ensures)) (c .before .if2 .taken) (c .if3 .taken)
 
 returns-4 : tie.Need-returns-4
 returns-4 c =
@@ -39,11 +40,9 @@ pub check-split-spec : {M : Type 1} → statement M
 check-split-spec =
     tie.close
     (tie.spec
-    (λ c κs. search needs)
-    (λ c. search needs)
+    (λ c κs. search needs) (λ c. search needs)
     (λ c. note-refused limit _ _ _ _ _ _ (c .before .before .before .check-note .ensures) (c .before .k .given .1))
-    (λ c. search needs)
-    (λ c κs. search needs)
+    (λ c. search needs) (λ c κs. search needs)
     returns-2
     (λ c κs. search needs)
     returns-3

@@ -13,14 +13,8 @@ pub lower-block-spec : {M : Type 1} → statement M
 lower-block-spec =
     tie.close
     (tie.spec
-    (λ c. search needs)
-    (λ c. search needs)
-    (λ c. search needs)
-    (λ c. search needs)
-    (λ c. search needs)
+    (λ c. search needs) (λ c. search needs) (λ c. search needs) (λ c. search needs) (λ c. search needs)
     (λ c. search needs)
     (λ c κs. block-lowerable (c .before .before .before .before .pre) _ refl)
-    (λ c. search needs)
-    (λ c κs. search needs)
-    (λ c. search needs)
+    (λ c. search needs) (λ c κs. search needs) (λ c. search needs)
     (λ c. let written = c .before .before .before .before .before .before in block-through (entry written .pre) _ refl (written .write-lowered .ensures) (c .before .before .copy-offsets .ensures)))

@@ -43,8 +43,7 @@ lower-piece-spec =
     (λ c κs. let entry = c .before .before .before .before in (omega (arith, entry .pre .starts-room .source), omega (arith, entry .pre .starts-room .source, entry .good .1 .1 .1 .1 .1 .0 .0)))
     (λ c κs. let fits = c .before .before .has-block .ensures (c .before .if1 .taken) in block-room (entry (c .before .before) .pre .starts-room) (fits .some) (fits .inside) (fits .below))
     ends-block
-    (λ c. search needs)
-    (λ c. search needs)
+    (λ c. search needs) (λ c. search needs)
     returns
     (λ c. search needs)
     (λ c. omega (arith, entry (c .before) .pre .starts-room .source))
@@ -56,6 +55,5 @@ lower-piece-spec =
     (λ c. omega (arith, entry (exact (c .before .before) .before) .pre .ends-room .source))
     (λ c. omega (arith, entry (exact (c .before .before) .before) .pre .ends-room .source))
     (λ c κs. stretch-lowerable (entry (exact (c .before .before .before .before) .before) .pre .ends-room))
-    (λ c. search needs)
-    (λ c. search needs)
+    (λ c. search needs) (λ c. search needs)
     returns-2)

@@ -9,7 +9,5 @@ original-end-spec =
     tie.close
     (tie.spec
     (λ c. end-empty _ _ _ (c .if1 .taken))
-    (λ c. search needs)
-    (λ c. search needs)
-    (λ c. search needs)
+    (λ c. search needs) (λ c. search needs) (λ c. search needs)
     (λ c. end-read _ _ _ (c .before .if1 .left)))

@@ -9,6 +9,5 @@ original-start-spec =
     tie.close
     (tie.spec
     (λ c. start-empty _ _ _ (c .if1 .taken))
-    (λ c. search needs)
-    (λ c. search needs)
+    (λ c. search needs) (λ c. search needs)
     (λ c. start-read _ _ _ (c .before .if1 .left)))

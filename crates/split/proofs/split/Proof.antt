@@ -25,35 +25,32 @@ written c = c .before .before .before .before .before .before .before .before .b
 write-pieces-requires : tie.Need-write-pieces-requires
 write-pieces-requires c κs =
     let checked = c .before .before .before .before .before .before .before .before in
-    split-accepted limit _ _ _ _ (buffers (entry (least checked))) (least checked .least-of-two .ensures) (checked .before .before .before .least-of-two2 .ensures) (checked .before .before .least-of-two3 .ensures) (checked .before .least-of-two4 .ensures) (checked .check-split .ensures) (c .before .before .before .before .before .before .enum-told .given .1)
+    split-accepted limit _ _ _ _ (buffers (entry (least checked)))
+    (least checked .least-of-two .ensures) (checked .before .before .before .least-of-two2 .ensures) (checked .before .before .least-of-two3 .ensures) (checked .before .least-of-two4 .ensures)
+    (checked .check-split .ensures) (c .before .before .before .before .before .before .enum-told .given .1)
 
 returns : tie.Need-returns
 returns c =
     let checked = c .before .before .before in
-    split-refused limit _ _ _ _ (buffers (entry (least checked))) (least checked .least-of-two .ensures) (checked .before .before .before .least-of-two2 .ensures) (checked .before .before .least-of-two3 .ensures) (checked .before .least-of-two4 .ensures) (checked .check-split .ensures) (c .before .k .given .1)
+    split-refused limit _ _ _ _ (buffers (entry (least checked)))
+    (least checked .least-of-two .ensures) (checked .before .before .before .least-of-two2 .ensures) (checked .before .before .least-of-two3 .ensures) (checked .before .least-of-two4 .ensures)
+    (checked .check-split .ensures) (c .before .k .given .1)
 
 returns-2 : tie.Need-returns-2
 returns-2 c =
     let checked = checked (written c) in
-    split-cut limit _ _ _ _ (buffers (entry (least checked))) (least checked .least-of-two .ensures) (checked .before .before .before .least-of-two2 .ensures) (checked .before .before .least-of-two3 .ensures) (checked .before .least-of-two4 .ensures) (checked .check-split .ensures) (written c .before .before .before .before .before .before .before .enum-told .given .1) (written c .write-pieces .ensures)
+    split-cut limit _ _ _ _ (buffers (entry (least checked)))
+    (least checked .least-of-two .ensures) (checked .before .before .before .least-of-two2 .ensures) (checked .before .before .least-of-two3 .ensures) (checked .before .least-of-two4 .ensures)
+    (checked .check-split .ensures) (written c .before .before .before .before .before .before .before .enum-told .given .1) (written c .write-pieces .ensures)
 
 pub split-spec : {M : Type 1} → statement M
 split-spec =
     tie.close
     (tie.spec
-    (λ c κs. search needs)
-    (λ c κs. search needs)
-    (λ c κs. search needs)
-    (λ c κs. search needs)
-    (λ c κs. search needs)
-    (λ c. search needs)
-    (λ c. search needs)
+    (λ c κs. search needs) (λ c κs. search needs) (λ c κs. search needs) (λ c κs. search needs) (λ c κs. search needs)
+    (λ c. search needs) (λ c. search needs)
     write-pieces-requires
     returns
-    (λ c. search needs)
-    (λ c. search needs)
-    (λ c. search needs)
-    (λ c. search needs)
-    (λ c. search needs)
+    (λ c. search needs) (λ c. search needs) (λ c. search needs) (λ c. search needs) (λ c. search needs)
     (λ c. search needs)
     returns-2)

@@ -48,9 +48,7 @@ write-columns-spec =
     Inv-loop
     μ-loop
     (λ c. none-gone (c .before .before .before .before .before .before .before .before .pre))
-    (λ c. search needs)
-    (λ c. search needs)
-    (λ c. search needs)
+    (λ c. search needs) (λ c. search needs) (λ c. search needs)
     (λ c. omega (arith, entry (c .before .before .before) .pre .shifts-room .spans .paired, c .before .before .loop-test .taken))
     (λ c κs. entry (c .before .before .before) .pre .shifts-room .spans .each _ (c .before .before .loop-test .taken))
     (λ c κs. let pre = entry (turn c) .pre in inside-of (pre .shifts-room .spans .each _ (c .before .before .before .loop-test .taken)) (pre .lengths-room .one-end))

@@ -32,17 +32,12 @@ convert-spans-spec =
     tie.close
     (tie.spec
     (λ c κs. c .before .before .before .before .before .before .before .pre .0)
-    (λ c. search needs)
-    (λ c. search needs)
-    (λ c κs. search needs)
+    (λ c. search needs) (λ c. search needs) (λ c κs. search needs)
     write-plain-requires
     (λ c κs. let told = c .before .before .before .before in pairs-ready (entry (written told) .pre .0) (written told .write-bytes .ensures) (entry (written told) .pre .1))
-    (λ c. search needs)
-    (λ c. search needs)
+    (λ c. search needs) (λ c. search needs)
     (λ c. let written = c .before .before .before .before .before .before in bytes-kept (entry written .pre .0) (written .write-bytes .ensures) _ (c .enum-told .given .1))
-    (λ c. search needs)
-    (λ c. search needs)
+    (λ c. search needs) (λ c. search needs)
     returns-2
-    (λ c. search needs)
-    (λ c. search needs)
+    (λ c. search needs) (λ c. search needs)
     (λ c. let counted = c .before .before .before .before in let told = told counted in chars-put (entry (written told) .pre .0) (written told .write-bytes .ensures) (told .enum-told2 .given .1) (counted .count-chars .ensures)))

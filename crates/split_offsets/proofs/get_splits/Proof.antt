@@ -41,13 +41,9 @@ pub get-splits-spec : {M : Type 1} → statement M
 get-splits-spec =
     tie.close
     (tie.spec
-    (λ c κs. search needs)
-    (λ c κs. search needs)
-    (λ c. search needs)
-    (λ c. search needs)
+    (λ c κs. search needs) (λ c κs. search needs) (λ c. search needs) (λ c. search needs)
     spans-asked
     ready
     (λ c. refused limit _ _ _ _ _ _ _ (c .before .before .before .before .least-of-two .ensures) (c .before .before .before .check-splits .ensures) (c .before .k .given .1))
-    (λ c. search needs)
-    (λ c. search needs)
+    (λ c. search needs) (λ c. search needs)
     returns-2)

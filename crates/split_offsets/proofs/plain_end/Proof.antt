@@ -9,6 +9,6 @@ plain-end-spec =
     tie.close
     (tie.spec
     (λ c. omega arith)
-    (λ c. plain-past (omega arith) (omega arith))
+    (λ c. plain-past (omega arith) (omega arith) (omega arith))
     (λ c. plain-inside (omega arith) (omega arith))
     (λ c. plain-beyond (omega arith)))

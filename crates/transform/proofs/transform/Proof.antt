@@ -14,16 +14,15 @@ returns : tie.Need-returns
 returns c =
     let given = c .before .before .before .before .before .before .before .before .before .args in
     let note : Note = (lent (given .original .now) (given .normalized .now) (given .starts .now) (given .ends .now) (given .original-shift)) in
-    inputs-refused limit note (also (noteFaults limit note) (scriptFaults (given .script .now))) refl (scriptEdit note (wholeOriginal (given .original .now)) (given .script .now) (given .initial-offset)) (given .out .now) (given .out-starts .now) (given .out-ends .now) (note-refused limit note (given .script .now) refl (long-refused limit note (c .if1 .taken))) refl
+    inputs-refused limit note (also (noteFaults limit note) (scriptFaults (given .script .now))) refl
+    (scriptEdit note (wholeOriginal (given .original .now)) (given .script .now) (given .initial-offset)) (given .out .now)
+    (given .out-starts .now) (given .out-ends .now)
+    (note-refused limit note (given .script .now) refl (long-refused limit note (c .if1 .taken))) refl
 
 pub transform-spec : {M : Type 1} → statement M
 transform-spec =
     tie.close
     (tie.spec
     returns
-    (λ c. search needs)
-    (λ c κs. search needs)
-    (λ c. search needs)
-    (λ c. search needs)
-    (λ c. search needs)
+    (λ c. search needs) (λ c κs. search needs) (λ c. search needs) (λ c. search needs) (λ c. search needs)
     (λ c. search needs))

@@ -9,7 +9,6 @@ pub is-char-boundary-spec : {M : Type 1} → statement M
 is-char-boundary-spec =
     tie.close
     (tie.spec
-    (λ c. omega arith)
-    (λ c κs. search needs)
+    (λ c. omega arith) (λ c κs. search needs)
     (λ c. boundary-lt _ _ (omega arith) (c .continues .ensures))
     (λ c. boundary-ge _ _ (omega arith)))

@@ -10,6 +10,5 @@ is-char-range-spec =
     tie.close
     (tie.spec
     (λ c. char-range-reversed _ _ _ (omega arith))
-    (λ c κs. search needs)
-    (λ c κs. search needs)
+    (λ c κs. search needs) (λ c κs. search needs)
     (λ c. char-range-both _ _ _ (omega arith) (c .before .is-char-boundary .ensures) (c .is-char-boundary2 .ensures)))

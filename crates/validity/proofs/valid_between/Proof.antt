@@ -32,7 +32,6 @@ valid-between-spec =
     (λ c. valid-none (c .before .pre .0))
     (λ c κs. omega arith)
     returns
-    (λ c. omega arith)
-    (λ c. omega arith)
+    (λ c. omega arith) (λ c. omega arith)
     loop-again
     (λ c. sym (valid-done (c .before .loop .inv) (c .loop-test .left))))

@@ -46,16 +46,10 @@ well-formed-spec =
     (λ c κs. omega arith)
     returns-2
     loop-holds
-    (λ c. omega arith)
-    (λ c. omega arith)
-    (λ c. omega arith)
-    (λ c. omega arith)
-    (λ c. omega arith)
-    (λ c. omega arith)
+    (λ c. omega arith) (λ c. omega arith) (λ c. omega arith) (λ c. omega arith) (λ c. omega arith) (λ c. omega arith)
     (λ c κs. simp (length-take, length-drop) (omega arith))
     returns-3
-    (λ c. omega arith)
-    (λ c. omega arith)
+    (λ c. omega arith) (λ c. omega arith)
     loop-again
     (λ c κs. (omega arith, omega arith))
     (λ c. c .valid-rest .ensures ∙ sym (from-all _ ∙ valid-rest (c .before .before .loop .inv .1) _ (omega arith))))

@@ -1,5 +1,5 @@
 -- The code's tests are the definition's.
-use Rattle.aligned.proofs.Unedited.{carries-flags}
+use Rattle.aligned.proofs.IsStarting.{carries-flags}
 use borrow.Author.Needs.{needs}
 use Rattle.aligned.proofs.starting.carries_own.Statement.{statement}
 use Rattle.aligned.proofs.starting.carries_own.Tie as tie

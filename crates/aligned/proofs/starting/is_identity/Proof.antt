@@ -5,7 +5,7 @@ use native.Mathlib.Omega.{arith}
 use lib.ListN.{length}
 use Rattle.aligned.specs.IsStarting.{isIdentity}
 use Rattle.boundaries.proofs.Monotone.{at-end}
-use Rattle.aligned.proofs.Unedited.{own-none, own-more}
+use Rattle.aligned.proofs.IsStarting.{own-none, own-more}
 use Rattle.aligned.proofs.starting.is_identity.Statement.{statement}
 use Rattle.aligned.proofs.starting.is_identity.Tie as tie
 
@@ -30,13 +30,7 @@ is-identity-spec =
     Inv-loop
     μ-loop
     (λ c. (refl, (omega arith, own-none _ _)))
-    (λ c. omega arith)
-    (λ c. omega arith)
-    (λ c. omega arith)
-    (λ c. omega arith)
-    (λ c. omega arith)
-    (λ c. omega arith)
-    (λ c. omega arith)
-    (λ c. omega arith)
+    (λ c. omega arith) (λ c. omega arith) (λ c. omega arith) (λ c. omega arith) (λ c. omega arith) (λ c. omega arith)
+    (λ c. omega arith) (λ c. omega arith)
     loop-again
     returns)

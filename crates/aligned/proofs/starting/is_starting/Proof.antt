@@ -1,7 +1,7 @@
 -- By the text's kind.
 use mathlib.Core.Path.{sym, _∙_}
 use borrow.Author.Needs.{needs}
-use Rattle.aligned.proofs.Unedited.{untouched-ascii, untouched-other}
+use Rattle.aligned.proofs.IsStarting.{starting-ascii, starting-other}
 use Rattle.aligned.proofs.starting.is_starting.Statement.{statement}
 use Rattle.aligned.proofs.starting.is_starting.Tie as tie
 
@@ -10,6 +10,6 @@ is-starting-spec =
     tie.close
     (tie.spec
     (λ c κs. search needs)
-    (λ c. untouched-ascii _ _ _ _ (sym (c .before .before .before .before .before .pre .0) ∙ c .before .if1 .taken) (c .is-identity .ensures))
+    (λ c. starting-ascii _ _ _ _ (sym (c .before .before .before .before .before .pre .0) ∙ c .before .if1 .taken) (c .is-identity .ensures))
     (λ c κs. search needs)
-    (λ c. untouched-other _ _ _ _ (sym (c .before .before .before .before .before .pre .0) ∙ c .before .if1 .left) (c .is-char-aligned .ensures)))
+    (λ c. starting-other _ _ _ _ (sym (c .before .before .before .before .before .pre .0) ∙ c .before .if1 .left) (c .is-char-aligned .ensures)))

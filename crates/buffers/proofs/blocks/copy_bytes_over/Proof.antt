@@ -27,28 +27,16 @@ copy-bytes-over-spec =
     (tie.spec
     Inv-loop
     μ-loop
-    (λ c. omega arith)
-    (λ c. omega arith)
-    (λ c. omega arith)
-    (λ c. omega arith)
-    (λ c κs. search needs)
+    (λ c. omega arith) (λ c. omega arith) (λ c. omega arith) (λ c. omega arith) (λ c κs. search needs)
     (λ c. search needs)
     (λ c. source-exact (c .before .before .before .before .before .before .before .before .pre) (c .before .before .copy-bytes .ensures))
-    (λ c. omega arith)
-    (λ c. omega arith)
-    (λ c. omega arith)
-    (λ c. omega arith)
-    (λ c. omega arith)
-    (λ c. omega arith)
-    (λ c κs. search needs)
-    (λ c. search needs)
+    (λ c. omega arith) (λ c. omega arith) (λ c. omega arith) (λ c. omega arith) (λ c. omega arith) (λ c. omega arith)
+    (λ c κs. search needs) (λ c. search needs)
     (λ c. source-exact (c .before .before .before .before .before .before .before .before .before .pre) (c .before .before .copy-bytes2 .ensures))
     (λ c. no-block _ _ _ _ _ _ (omega arith) (omega arith))
-    (λ c. omega arith)
-    (λ c. omega arith)
+    (λ c. omega arith) (λ c. omega arith)
     copy-bytes-block-requires
-    (λ c. omega arith)
-    (λ c. omega arith)
+    (λ c. omega arith) (λ c. omega arith)
     loop-again
     (λ c. c .before .loop .inv .laid .same)
     returns-3)

@@ -20,11 +20,6 @@ same-offsets-spec =
     μ-loop
     (λ c. same-lengths _ _ (c .if1 .taken))
     (λ c. none-compared)
-    (λ c. omega arith)
-    (λ c. omega arith)
-    (λ c. omega arith)
-    (λ c. omega arith)
-    (λ c. omega arith)
-    (λ c. omega arith)
+    (λ c. omega arith) (λ c. omega arith) (λ c. omega arith) (λ c. omega arith) (λ c. omega arith) (λ c. omega arith)
     (λ c. one-compared (c .before .before .before .loop .inv) (omega arith) (omega arith))
     (λ c. all-compared (c .before .loop .inv) (omega arith) (omega arith)))

@@ -26,7 +26,9 @@ loop-again c =
     let turn = c .before .before .before in
     let pre = entry (written turn) .pre in
     let j = turn .loop .j in
-    (omega arith, lows-less (one-low (turn .loop .inv .1) (omega (arith, pre .inside, pre .room)) (far-low _ j (turn .loop .inv .1) (written turn .before .before .before .before .write-fours .ensures) (written turn .write-sixteens .ensures) (omega arith) (c .wrapping-add-u8 .ensures))) _ (omega arith))
+    let fours = written turn .before .before .before .before .write-fours .ensures in
+    let low = far-low _ j (turn .loop .inv .1) fours (written turn .write-sixteens .ensures) (omega arith) (c .wrapping-add-u8 .ensures) in
+    (omega arith, lows-less (one-low (turn .loop .inv .1) (omega (arith, pre .inside, pre .room)) low) _ (omega arith))
 
 pub low-block-spec : {M : Type 1} → statement M
 low-block-spec =
@@ -43,13 +45,11 @@ low-block-spec =
     (λ c. (omega arith, lows-less (entry (c .before) .pre .so-far) _ (omega arith)))
     (λ c. omega (arith, entry (written (c .before)) .pre .inside))
     (λ c. omega (arith, c .before .before .loop .inv .1 .same, entry (written (c .before .before)) .pre .inside, entry (written (c .before .before)) .pre .room))
-    (λ c. omega arith)
-    (λ c κs. search needs)
+    (λ c. omega arith) (λ c κs. search needs)
     (λ c. omega (arith, entry (written (c .before .before .before)) .pre .inside))
     (λ c. omega (arith, entry (written (c .before .before .before)) .pre .inside))
     (λ c. omega (arith, c .before .before .before .loop .inv .1 .same, entry (written (c .before .before .before)) .pre .inside, entry (written (c .before .before .before)) .pre .room))
-    (λ c. omega arith)
-    (λ c. omega arith)
+    (λ c. omega arith) (λ c. omega arith)
     loop-again
     (λ c. c .before .loop .inv .1 .same)
     (λ c. lows-less (c .before .loop .inv .1) _ (omega arith)))

@@ -1,7 +1,6 @@
 -- Each turn writes one low byte more.
 use Prim.Native.Nat.{_-_, _≤_}
 use native.Mathlib.Omega.{arith}
-use lib.ListN.{length}
 use borrow.Author.Needs.{needs}
 use Rattle.char_counts.specs.Lows.{LowsTo}
 use Rattle.char_counts.proofs.Lows.{one-low, next-low, lows-less}
@@ -30,12 +29,9 @@ low-each-spec =
     (λ c. omega arith)
     (λ c. omega (arith, c .before .before .loop .inv .1 .same, c .before .before .before .before .before .pre .room, c .before .before .before .before .before .pre .inside))
     (λ c. omega (arith, c .before .before .before .before .before .before .pre .inside))
-    (λ c κs. search needs)
-    (λ c. search needs)
-    (λ c κs. search needs)
+    (λ c κs. search needs) (λ c. search needs) (λ c κs. search needs)
     (λ c. omega (arith, c .before .before .before .before .before .loop .inv .1 .same, c .before .before .before .before .before .before .before .before .pre .room, c .before .before .before .before .before .before .before .before .pre .inside))
-    (λ c. omega arith)
-    (λ c. omega arith)
+    (λ c. omega arith) (λ c. omega arith)
     loop-again
     (λ c. c .before .loop .inv .1 .same)
     (λ c. lows-less (c .before .loop .inv .1) _ (omega arith)))

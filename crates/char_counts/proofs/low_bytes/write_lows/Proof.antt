@@ -3,7 +3,6 @@ use Prim.Native.Nat.{_+_, _-_, _≤_}
 use mathlib.Core.Path.{refl}
 use native.Mathlib.Omega.{arith}
 use lib.ListN.{length}
-use borrow.Author.Needs.{needs}
 use Rattle.char_counts.specs.Lows.{LowsTo}
 use Rattle.char_counts.proofs.Lows.{first-low, each-ready, block-ready, lows-after, lows-less}
 use Rattle.char_counts.proofs.low_bytes.write_lows.Statement.{statement}
@@ -73,8 +72,7 @@ write-lows-spec =
     loop-holds
     (λ c. omega arith)
     low-block-requires
-    (λ c. omega arith)
-    (λ c. omega arith)
+    (λ c. omega arith) (λ c. omega arith)
     loop-again
     (λ c. omega arith)
     low-each-requires-3

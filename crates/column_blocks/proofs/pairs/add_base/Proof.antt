@@ -31,11 +31,9 @@ add-base-spec =
     (λ c. omega arith)
     (λ c. omega (arith, c .before .before .before .pre .1 (c .before .before .loop .k)))
     (λ c. omega (arith, c .before .before .before .pre .1 (c .before .before .loop .k)))
-    (λ c. omega arith)
-    (λ c. omega arith)
+    (λ c. omega arith) (λ c. omega arith)
     (λ c. omega (arith, c .before .before .loop .inv .1 .same))
-    (λ c. omega arith)
-    (λ c. omega arith)
+    (λ c. omega arith) (λ c. omega arith)
     loop-again
     (λ c. c .before .loop .inv .1 .same)
     (λ c. filled-at _ _ _ _ _ _ _ (c .before .loop .inv .1) refl (omega arith)))

@@ -27,15 +27,10 @@ count-back-spec =
     Inv-loop
     μ-loop
     (λ c. (omega arith, none-filled _ _ _))
-    (λ c. omega arith)
-    (λ c. omega arith)
-    (λ c. omega arith)
-    (λ c. omega arith)
-    (λ c κs. search needs)
+    (λ c. omega arith) (λ c. omega arith) (λ c. omega arith) (λ c. omega arith) (λ c κs. search needs)
     (λ c. omega (arith, c .begun .ensures))
     (λ c. omega (arith, c .before .before .before .before .loop .inv .1 .same))
-    (λ c. omega arith)
-    (λ c. omega arith)
+    (λ c. omega arith) (λ c. omega arith)
     loop-again
     (λ c. c .before .loop .inv .1 .same)
     (λ c. filled-at _ _ _ _ _ _ _ (c .before .loop .inv .1) (omega arith) (omega arith)))

@@ -23,13 +23,9 @@ count-up-spec =
     Inv-loop
     μ-loop
     (λ c. (omega arith, filled-at _ _ _ _ _ _ _ (none-filled _ _ _) refl (omega arith)))
-    (λ c. omega arith)
-    (λ c. omega arith)
-    (λ c. omega arith)
-    (λ c. omega arith)
+    (λ c. omega arith) (λ c. omega arith) (λ c. omega arith) (λ c. omega arith)
     (λ c. omega (arith, c .before .loop .inv .1 .same))
-    (λ c. omega arith)
-    (λ c. omega arith)
+    (λ c. omega arith) (λ c. omega arith)
     loop-again
     (λ c. c .before .loop .inv .1 .same)
     (λ c. filled-at _ _ _ _ _ _ _ (c .before .loop .inv .1) refl (omega arith)))

@@ -19,11 +19,7 @@ pub continuation-run-spec : {M : Type 1} → statement M
 continuation-run-spec =
     tie.close
     (tie.spec
-    (λ c κs. search needs)
-    (λ c κs. search needs)
-    (λ c κs. search needs)
-    (λ c. search needs)
-    (λ c. search needs)
+    (λ c κs. search needs) (λ c κs. search needs) (λ c κs. search needs) (λ c. search needs) (λ c. search needs)
     add-result
     (λ c. search needs)
     add-result-2

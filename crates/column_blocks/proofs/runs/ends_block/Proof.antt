@@ -25,11 +25,7 @@ pub ends-block-spec : {M : Type 1} → statement M
 ends-block-spec =
     tie.close
     (tie.spec
-    (λ c. search needs)
-    (λ c. search needs)
-    (λ c. search needs)
-    (λ c. search needs)
-    (λ c κs. search needs)
+    (λ c. search needs) (λ c. search needs) (λ c. search needs) (λ c. search needs) (λ c κs. search needs)
     (λ c. search needs)
     step-ahead-requires
     (λ c. search needs)

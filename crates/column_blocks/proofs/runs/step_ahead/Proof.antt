@@ -15,7 +15,10 @@ abbrev μ-loop : tie.MeasureT-loop
 μ-loop i counts ends₀ at k₀ ends k = length counts - k
 
 loop-again : tie.Need-loop-again Inv-loop μ-loop
-loop-again c = (omega arith, filled-at _ _ _ _ _ _ _ (filled-up _ _ _ _ _ _ (c .before .before .loop .inv .1) (omega arith) (ahead-at (c .before .before .before .args .counts .now) (c .before .before .before .args .i) (c .before .before .before .args .at) (c .before .before .loop .k))) (omega arith) (omega arith))
+loop-again c =
+    let args = c .before .before .before .args in
+    let one = ahead-at (args .counts .now) (args .i) (args .at) (c .before .before .loop .k) in
+    (omega arith, filled-at _ _ _ _ _ _ _ (filled-up _ _ _ _ _ _ (c .before .before .loop .inv .1) (omega arith) one) (omega arith) (omega arith))
 
 pub step-ahead-spec : {M : Type 1} → statement M
 step-ahead-spec =
@@ -24,17 +27,10 @@ step-ahead-spec =
     Inv-loop
     μ-loop
     (λ c. (omega arith, filled-at _ _ _ _ _ _ _ (none-filled _ _ (c .args .at)) (omega arith) (omega arith)))
-    (λ c. omega arith)
-    (λ c. omega arith)
-    (λ c. omega arith)
-    (λ c. omega arith)
+    (λ c. omega arith) (λ c. omega arith) (λ c. omega arith) (λ c. omega arith)
     (λ c. omega (arith, c .before .before .before .pre .1 (c .before .before .loop .k)))
     (λ c. omega (arith, c .before .before .before .pre .1 (c .before .before .loop .k)))
-    (λ c. omega arith)
-    (λ c. omega arith)
-    (λ c. omega arith)
-    (λ c. omega arith)
-    (λ c. omega arith)
+    (λ c. omega arith) (λ c. omega arith) (λ c. omega arith) (λ c. omega arith) (λ c. omega arith)
     loop-again
     (λ c. c .before .loop .inv .1 .same)
     (λ c. filled-at _ _ _ _ _ _ _ (c .before .loop .inv .1) (omega arith) (omega arith)))

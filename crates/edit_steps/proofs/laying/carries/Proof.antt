@@ -9,8 +9,8 @@ pub carries-spec : {M : Type 1} → statement M
 carries-spec =
     tie.close
     (tie.spec
-    (λ c κs. search needs)
+    (λ c. search needs) (λ c κs. search needs)
     (λ c. carries-added _ _ _ (c .before .if1 .taken) (c .before-end .ensures))
     (λ c. search needs)
-    (λ c. omega (arith, c .before .before .before .pre .found (c .before .if1 .left)))
+    (λ c. omega (arith, c .before .before .before .before .pre .found (c .before .if1 .left)))
     (λ c. carries-replacing _ _ _ (c .before .if1 .left)))

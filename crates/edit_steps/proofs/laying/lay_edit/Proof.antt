@@ -9,7 +9,7 @@ use Rattle.edit_steps.proofs.laying.lay_edit.Tie as tie
 
 -- the places that others are told by: the entry, and where the front and the middle are laid
 abbrev entry : tie.After-keep-arg3 → tie.Start
-entry c = c .before .before .before .before .before .before .before .before .before .before
+entry c = c .before .before .before .before .before .before .before .before .before .before .before .before
 
 abbrev front : tie.After-lay-script-arg3 → tie.After-keep
 front c = c .before .before .before .before .before .before .before .before .before
@@ -39,13 +39,12 @@ pub lay-edit-spec : {M : Type 1} → statement M
 lay-edit-spec =
     tie.close
     (tie.spec
+    (λ c. search needs) (λ c. search needs)
     (λ c κs. front-room (entry c .pre .0))
     add-lay-script
     (λ c κs. (middle-room (entry (front c .before) .pre .0) (front c .keep .ensures), omega (arith, entry (front c .before) .pre .1)))
     (λ c κs. back-room (entry (front (middle c .before) .before) .pre .0) (front (middle c .before) .keep .ensures) (middle c .lay-script .ensures))
     (λ c. entry (front (middle (c .before .before .before .before .before .before .before) .before) .before) .pre .0 .inside)
     add-result
-    (λ c. search needs)
-    (λ c. search needs)
-    (λ c. search needs)
+    (λ c. search needs) (λ c. search needs) (λ c. search needs)
     returns)

@@ -10,12 +10,12 @@ use Rattle.edit_steps.proofs.laying.lay_script.Statement.{statement}
 use Rattle.edit_steps.proofs.laying.lay_script.Tie as tie
 
 abbrev Inv-loop : tie.InvT-loop
-Inv-loop text starts ends to position script table out₀ out-starts₀ out-ends₀ at until progress₀ i₀ out out-starts out-ends progress i =
+Inv-loop text starts ends to script table out₀ out-starts₀ out-ends₀ at until progress₀ i₀ out out-starts out-ends progress i =
     (i ≤ length script)
-    × Going text starts ends to position (commandsOf script) out₀ out-starts₀ out-ends₀ at progress (commandsOf (drop i script)) out out-starts out-ends
+    × Going text starts ends (to .0) (progress₀ .position .0) (commandsOf script) out₀ out-starts₀ out-ends₀ at progress (commandsOf (drop i script)) out out-starts out-ends
 
 abbrev μ-loop : tie.MeasureT-loop
-μ-loop text starts ends to position script table out₀ out-starts₀ out-ends₀ at until progress₀ i₀ out out-starts out-ends progress i =
+μ-loop text starts ends to script table out₀ out-starts₀ out-ends₀ at until progress₀ i₀ out out-starts out-ends progress i =
     length script - i
 
 -- the places that others are told by: the entry, the turn's beginning, where its command is read, and where it is laid
@@ -63,8 +63,7 @@ lay-script-spec =
     Inv-loop
     μ-loop
     (λ c. (omega arith, none-going (c .before .before .before .before .before .before .before .pre .0)))
-    (λ c κs. search needs)
-    (λ c. search needs)
+    (λ c κs. search needs) (λ c. search needs)
     lay-command-requires
     advanced-requires
     (λ c. omega (arith, step (there (c .before .before .before .before .before .before .before))))

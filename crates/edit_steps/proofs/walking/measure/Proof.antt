@@ -9,10 +9,10 @@ use Rattle.edit_steps.proofs.walking.measure.Statement.{statement}
 use Rattle.edit_steps.proofs.walking.measure.Tie as tie
 
 abbrev Inv-loop : tie.InvT-loop
-Inv-loop text to position script table progress₀ i₀ progress i = Measuring text to position script progress i
+Inv-loop text to script table progress₀ i₀ progress i = Measuring text (to .0) (progress₀ .position .0) script progress i
 
 abbrev μ-loop : tie.MeasureT-loop
-μ-loop text to position script table progress₀ i₀ progress i = length script - i
+μ-loop text to script table progress₀ i₀ progress i = length script - i
 
 returns : tie.Need-returns Inv-loop μ-loop
 returns c =
@@ -47,8 +47,7 @@ measure-spec =
     Inv-loop
     μ-loop
     (λ c. none-measured (c .before .before .pre .standing))
-    (λ c κs. search needs)
-    (λ c. search needs)
+    (λ c κs. search needs) (λ c. search needs)
     advanced-requires
     returns
     loop-less

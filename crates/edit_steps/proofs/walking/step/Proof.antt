@@ -15,10 +15,7 @@ step-spec =
     (tie.spec
     (λ c κs. search needs)
     (λ c. stepped-starves _ _ _ _ (c .before .starves .ensures) (c .if1 .taken))
-    (λ c κs. search needs)
-    (λ c. search needs)
+    (λ c κs. search needs) (λ c. search needs)
     (λ c. stepped-added _ _ _ _ (c .before .before .before .before .starves .ensures) (c .before .before .before .if1 .left) (c .before .before .len-utf8 .ensures) (c .if2 .taken))
-    (λ c. search needs)
-    (λ c. search needs)
-    (λ c κs. search needs)
+    (λ c. search needs) (λ c. search needs) (λ c κs. search needs)
     returns-3)

@@ -28,12 +28,7 @@ widthless-spec =
     μ-loop
     (λ c κs. search needs)
     (λ c. c .widthless-blocks .ensures)
-    (λ c. omega arith)
-    (λ c. omega arith)
-    (λ c. omega arith)
-    (λ c. omega arith)
-    (λ c. omega arith)
-    (λ c. omega arith)
+    (λ c. omega arith) (λ c. omega arith) (λ c. omega arith) (λ c. omega arith) (λ c. omega arith) (λ c. omega arith)
     loop-again
     (λ c. all-passed (c .before .loop .inv) (c .before .before .before .before .before .pre) (c .loop-test .left))
     returns-2)

@@ -9,6 +9,5 @@ has-head-spec =
     tie.close
     (tie.spec
     (λ c. no-head _ _ (c .if1 .taken))
-    (λ c. search needs)
-    (λ c. search needs)
+    (λ c. search needs) (λ c. search needs)
     (λ c. first-head _ _ (c .before .before .before .pre) (c .before .before .if1 .left)))

@@ -55,14 +55,19 @@ returns-3 c =
     let told = c .before .before .before .before .before .before .before in
     let given = entry (told .before .before) .args in
     head-refused limit (note (entry (told .before .before))) (given .codes .now) (given .out .now) (given .out-starts .now) (given .out-ends .now)
-    (told .before .before .check-note .ensures) (told .enum-told .given .1) (c .before .before .before .before .before .before .judge .ensures) (c .before .before .before .before .if1 .left) (c .before .before .before .count-leads .ensures) (c .before .before .if2 .left) (c .before .has-head .ensures) (c .if3 .taken)
+    (told .before .before .check-note .ensures) (told .enum-told .given .1)
+    (c .before .before .before .before .before .before .judge .ensures) (c .before .before .before .before .if1 .left)
+    (c .before .before .before .count-leads .ensures) (c .before .before .if2 .left) (c .before .has-head .ensures) (c .if3 .taken)
 
 returns-4 : tie.Need-returns-4
 returns-4 c =
     let headed = c .before .before .before .before in
     let given = entry (told headed .before .before) .args in
     map-large limit (note (entry (told headed .before .before))) (given .codes .now) (given .out .now) (given .out-starts .now) (given .out-ends .now)
-    (told headed .before .before .check-note .ensures) (told headed .enum-told .given .1) (headed .before .before .before .before .before .before .judge .ensures) (headed .before .before .before .before .if1 .left) (headed .before .before .before .count-leads .ensures) (headed .before .before .if2 .left) (headed .before .has-head .ensures) (headed .if3 .left) (c .before .before .before .least-room .ensures) (c .before .before .least-of-two .ensures) (c .if4 .taken)
+    (told headed .before .before .check-note .ensures) (told headed .enum-told .given .1)
+    (headed .before .before .before .before .before .before .judge .ensures) (headed .before .before .before .before .if1 .left)
+    (headed .before .before .before .count-leads .ensures) (headed .before .before .if2 .left) (headed .before .has-head .ensures)
+    (headed .if3 .left) (c .before .before .before .least-room .ensures) (c .before .before .least-of-two .ensures) (c .if4 .taken)
 
 lay-codes-requires : tie.Need-lay-codes-requires
 lay-codes-requires c κs =
@@ -70,7 +75,10 @@ lay-codes-requires c κs =
     let headed = headed fits in
     let given = entry (told headed .before .before) .args in
     map-room limit (note (entry (told headed .before .before))) (given .codes .now) (given .out .now) (given .out-starts .now) (given .out-ends .now)
-    (told headed .before .before .check-note .ensures) (told headed .enum-told .given .1) (headed .before .before .before .before .before .before .judge .ensures) (headed .before .before .before .before .if1 .left) (headed .before .before .before .count-leads .ensures) (headed .before .before .if2 .left) (headed .before .has-head .ensures) (headed .if3 .left) (fits .before .before .before .least-room .ensures) (fits .before .before .least-of-two .ensures) (fits .if4 .left)
+    (told headed .before .before .check-note .ensures) (told headed .enum-told .given .1)
+    (headed .before .before .before .before .before .before .judge .ensures) (headed .before .before .before .before .if1 .left)
+    (headed .before .before .before .count-leads .ensures) (headed .before .before .if2 .left) (headed .before .has-head .ensures)
+    (headed .if3 .left) (fits .before .before .before .least-room .ensures) (fits .before .before .least-of-two .ensures) (fits .if4 .left)
 
 returns-5 : tie.Need-returns-5
 returns-5 c =
@@ -86,27 +94,25 @@ returns-6 c =
     let headed = headed fits in
     let given = entry (told headed .before .before) .args in
     map-made limit (note (entry (told headed .before .before))) (given .codes .now) (given .out .now) (given .out-starts .now) (given .out-ends .now)
-    (told headed .before .before .check-note .ensures) (told headed .enum-told .given .1) (headed .before .before .before .before .before .before .judge .ensures) (headed .before .before .before .before .if1 .left) (headed .before .before .before .count-leads .ensures) (headed .before .before .if2 .left) (headed .before .has-head .ensures) (headed .if3 .left) (fits .before .before .before .least-room .ensures) (fits .before .before .least-of-two .ensures) (fits .if4 .left) (laid .lay-codes .ensures)
+    (told headed .before .before .check-note .ensures) (told headed .enum-told .given .1)
+    (headed .before .before .before .before .before .before .judge .ensures) (headed .before .before .before .before .if1 .left)
+    (headed .before .before .before .count-leads .ensures) (headed .before .before .if2 .left) (headed .before .has-head .ensures)
+    (headed .if3 .left) (fits .before .before .before .least-room .ensures) (fits .before .before .least-of-two .ensures) (fits .if4 .left)
+    (laid .lay-codes .ensures)
 
 pub map-spec : {M : Type 1} → statement M
 map-spec =
     tie.close
     (tie.spec
-    (λ c κs. search needs)
-    (λ c. search needs)
-    (λ c. search needs)
-    (λ c κs. search needs)
+    (λ c κs. search needs) (λ c. search needs) (λ c. search needs) (λ c κs. search needs)
     returns
     (λ c κs. search needs)
     returns-2
     has-head-requires
     returns-3
-    (λ c κs. search needs)
-    (λ c κs. search needs)
+    (λ c κs. search needs) (λ c κs. search needs)
     returns-4
     lay-codes-requires
     returns-5
-    (λ c. search needs)
-    (λ c. search needs)
-    (λ c. search needs)
+    (λ c. search needs) (λ c. search needs) (λ c. search needs)
     returns-6)

@@ -1,8 +1,7 @@
 -- `left` counts from the first of the indices so far at which the two bytes stood together.
 use Prim.Native.Nat.{_-_, _≤_}
 use native.Mathlib.Omega.{arith}
-use Rattle.find.specs.Searching.{Candidate}
-use Rattle.find.proofs.Candidates.{no-candidate, next-index, all-indices}
+use Rattle.find.proofs.Candidates.{Candidate, no-candidate, next-index, all-indices}
 use Rattle.find.proofs.search.first_candidate.Statement.{statement}
 use Rattle.find.proofs.search.first_candidate.Tie as tie
 
@@ -25,15 +24,8 @@ first-candidate-spec =
     Inv-loop
     μ-loop
     (λ c. (no-candidate, (omega arith, omega arith)))
-    (λ c. omega arith)
-    (λ c. omega arith)
-    (λ c. omega arith)
-    (λ c. omega arith)
-    (λ c κs. omega arith)
-    (λ c κs. omega arith)
-    (λ c. omega arith)
-    (λ c. omega arith)
+    (λ c. omega arith) (λ c. omega arith) (λ c. omega arith) (λ c. omega arith) (λ c κs. omega arith)
+    (λ c κs. omega arith) (λ c. omega arith) (λ c. omega arith)
     loop-again
-    (λ c. omega arith)
-    (λ c. omega arith)
+    (λ c. omega arith) (λ c. omega arith)
     (λ c. all-indices (c .before .loop .inv .0) (omega arith)))

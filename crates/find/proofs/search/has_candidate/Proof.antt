@@ -21,9 +21,6 @@ has-candidate-spec =
     Inv-loop
     μ-loop
     (λ c. (omega arith, apart-none _ _ _ _))
-    (λ c. omega arith)
-    (λ c. omega arith)
-    (λ c. omega arith)
-    (λ c. omega arith)
+    (λ c. omega arith) (λ c. omega arith) (λ c. omega arith) (λ c. omega arith)
     (λ c. (omega arith, apart-more _ _ _ _ _ (c .before .before .before .loop .inv .1)))
     (λ c. apart-all _ _ _ _ {j = c .before .loop .j} (c .before .loop .inv .1) (omega arith)))

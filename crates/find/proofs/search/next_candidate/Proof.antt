@@ -4,7 +4,7 @@ use mathlib.Core.Path.{refl}
 use native.Mathlib.Omega.{arith}
 use lib.ListN.{length, length-take, length-drop}
 use Rattle.find.specs.Searching.{Absent}
-use Rattle.find.proofs.Candidates.{absent-none, absent-on, absent-block}
+use Rattle.find.proofs.Candidates.{first-candidate, absent-none, absent-on, absent-block}
 use Rattle.find.proofs.search.next_candidate.Statement.{statement}
 use Rattle.find.proofs.search.next_candidate.Tie as tie
 
@@ -20,14 +20,14 @@ first-candidate-requires c κs = (simp (length-take, length-drop) (omega arith),
 returns : tie.Need-returns Inv-loop μ-loop
 returns c =
     let head = c .before .before .before .before .before in
-    absent-block _ _ _ (head .before .before .before .before .before .pre .0) refl refl _ (head .loop .inv) (c .before .first-candidate .ensures) (omega arith) (omega arith) (omega arith)
+    absent-block _ _ _ (head .before .before .before .before .before .pre .0) refl refl _ (head .loop .inv) (first-candidate (c .before .first-candidate .ensures)) (omega arith) (omega arith) (omega arith)
 
 loop-again : tie.Need-loop-again Inv-loop μ-loop
 loop-again c =
     let test = c .before .before in
     let head = test .before .before .before .before in
     absent-on
-    (absent-block _ _ _ (head .before .before .before .before .before .pre .0) refl refl _ (head .loop .inv) (test .first-candidate .ensures) (omega arith) (omega arith) (omega arith))
+    (absent-block _ _ _ (head .before .before .before .before .before .pre .0) refl refl _ (head .loop .inv) (first-candidate (test .first-candidate .ensures)) (omega arith) (omega arith) (omega arith))
     (c .skip-blocks .ensures)
 
 pub next-candidate-spec : {M : Type 1} → statement M
@@ -36,21 +36,10 @@ next-candidate-spec =
     (tie.spec
     Inv-loop
     μ-loop
-    (λ c. omega arith)
-    (λ c. omega arith)
-    (λ c. omega arith)
+    (λ c. omega arith) (λ c. omega arith) (λ c. omega arith)
     (λ c. absent-none (omega arith))
-    (λ c. omega arith)
-    (λ c. omega arith)
-    (λ c. omega arith)
-    (λ c. omega arith)
-    (λ c. omega arith)
-    (λ c. omega arith)
-    (λ c. omega arith)
-    (λ c. omega arith)
-    (λ c. omega arith)
-    (λ c. omega arith)
-    (λ c. omega arith)
+    (λ c. omega arith) (λ c. omega arith) (λ c. omega arith) (λ c. omega arith) (λ c. omega arith) (λ c. omega arith)
+    (λ c. omega arith) (λ c. omega arith) (λ c. omega arith) (λ c. omega arith) (λ c. omega arith)
     first-candidate-requires
     (λ c. omega arith)
     returns

@@ -39,13 +39,8 @@ carry-ends-spec =
     μ-loop
     (λ c. omega arith)
     (λ c. (omega arith, no-ends _ _ (c .before .before .pre .0 .0)))
-    (λ c. omega arith)
-    (λ c. omega arith)
-    (λ c. omega arith)
-    (λ c. omega arith)
-    (λ c κs. search needs)
-    (λ c. omega arith)
-    (λ c. omega arith)
+    (λ c. omega arith) (λ c. omega arith) (λ c. omega arith) (λ c. omega arith) (λ c κs. search needs)
+    (λ c. omega arith) (λ c. omega arith)
     loop-again
     (λ c. omega arith)
     loop-again-2

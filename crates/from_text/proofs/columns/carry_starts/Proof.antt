@@ -36,13 +36,8 @@ carry-starts-spec =
     Inv-loop
     μ-loop
     (λ c. (omega arith, no-starts _ _))
-    (λ c. omega arith)
-    (λ c κs. search needs)
-    (λ c. omega arith)
-    (λ c. omega arith)
-    (λ c. omega arith)
-    (λ c. omega arith)
-    (λ c. omega arith)
+    (λ c. omega arith) (λ c κs. search needs) (λ c. omega arith) (λ c. omega arith) (λ c. omega arith)
+    (λ c. omega arith) (λ c. omega arith)
     loop-again
     (λ c. c .before .loop .inv .1 .filled .same)
     (λ c. filled-at _ _ _ _ _ _ _ (c .before .loop .inv .1 .filled) (omega arith) (omega arith)))

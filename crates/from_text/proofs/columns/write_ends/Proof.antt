@@ -32,8 +32,7 @@ write-ends-spec =
     (λ c. (omega arith, none-filled _ _ _))
     (λ c. omega arith)
     (λ c κs. ((c .before .before .before .before .before .pre .0 .0, omega arith), (omega arith, omega arith)))
-    (λ c. omega arith)
-    (λ c. omega arith)
+    (λ c. omega arith) (λ c. omega arith)
     loop-again
     (λ c κs. ((c .before .before .before .before .before .pre .0 .0, omega arith), (omega arith, omega arith)))
     (λ c. c .before .before .carry-ends .ensures .same ∙ c .before .before .before .before .before .loop .inv .1 .same)

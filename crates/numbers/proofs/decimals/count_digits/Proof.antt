@@ -17,7 +17,6 @@ count-digits-spec =
     Inv-loop
     μ-loop
     (λ c. none-counted)
-    (λ c. omega arith)
-    (λ c. omega arith)
+    (λ c. omega arith) (λ c. omega arith)
     (λ c. one-counted (c .before .loop .inv) (omega arith))
     (λ c. all-counted (c .before .loop .inv) (omega arith)))

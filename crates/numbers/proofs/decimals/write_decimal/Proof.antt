@@ -19,12 +19,7 @@ write-decimal-spec =
     μ-loop
     (λ c κs. search needs)
     (λ c. no-digit (c .count-digits .ensures) (c .before .before .pre))
-    (λ c. omega arith)
-    (λ c. omega arith)
-    (λ c. omega arith)
-    (λ c. omega arith)
-    (λ c. omega arith)
-    (λ c. omega arith)
+    (λ c. omega arith) (λ c. omega arith) (λ c. omega arith) (λ c. omega arith) (λ c. omega arith) (λ c. omega arith)
     (λ c. digit-laid (c .before .loop .inv) (c .loop-test .taken))
     (λ c. omega arith)
     (λ c. c .before .loop .inv .same)

@@ -25,8 +25,7 @@ get-u16-le-spec =
     (tie.spec
     (λ c. omega arith)
     cast-result
-    (λ c. omega arith)
-    (λ c. omega arith)
+    (λ c. omega arith) (λ c. omega arith)
     cast-result-2
     mul-result
     add-result-2

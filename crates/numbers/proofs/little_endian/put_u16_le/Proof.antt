@@ -9,10 +9,7 @@ pub put-u16-le-spec : {M : Type 1} → statement M
 put-u16-le-spec =
     tie.close
     (tie.spec
-    (λ c. omega arith)
-    (λ c. omega arith)
-    (λ c. omega arith)
-    (λ c. omega arith)
+    (λ c. omega arith) (λ c. omega arith) (λ c. omega arith) (λ c. omega arith)
     (λ c. simp length-set (omega arith))
     (λ c. simp length-set)
     (λ c. value-stored _ _ _ (omega arith) (c .pre)))

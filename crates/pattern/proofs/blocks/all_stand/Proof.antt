@@ -25,13 +25,7 @@ all-stand-spec =
     Inv-loop
     μ-loop
     (λ c. (omega arith, every-none _))
-    (λ c. omega arith)
-    (λ c. omega arith)
-    (λ c. omega arith)
-    (λ c κs. omega arith)
-    (λ c. omega arith)
-    (λ c κs. search needs)
-    (λ c. omega arith)
-    (λ c. omega arith)
+    (λ c. omega arith) (λ c. omega arith) (λ c. omega arith) (λ c κs. omega arith) (λ c. omega arith)
+    (λ c κs. search needs) (λ c. omega arith) (λ c. omega arith)
     loop-again
     (λ c. every-end 16 _ {j = c .before .loop .k} (omega arith) (c .before .loop .inv .1)))

@@ -20,9 +20,6 @@ scan-spec =
     Inv-loop
     μ-loop
     (λ c. none-scanned)
-    (λ c. omega arith)
-    (λ c κs. search needs)
-    (λ c. omega arith)
-    (λ c. omega arith)
+    (λ c. omega arith) (λ c κs. search needs) (λ c. omega arith) (λ c. omega arith)
     (λ c. one-scanned (c .before .before .before .loop .inv) (c .before .before .loop-test .taken) (c .step .ensures))
     (λ c. all-scanned (c .before .loop .inv) (omega arith)))

@@ -1,4 +1,4 @@
--- The word, and behind it the number.
+-- The word, and after it the number.
 use borrow.Author.Needs.{needs}
 use Rattle.piece_lines.proofs.Written.{word-room, number-room, headline-laid}
 use Rattle.piece_lines.proofs.lines.write_headline.Statement.{statement}

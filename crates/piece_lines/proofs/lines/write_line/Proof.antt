@@ -1,4 +1,4 @@
--- One part behind the other; after each there is room for those that are left.
+-- One part after the other; after each there is room for those that are left.
 use native.Mathlib.Omega.{arith}
 use borrow.Author.Needs.{needs}
 use Rattle.piece_lines.proofs.Written.{start-room, end-room, bytes-room, ending-room, line-laid}
@@ -29,6 +29,11 @@ write-line-spec =
     (λ c κs. let second = c .before .before .before in bytes-room _ _ _ _ _ (entry (first second) .pre) (first second .write-field .ensures) (second .write-field2 .ensures))
     (λ c. omega (arith, ending-room _ _ _ _ _ (entry (first (second (c .before .before))) .pre) (first (second (c .before .before)) .write-field .ensures) (second (c .before .before) .write-field2 .ensures) (c .before .before .copy-bytes .ensures)))
     (λ c κs. let copied = c .before .before .before in ending-room _ _ _ _ _ (entry (first (second copied)) .pre) (first (second copied) .write-field .ensures) (second copied .write-field2 .ensures) (copied .copy-bytes .ensures))
-    (λ c. omega (arith, ending-room _ _ _ _ _ (entry (first (second (c .before .before .before .before .before .before))) .pre) (first (second (c .before .before .before .before .before .before)) .write-field .ensures) (second (c .before .before .before .before .before .before) .write-field2 .ensures) (c .before .before .before .before .before .before .copy-bytes .ensures)))
+    (λ c. omega (
+      arith,
+      ending-room _ _ _ _ _ (entry (first (second (c .before .before .before .before .before .before))) .pre)
+          (first (second (c .before .before .before .before .before .before)) .write-field .ensures)
+          (second (c .before .before .before .before .before .before) .write-field2 .ensures) (c .before .before .before .before .before .before .copy-bytes .ensures),
+    ))
     (λ c. search needs)
     returns)

@@ -31,8 +31,7 @@ write-lines-spec =
     Inv-loop
     μ-loop
     (λ c. no-line)
-    (λ c. omega arith)
-    (λ c. omega arith)
+    (λ c. omega arith) (λ c. omega arith)
     (λ c. omega (arith, c .shared-slice-known4 .given (c .before .before .loop .i)))
     (λ c. omega arith)
     (λ c. omega (arith, c .before .before .before .before .before .before .before .before .pre .0 .alike))
@@ -41,8 +40,7 @@ write-lines-spec =
     (λ c. c .before .before .before .before .before .before .before .before .pre .0 .ordered (c .before .before .before .loop .i) (c .before .before .loop-test .taken))
     (λ c. c .before .before .before .before .before .before .before .before .pre .0 .inside (c .before .before .before .loop .i) (c .before .before .loop-test .taken))
     write-line-requires
-    (λ c. omega arith)
-    (λ c. omega arith)
+    (λ c. omega arith) (λ c. omega arith)
     loop-again
     (λ c. c .before .loop .inv .same)
     (λ c. every-line (c .before .loop .inv) (c .before .before .before .before .before .before .pre .1) (c .loop-test .left)))

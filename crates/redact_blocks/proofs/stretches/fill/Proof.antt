@@ -19,19 +19,14 @@ pub fill-spec : {M : Type 1} → statement M
 fill-spec =
     tie.close
     (tie.spec
-    (λ c. search needs)
-    (λ c κs. search needs)
+    (λ c. search needs) (λ c κs. search needs)
     (λ c. omega (arith, padded-first (c .before .before .before .before .before .before .pre) (c .char-start .ensures)))
-    (λ c. search needs)
-    (λ c κs. search needs)
+    (λ c. search needs) (λ c κs. search needs)
     (λ c. let small = padded-small (entry c .pre) (c .before .char-start .ensures) (c .char-end .ensures) in omega (arith, small))
-    (λ c. search needs)
-    (λ c κs. search needs)
-    (λ c. search needs)
-    (λ c κs. search needs)
-    (λ c. search needs)
-    (λ c κs. search needs)
-    (λ c. search needs)
-    (λ c. search needs)
-    (λ c. search needs)
-    (λ c. let started = c .before .before .before .before .before .before in let laid = laid started in padded-laid (entry (told laid) .pre) (told laid .before .char-start .ensures) (told laid .char-end .ensures) (laid .copy-front-over .ensures) (started .fill-offsets-over .ensures) (c .before .before .fill-offsets-over2 .ensures)))
+    (λ c. search needs) (λ c κs. search needs) (λ c. search needs) (λ c κs. search needs) (λ c. search needs)
+    (λ c κs. search needs) (λ c. search needs) (λ c. search needs) (λ c. search needs)
+    (λ c.
+    let started = c .before .before .before .before .before .before in
+    let laid = laid started in
+    padded-laid (entry (told laid) .pre) (told laid .before .char-start .ensures) (told laid .char-end .ensures) (laid .copy-front-over .ensures)
+    (started .fill-offsets-over .ensures) (c .before .before .fill-offsets-over2 .ensures)))

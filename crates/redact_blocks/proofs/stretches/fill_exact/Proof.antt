@@ -19,16 +19,14 @@ pub fill-exact-spec : {M : Type 1} → statement M
 fill-exact-spec =
     tie.close
     (tie.spec
-    (λ c. search needs)
-    (λ c κs. search needs)
+    (λ c. search needs) (λ c κs. search needs)
     (λ c. omega (arith, padded-first (c .before .before .before .before .before .before .pre) (c .char-start .ensures)))
-    (λ c. search needs)
-    (λ c κs. search needs)
+    (λ c. search needs) (λ c κs. search needs)
     (λ c. let small = padded-small (entry c .pre) (c .before .char-start .ensures) (c .char-end .ensures) in omega (arith, small))
-    (λ c κs. search needs)
-    (λ c κs. search needs)
-    (λ c κs. search needs)
+    (λ c κs. search needs) (λ c κs. search needs) (λ c κs. search needs) (λ c. search needs) (λ c. search needs)
     (λ c. search needs)
-    (λ c. search needs)
-    (λ c. search needs)
-    (λ c. let started = c .before .before .before .before .before .before in let copied = copied started in padded-exact (entry (told copied) .pre) (told copied .before .char-start .ensures) (told copied .char-end .ensures) (copied .copy-bytes .ensures) (started .fill-offsets .ensures) (c .before .before .fill-offsets2 .ensures)))
+    (λ c.
+    let started = c .before .before .before .before .before .before in
+    let copied = copied started in
+    padded-exact (entry (told copied) .pre) (told copied .before .char-start .ensures) (told copied .char-end .ensures) (copied .copy-bytes .ensures)
+    (started .fill-offsets .ensures) (c .before .before .fill-offsets2 .ensures)))

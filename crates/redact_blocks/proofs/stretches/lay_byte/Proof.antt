@@ -10,17 +10,9 @@ pub lay-byte-spec : {M : Type 1} → statement M
 lay-byte-spec =
     tie.close
     (tie.spec
-    (λ c κs. search needs)
-    (λ c κs. search needs)
-    (λ c. search needs)
-    (λ c. search needs)
+    (λ c κs. search needs) (λ c κs. search needs) (λ c. search needs) (λ c. search needs)
     (λ c. let small = byte-small (c .before .before .before .before .before .before .before .pre) (c .before .before .char-start .ensures) (c .before .char-end .ensures) in omega (arith, small))
-    (λ c. search needs)
-    (λ c. search needs)
+    (λ c. search needs) (λ c. search needs)
     (λ c. let small = byte-small (c .before .before .before .before .before .before .before .pre) (c .before .before .char-start .ensures) (c .before .char-end .ensures) in omega (arith, small))
-    (λ c. search needs)
-    (λ c. search needs)
-    (λ c. search needs)
-    (λ c. search needs)
-    (λ c. search needs)
+    (λ c. search needs) (λ c. search needs) (λ c. search needs) (λ c. search needs) (λ c. search needs)
     (λ c. byte-laid (c .before .before .before .before .before .before .before .pre) refl (c .before .before .char-start .ensures) (c .before .char-end .ensures)))

@@ -1,4 +1,4 @@
--- What is laid fits the array that was lent for it.
+-- What is laid fits the array that was passed for it.
 use mathlib.Core.Path.{sym}
 use native.Mathlib.Omega.{arith}
 use lib.Seq.{length-take-le}
@@ -11,8 +11,7 @@ pub write-alignments-spec : {M : Type 1} → statement M
 write-alignments-spec =
     tie.close
     (tie.spec
-    (λ c κs. search needs)
-    (λ c. search needs)
+    (λ c κs. search needs) (λ c. search needs)
     (λ c κs. (omega arith, omega arith, omega arith))
     (λ c. lines-fit _ _ _ (c .before .write-lines .ensures))
     (λ c. sym (length-take-le _ _ (lines-fit _ _ _ (c .before .before .write-lines .ensures))))

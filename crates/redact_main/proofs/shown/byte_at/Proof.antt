@@ -9,6 +9,5 @@ pub byte-at-spec : {M : Type 1} → statement M
 byte-at-spec =
     tie.close
     (tie.spec
-    (λ c. search needs)
-    (λ c. search needs)
+    (λ c. search needs) (λ c. search needs)
     (λ c. sym (List·getD-eq-default (c .before .args .text .now) 0 (c .if1 .left))))

@@ -20,11 +20,7 @@ shown-spec =
     Inv-loop
     μ-loop
     (λ c. none-passed)
-    (λ c. omega arith)
-    (λ c. omega arith)
-    (λ c κs. search needs)
-    (λ c. omega arith)
-    (λ c κs. search needs)
+    (λ c. omega arith) (λ c. omega arith) (λ c κs. search needs) (λ c. omega arith) (λ c κs. search needs)
     (λ c κs. search needs)
     (λ c. one-unseen (c .before .before .before .before .before .before .loop .inv) (c .before .before .before .before .before .loop-test .taken) (unseen-is _ (c .before .before .before .byte-at .ensures) (c .before .before .byte-at2 .ensures) (c .before .unseen .ensures) (c .if1 .taken)))
     (λ c. omega arith)

@@ -1,5 +1,6 @@
 -- Each turn lays down one more place.
 use Prim.Native.Nat.{_-_}
+use native.Mathlib.Omega.{arith}
 use lib.ListN.{length}
 use borrow.Author.Needs.{needs}
 use Rattle.replace.specs.Replacing.{carried}
@@ -8,10 +9,10 @@ use Rattle.replace.proofs.laying.lay_column.Statement.{statement}
 use Rattle.replace.proofs.laying.lay_column.Tie as tie
 
 abbrev Inv-loop : tie.InvT-loop
-Inv-loop column list wide until out₀ at₀ k₀ out at k = Going (carried wide column) column list wide until out₀ at k out
+Inv-loop column list contentLen until out₀ at₀ k₀ out at k = Going (carried contentLen column) column list contentLen until out₀ at k out
 
 abbrev μ-loop : tie.MeasureT-loop
-μ-loop column list wide until out₀ at₀ k₀ out at k = length list - k
+μ-loop column list contentLen until out₀ at₀ k₀ out at k = length list - k
 
 lay-offsets-requires : tie.Need-lay-offsets-requires Inv-loop μ-loop
 lay-offsets-requires c κs =
@@ -21,7 +22,7 @@ lay-offsets-requires c κs =
 loop-less : tie.Need-loop-less Inv-loop μ-loop
 loop-less c =
     let there = c .before .before .before .before .before in
-    going-less (there .before .before .before .before .loop .inv) (there .before .before .entry-at .ensures) (there .place .given .1)
+    omega (arith, going-less (there .before .before .before .before .loop .inv) (there .before .before .entry-at .ensures) (there .place .given .1))
 
 loop-again : tie.Need-loop-again Inv-loop μ-loop
 loop-again c =
@@ -35,13 +36,12 @@ lay-column-spec =
     Inv-loop
     μ-loop
     (λ c. none-going _ (carried-wide _ _) (c .before .before .before .pre))
-    (λ c κs. search needs)
-    (λ c. search needs)
+    (λ c κs. search needs) (λ c. search needs)
     lay-offsets-requires
     loop-less
     loop-again
     (λ c. search needs)
     (λ c. c .before .before .before .before .loop .inv .reaching .same)
-    (λ c. broken-gone (c .before .before .before .before .loop .inv) (c .before .before .before .loop-test .taken) (c .before .before .entry-at .ensures) (c .enum-told .given .1))
+    (λ c. broken-gone (c .before .before .before .before .loop .inv) (omega arith) (c .before .before .entry-at .ensures) (c .enum-told .given .1))
     (λ c. c .before .loop .inv .reaching .same)
-    (λ c. all-gone (c .before .loop .inv) (c .loop-test .left)))
+    (λ c. all-gone (c .before .loop .inv) (omega arith)))

@@ -11,7 +11,5 @@ lay-out-spec =
     (λ c κs. let entry = c .before .before .before .before .before .before .before .before .before in starts-ready (entry .pre .0) (entry .pre .1))
     (λ c κs. let entry = c .before .before .before .before .before .before .before .before .before .before .before .before .before in ends-ready (entry .pre .0) (entry .pre .1))
     (λ c κs. let entry = c .before .before .before .before .before .before .before .before .before .before .before .before .before .before .before .before .before in text-ready (entry .pre .0) (entry .pre .1))
-    (λ c. search needs)
-    (λ c. search needs)
-    (λ c. search needs)
+    (λ c. search needs) (λ c. search needs) (λ c. search needs)
     (λ c. search needs))

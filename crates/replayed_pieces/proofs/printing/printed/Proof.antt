@@ -14,10 +14,7 @@ pub printed-spec : {M : Type 1} → statement M
 printed-spec =
     tie.close
     (tie.spec
-    (λ c κs. search needs)
-    (λ c κs. search needs)
-    (λ c. search needs)
-    (λ c κs. search needs)
+    (λ c κs. search needs) (λ c κs. search needs) (λ c. search needs) (λ c κs. search needs)
     (λ c. printed-within (c .before .pieces .ensures))
     (λ c. sym (length-take-le _ _ (printed-within (c .before .before .pieces .ensures))))
     (λ c κs. search needs)

@@ -29,18 +29,9 @@ field-spec =
     Inv-loop
     μ-loop
     (λ c. none-reached _ _)
-    (λ c κs. omega arith)
-    (λ c κs. search needs)
-    (λ c. search needs)
-    (λ c κs. omega arith)
-    (λ c. omega arith)
+    (λ c κs. omega arith) (λ c κs. search needs) (λ c. search needs) (λ c κs. omega arith) (λ c. omega arith)
     (λ c. omega arith)
     loop-again
-    (λ c κs. omega arith)
-    (λ c κs. search needs)
-    (λ c. search needs)
-    (λ c κs. omega arith)
-    (λ c. omega arith)
-    (λ c. omega arith)
-    (λ c. omega arith)
+    (λ c κs. omega arith) (λ c κs. search needs) (λ c. search needs) (λ c κs. omega arith) (λ c. omega arith)
+    (λ c. omega arith) (λ c. omega arith)
     returns)

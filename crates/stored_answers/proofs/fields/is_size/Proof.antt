@@ -1,7 +1,5 @@
 -- The length is 4, and then the number decides.
 use borrow.Author.Needs.{needs}
-use mathlib.Core.Path.{refl}
-use native.Mathlib.Omega.{arith}
 use Rattle.stored_answers.proofs.Framing.{no-number, a-number}
 use Rattle.stored_answers.proofs.fields.is_size.Statement.{statement}
 use Rattle.stored_answers.proofs.fields.is_size.Tie as tie

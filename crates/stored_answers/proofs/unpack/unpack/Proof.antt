@@ -31,10 +31,7 @@ unpack-spec =
     Inv-loop
     μ-loop
     (λ c. none-unpacked _ _ _)
-    (λ c κs. search needs)
-    (λ c κs. omega arith)
-    (λ c. omega arith)
-    (λ c. omega arith)
+    (λ c κs. search needs) (λ c κs. omega arith) (λ c. omega arith) (λ c. omega arith)
     loop-again
     (λ c. c .before .loop .inv .laying .same)
     returns)

@@ -24,11 +24,8 @@ block-leads-spec =
     Inv-loop
     μ-loop
     (λ c. none-counted)
-    (λ c. omega arith)
-    (λ c κs. search needs)
-    (λ c. search needs)
+    (λ c. omega arith) (λ c κs. search needs) (λ c. search needs)
     (λ c. omega (arith, counted-le (loop-again c)))
-    (λ c. omega arith)
-    (λ c. omega arith)
+    (λ c. omega arith) (λ c. omega arith)
     loop-again
     (λ c. all-counted (c .before .loop .inv) (c .loop-test .left)))

@@ -31,20 +31,13 @@ count-leads-spec =
     Inv-loop
     μ-loop
     (λ c. none-counted)
-    (λ c. omega arith)
-    (λ c. omega arith)
-    (λ c. omega arith)
-    (λ c. search needs)
-    (λ c. search needs)
+    (λ c. omega arith) (λ c. omega arith) (λ c. omega arith) (λ c. search needs) (λ c. search needs)
     (λ c κs. simp (length-take, length-drop) (omega arith))
     (λ c. omega (arith, counted-le (loop-again c)))
     (λ c. omega (arith, counted-le (loop-again c)))
-    (λ c. omega arith)
-    (λ c. omega arith)
+    (λ c. omega arith) (λ c. omega arith)
     loop-again
-    (λ c. omega arith)
-    (λ c. search needs)
-    (λ c. search needs)
+    (λ c. omega arith) (λ c. search needs) (λ c. search needs)
     (λ c κs. simp (length-take, length-drop) (omega arith))
     (λ c. omega (arith, returns c, leads-le-length (c .before .before .before .before .before .args .s .now)))
     (λ c. omega (arith, returns c, leads-le-length (c .before .before .before .before .before .args .s .now)))

@@ -8,7 +8,5 @@ pub char-len-spec : {M : Type 1} → statement M
 char-len-spec =
     tie.close
     (tie.spec
-    (λ c. search needs)
-    (λ c κs. search needs)
-    (λ c. search needs)
+    (λ c. search needs) (λ c κs. search needs) (λ c. search needs)
     (λ c. let at = c .before .before .before .pre in char-len (at .formed) (at .begins) (at .more) (c .announced-length .ensures)))

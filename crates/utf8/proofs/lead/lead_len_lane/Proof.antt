@@ -9,8 +9,5 @@ pub lead-len-lane-spec : {M : Type 1} → statement M
 lead-len-lane-spec =
     tie.close
     (tie.spec
-    (λ c κs. search needs)
-    (λ c κs. search needs)
-    (λ c. omega arith)
-    (λ c κs. search needs)
+    (λ c κs. search needs) (λ c κs. search needs) (λ c. omega arith) (λ c κs. search needs)
     (λ c. width-lead _ (omega arith) (c .before .before .saturating-sub-u8 .ensures) (c .before .min-u8 .ensures) (c .max-u8 .ensures)))

@@ -32,10 +32,8 @@ char-end-spec =
     μ-loop
     (λ c. omega arith)
     (λ c. end-none _ _ (omega arith))
-    (λ c. omega arith)
-    (λ c κs. search needs)
+    (λ c. omega arith) (λ c κs. search needs)
     returns
-    (λ c. omega arith)
-    (λ c. omega arith)
+    (λ c. omega arith) (λ c. omega arith)
     loop-again
     (λ c. end-last (c .before .before .before .pre .0) (c .before .loop .inv) (omega arith)))

@@ -28,10 +28,8 @@ char-start-spec =
     Inv-loop
     μ-loop
     (λ c. record { here = refl; most = omega arith })
-    (λ c. omega arith)
-    (λ c κs. search needs)
+    (λ c. omega arith) (λ c κs. search needs)
     returns
-    (λ c. omega arith)
-    (λ c. omega arith)
+    (λ c. omega arith) (λ c. omega arith)
     loop-again
     (λ c. start-first (c .before .loop .inv) (omega arith)))

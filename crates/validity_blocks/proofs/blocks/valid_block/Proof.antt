@@ -1,7 +1,6 @@
 -- The bounds of the two parts are the block's, and within those of the test.
-use Prim.Native.Nat.{_≤_, _<_}
 use mathlib.Core.Path.{_≡_, sym}
-use lib.ListN.{length, length-take}
+use lib.ListN.{length-take}
 use native.Mathlib.Omega.{arith}
 use borrow.Author.Needs.{needs}
 use Rattle.validity_blocks.specs.Extremes.{largest, leastLead}
@@ -25,16 +24,10 @@ valid-block-spec =
     tie.close
     (tie.spec
     (λ c. simp length-take (omega arith))
-    (λ c κs. search needs)
-    (λ c. search needs)
-    (λ c. search needs)
-    (λ c. search needs)
-    (λ c κs. search needs)
+    (λ c κs. search needs) (λ c. search needs) (λ c. search needs) (λ c. search needs) (λ c κs. search needs)
     (λ c κs. search needs)
     (λ c. sym (block-ascii _ _ (omega (arith, whole (c .before)))))
-    (λ c κs. search needs)
-    (λ c κs. search needs)
-    (λ c. search needs)
+    (λ c κs. search needs) (λ c κs. search needs) (λ c. search needs)
     (λ c κs. let p = c .before in (omega arith, omega (arith, whole (p .before .before .before)), omega (arith, past p)))
     (λ c. search needs)
     (λ c κs. let p = c .before .before .before in (omega arith, omega (arith, whole (p .before .before .before)), omega (arith, past p)))
@@ -42,6 +35,5 @@ valid-block-spec =
     (λ c κs. let p = c .before .before .before in (omega arith, omega (arith, whole (p .before .before .before)), omega (arith, past p)))
     (λ c. search needs)
     (λ c κs. let p = c .before .before .before .before .before in (omega arith, omega (arith, whole (p .before .before .before)), omega (arith, past p)))
-    (λ c. search needs)
-    (λ c κs. search needs)
+    (λ c. search needs) (λ c κs. search needs)
     (λ c. search needs))

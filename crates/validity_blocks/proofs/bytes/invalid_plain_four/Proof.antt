@@ -17,7 +17,5 @@ unfolding within xor
 invalid-plain-four-spec =
     tie.close
     (tie.spec
-    (λ c κs. search needs)
-    (λ c κs. search needs)
-    (λ c κs. search needs)
+    (λ c κs. search needs) (λ c κs. search needs) (λ c κs. search needs)
     (λ c. let pre = c .before .before .before .pre in invalid-plain-four _ (pre .0) (pre .1) (pre .2) (largest c)))

@@ -1,5 +1,4 @@
 -- The highest bit of the difference, or of its complement, is the flag.
-use mathlib.Core.Bool.{xor}
 use borrow.Author.Needs.{needs}
 use native.Mathlib.Omega.{arith}
 use Rattle.utf8.specs.Table.{within}

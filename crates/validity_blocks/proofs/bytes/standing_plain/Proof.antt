@@ -9,6 +9,5 @@ pub standing-plain-spec : {M : Type 1} → statement M
 standing-plain-spec =
     tie.close
     (tie.spec
-    (λ c κs. search needs)
-    (λ c κs. search needs)
+    (λ c κs. search needs) (λ c κs. search needs)
     (λ c. let pre = c .before .before .pre in c .standing .ensures ∙ invalid-plain (pre .0) (pre .1) (pre .2) (c .before .max-u8 .ensures)))

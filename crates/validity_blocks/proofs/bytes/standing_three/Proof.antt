@@ -32,10 +32,7 @@ pub standing-three-spec : {M : Type 1} → statement M
 standing-three-spec =
     tie.close
     (tie.spec
-    (λ c κs. search needs)
-    (λ c κs. search needs)
-    (λ c κs. search needs)
-    (λ c κs. search needs)
+    (λ c κs. search needs) (λ c κs. search needs) (λ c κs. search needs) (λ c κs. search needs)
     (λ c. let entry = c .before .before .before .before in omega (arith, entry .pre .0 .low, select-most (leb 0x80 (entry .args .b0) && leb (entry .args .b0) 0x9F) 0x0D (c .select-or-zero-u8 .ensures)))
     returns
     returns-2)

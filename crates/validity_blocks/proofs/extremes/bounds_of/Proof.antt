@@ -28,12 +28,7 @@ bounds-of-spec =
     Inv-loop
     μ-loop
     (λ c. (largest-none, least-none))
-    (λ c. omega arith)
-    (λ c κs. omega arith)
-    (λ c. omega arith)
-    (λ c κs. omega arith)
-    (λ c κs. omega arith)
-    (λ c. omega arith)
-    (λ c. omega arith)
+    (λ c. omega arith) (λ c κs. omega arith) (λ c. omega arith) (λ c κs. omega arith) (λ c κs. omega arith)
+    (λ c. omega arith) (λ c. omega arith)
     loop-again
     (λ c. (largest-done (c .before .loop .inv .0) (c .loop-test .left), least-done (c .before .loop .inv .1) (c .loop-test .left))))

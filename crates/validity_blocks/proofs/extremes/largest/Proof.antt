@@ -19,9 +19,6 @@ largest-spec =
     Inv-loop
     μ-loop
     (λ c. largest-none)
-    (λ c. omega arith)
-    (λ c κs. omega arith)
-    (λ c. omega arith)
-    (λ c. omega arith)
+    (λ c. omega arith) (λ c κs. omega arith) (λ c. omega arith) (λ c. omega arith)
     (λ c. largest-more (c .before .before .before .loop .inv) (c .before .before .loop-test .taken) (c .max-u8 .ensures))
     (λ c. largest-done (c .before .loop .inv) (c .loop-test .left)))

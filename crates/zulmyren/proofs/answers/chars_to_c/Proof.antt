@@ -9,8 +9,6 @@ pub chars-to-c-spec : {M : Type 1} → statement M
 chars-to-c-spec =
     tie.close
     (tie.spec
-    (λ c. search needs)
-    (λ c. search needs)
-    (λ c κs. search needs)
+    (λ c. search needs) (λ c. search needs) (λ c κs. search needs)
     (λ c. sym (ap charsOf (c .before .answer .given .1)))
     (λ c. (λ i. record { refusal = c .number .ensures i; start = 0; end = 0 }) ∙ sym (ap charsOf (c .before .before .answer2 .given .1))))

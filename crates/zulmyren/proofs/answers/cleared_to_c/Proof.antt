@@ -14,7 +14,6 @@ cleared-to-c-spec =
     (λ c. search needs)
     (λ c. let both = cleared-within (c .before .answer .given .1) (c .before .before .before .pre) in omega (arith, both .0))
     (λ c. let both = cleared-within (c .before .answer .given .1) (c .before .before .before .pre) in omega (arith, both .1))
-    (λ c. search needs)
-    (λ c κs. search needs)
+    (λ c. search needs) (λ c κs. search needs)
     (λ c. sym (ap clearedOf (c .before .answer .given .1)))
     (λ c. (λ i. record { refusal = c .number .ensures i; before = 0; left = 0 }) ∙ sym (ap clearedOf (c .before .before .answer2 .given .1))))

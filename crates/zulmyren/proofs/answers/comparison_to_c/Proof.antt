@@ -10,8 +10,6 @@ pub comparison-to-c-spec : {M : Type 1} → statement M
 comparison-to-c-spec =
     tie.close
     (tie.spec
-    (λ c. search needs)
-    (λ c. search needs)
-    (λ c κs. search needs)
+    (λ c. search needs) (λ c. search needs) (λ c κs. search needs)
     (λ c. sym (ap comparedOf (c .before .answer .given .1)))
     (λ c. (λ i. record { refusal = c .number .ensures i; alike = false }) ∙ sym (ap comparedOf (c .before .before .answer2 .given .1))))

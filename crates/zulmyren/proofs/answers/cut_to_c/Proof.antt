@@ -9,8 +9,6 @@ pub cut-to-c-spec : {M : Type 1} → statement M
 cut-to-c-spec =
     tie.close
     (tie.spec
-    (λ c. search needs)
-    (λ c. search needs)
-    (λ c κs. search needs)
+    (λ c. search needs) (λ c. search needs) (λ c κs. search needs)
     (λ c. sym (ap cutNumbers (c .before .answer .given .1)))
     (λ c. (λ i. record { refusal = c .number .ensures i; pieces = 0; alignments = 0 }) ∙ sym (ap cutNumbers (c .before .before .answer2 .given .1))))

@@ -9,8 +9,6 @@ pub letters-to-c-spec : {M : Type 1} → statement M
 letters-to-c-spec =
     tie.close
     (tie.spec
-    (λ c. search needs)
-    (λ c. search needs)
-    (λ c κs. search needs)
+    (λ c. search needs) (λ c. search needs) (λ c κs. search needs)
     (λ c. sym (ap lettersOf (c .before .answer .given .1)))
     (λ c. (λ i. record { refusal = c .number .ensures i; count = 0 }) ∙ sym (ap lettersOf (c .before .before .answer2 .given .1))))

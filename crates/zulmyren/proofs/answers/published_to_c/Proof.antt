@@ -13,7 +13,6 @@ published-to-c-spec =
     (tie.spec
     (λ c. search needs)
     (λ c. omega (arith, published-within (c .before .answer .given .1) (c .before .before .before .pre)))
-    (λ c. search needs)
-    (λ c κs. search needs)
+    (λ c. search needs) (λ c κs. search needs)
     (λ c. sym (ap publishedOf (c .before .answer .given .1)))
     (λ c. (λ i. record { refusal = c .number .ensures i; count = 0 }) ∙ sym (ap publishedOf (c .before .before .answer2 .given .1))))

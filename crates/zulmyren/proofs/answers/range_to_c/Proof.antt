@@ -8,10 +8,6 @@ pub range-to-c-spec : {M : Type 1} → statement M
 range-to-c-spec =
     tie.close
     (tie.spec
-    (λ c. search needs)
-    (λ c κs. search needs)
-    (λ c κs. search needs)
-    (λ c. search needs)
-    (λ c κs. search needs)
+    (λ c. search needs) (λ c κs. search needs) (λ c κs. search needs) (λ c. search needs) (λ c κs. search needs)
     (λ c. range-found (c .before .before .before .answer .given .1) (c .before .start-of .ensures) (c .end-of .ensures))
     (λ c. range-refused (c .before .before .answer2 .given .1) (c .number .ensures)))

@@ -9,6 +9,5 @@ pub zulmyren-published-alike-spec : {M : Type 1} → statement M
 zulmyren-published-alike-spec =
     tie.close
     (tie.spec
-    (λ c κs. search needs)
-    (λ c κs. search needs)
+    (λ c κs. search needs) (λ c κs. search needs)
     (λ c. c .comparison-to-c .ensures ∙ ap comparedOf (c .before .published-alike .ensures .answer)))

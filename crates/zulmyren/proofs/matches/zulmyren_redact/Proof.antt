@@ -10,7 +10,5 @@ zulmyren-redact-spec =
     (tie.spec
     (λ c κs. search needs)
     (λ c κs. redacted-short _ (c .before .before .before .before .before .before .redact .ensures))
-    (λ c. search needs)
-    (λ c. search needs)
-    (λ c. search needs)
+    (λ c. search needs) (λ c. search needs) (λ c. search needs)
     (λ c. search needs))

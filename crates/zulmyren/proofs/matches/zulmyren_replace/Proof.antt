@@ -10,7 +10,5 @@ zulmyren-replace-spec =
     (tie.spec
     (λ c κs. search needs)
     (λ c κs. replaced-short _ (c .before .before .before .before .before .before .replace .ensures))
-    (λ c. search needs)
-    (λ c. search needs)
-    (λ c. search needs)
+    (λ c. search needs) (λ c. search needs) (λ c. search needs)
     (λ c. search needs))

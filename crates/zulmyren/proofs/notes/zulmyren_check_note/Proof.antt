@@ -9,6 +9,5 @@ pub zulmyren-check-note-spec : {M : Type 1} → statement M
 zulmyren-check-note-spec =
     tie.close
     (tie.spec
-    (λ c κs. search needs)
-    (λ c κs. search needs)
+    (λ c κs. search needs) (λ c κs. search needs)
     (λ c. c .answer .ensures ∙ ap answerOf (c .before .check-note .ensures)))

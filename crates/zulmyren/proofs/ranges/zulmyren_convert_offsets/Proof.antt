@@ -10,8 +10,5 @@ pub zulmyren-convert-offsets-spec : {M : Type 1} → statement M
 zulmyren-convert-offsets-spec =
     tie.close
     (tie.spec
-    (λ c κs. search needs)
-    (λ c κs. search needs)
-    (λ c κs. search needs)
-    (λ c κs. search needs)
+    (λ c κs. search needs) (λ c κs. search needs) (λ c κs. search needs) (λ c κs. search needs)
     (λ c. range-call (convertOffsets limit _) _ _ _ (c .before .before .before .side-of .ensures) (c .before .before .range-of .ensures) (c .before .convert-offsets .ensures) (c .range-to-c .ensures)))

@@ -10,8 +10,5 @@ pub zulmyren-get-range-original-spec : {M : Type 1} → statement M
 zulmyren-get-range-original-spec =
     tie.close
     (tie.spec
-    (λ c κs. search needs)
-    (λ c κs. search needs)
-    (λ c κs. search needs)
-    (λ c κs. search needs)
+    (λ c κs. search needs) (λ c κs. search needs) (λ c κs. search needs) (λ c κs. search needs)
     (λ c. range-call (getRangeOriginal limit _) _ _ _ (c .before .before .before .side-of .ensures) (c .before .before .range-of .ensures) (c .before .get-range-original .ensures) (c .range-to-c .ensures)))

@@ -9,6 +9,5 @@ pub zulmyren-char-offsets-spec : {M : Type 1} → statement M
 zulmyren-char-offsets-spec =
     tie.close
     (tie.spec
-    (λ c κs. search needs)
-    (λ c κs. search needs)
+    (λ c κs. search needs) (λ c κs. search needs)
     (λ c. c .chars-to-c .ensures ∙ ap charsOf (c .before .char-offsets .ensures)))

@@ -9,6 +9,5 @@ pub zulmyren-letter-count-spec : {M : Type 1} → statement M
 zulmyren-letter-count-spec =
     tie.close
     (tie.spec
-    (λ c κs. search needs)
-    (λ c κs. search needs)
+    (λ c κs. search needs) (λ c κs. search needs)
     (λ c. c .letters-to-c .ensures ∙ ap lettersOf (c .before .letter-count .ensures)))

@@ -1,4 +1,4 @@
--- The columns of a note that no edit has touched are those of a fresh text; and the loops that tell such a note.
+-- Laws of `isStarting`: such columns are those of the starting note; and the loops that tell them.
 use Prim.Native.Nat.{ℕ, zero, suc, _+_, _-_, _≤_, _<_}
 use mathlib.Core.Path.{_≡_, _∙_, refl, sym}
 use mathlib.Core.Bool.{Bool, true, false, cond, _&&_, _||_, not}
@@ -27,18 +27,18 @@ use Rattle.aligned.specs.IsStarting.{carriesOwn, charAlignedAt, isCharAl
 
 -- one more index
 module _ (text starts ends : List ℕ) where
-  pub unedited-none : true ≡ isCharAligned text starts ends 0
+  pub char-aligned-none : true ≡ isCharAligned text starts ends 0
   unfolding isCharAligned everyBelow
-  unedited-none = refl
+  char-aligned-none = refl
 
-  pub unedited-first : (ok : Bool) → ok ≡ (eqb (getD starts 0 0) 0 && eqb (getD ends (length text - 1) 0) (length text)) → ok ≡ isCharAligned text starts ends 1
+  pub char-aligned-first : (ok : Bool) → ok ≡ (eqb (getD starts 0 0) 0 && eqb (getD ends (length text - 1) 0) (length text)) → ok ≡ isCharAligned text starts ends 1
   unfolding isCharAligned everyBelow charAlignedAt
-  unedited-first ok e = e
+  char-aligned-first ok e = e
 
-  pub unedited-more : (i : ℕ) (ok r : Bool) → 1 ≤ i → ok ≡ isCharAligned text starts ends i → r ≡ carriesOwn (getD text i 0) (getD starts (i - 1) 0) (getD starts i 0) (getD ends (i - 1) 0) (getD ends i 0) i → (ok && r) ≡ isCharAligned text starts ends (i + 1)
+  pub char-aligned-more : (i : ℕ) (ok r : Bool) → 1 ≤ i → ok ≡ isCharAligned text starts ends i → r ≡ carriesOwn (getD text i 0) (getD starts (i - 1) 0) (getD starts i 0) (getD ends (i - 1) 0) (getD ends i 0) i → (ok && r) ≡ isCharAligned text starts ends (i + 1)
   unfolding isCharAligned charAlignedAt
-  unedited-more zero ok r low p q = absurd (omega arith)
-  unedited-more (suc i) ok r low p q =
+  char-aligned-more zero ok r low p q = absurd (omega arith)
+  char-aligned-more (suc i) ok r low p q =
       let one : suc i - 1 ≡ i = omega arith in
       rw (every-suc (suc i) (charAlignedAt text starts ends), p, q, one)
 
@@ -73,34 +73,34 @@ module _ (text starts ends : List ℕ) (p : wellFormed text ≡ true) (e : isCha
   unfolding isCharAligned charAlignedAt
   at-next i h = every-at (length text) (charAlignedAt text starts ends) e (suc i) h
 
-  unedited-start : (i : ℕ) → i < length text → getD starts i 0 ≡ charStart text i
+  char-aligned-start : (i : ℕ) → i < length text → getD starts i 0 ≡ charStart text i
   unfolding charStart
-  unedited-start zero h = at-first h .0
-  unedited-start (suc i) h = rw (← unedited-start i (omega arith)) (carries-start _ _ _ _ _ _ (at-next i h))
+  char-aligned-start zero h = at-first h .0
+  char-aligned-start (suc i) h = rw (← char-aligned-start i (omega arith)) (carries-start _ _ _ _ _ _ (at-next i h))
 
   -- d bytes before the last one
-  unedited-end : (d i : ℕ) → i + suc d ≡ length text → getD ends i 0 ≡ charEnd text i
-  unedited-end zero i h =
+  char-aligned-end : (d i : ℕ) → i + suc d ≡ length text → getD ends i 0 ≡ charEnd text i
+  char-aligned-end zero i h =
       let r : Ranged text i = ranged text i p (omega arith) in
       let last : length text - 1 ≡ i = omega arith in
       (rw last at (at-first (omega arith) .1)) ∙ omega arith
-  unedited-end (suc d) i h =
+  char-aligned-end (suc d) i h =
       let here = carries-end _ _ _ _ _ _ (at-next i (omega arith)) in
       true-or-false (continues (getD text (suc i) 0))
-      (λ more. (rw more at here) ∙ unedited-end d (suc i) (omega arith) ∙ charEnd-continues text i more)
+      (λ more. (rw more at here) ∙ char-aligned-end d (suc i) (omega arith) ∙ charEnd-continues text i more)
       (λ new. (rw new at here) ∙ sym (charEnd-begins text i (ranged text i p (omega arith)) new))
 
   -- the text beside these columns is the note of the fresh text
-  unedited-starting : length starts ≡ length text → length ends ≡ length text → lent text text starts ends 0 ≡ starting text
+  char-aligned-starting : length starts ≡ length text → length ends ≡ length text → lent text text starts ends 0 ≡ starting text
   unfolding starting
-  unedited-starting long long₂ =
+  char-aligned-starting long long₂ =
       let n = length text in
       let same : starts ≡ column n (charStart text) =
       ext-getD 0 starts (column n (charStart text)) (long ∙ sym (length-column n (charStart text)))
-      (λ k h. unedited-start k (omega arith) ∙ sym (getD-column n (charStart text) k (omega arith))) in
+      (λ k h. char-aligned-start k (omega arith) ∙ sym (getD-column n (charStart text) k (omega arith))) in
       let same₂ : ends ≡ column n (charEnd text) =
       ext-getD 0 ends (column n (charEnd text)) (long₂ ∙ sym (length-column n (charEnd text)))
-      (λ k h. unedited-end (n - suc k) k (omega arith) ∙ sym (getD-column n (charEnd text) k (omega arith))) in
+      (λ k h. char-aligned-end (n - suc k) k (omega arith) ∙ sym (getD-column n (charEnd text) k (omega arith))) in
       rw (same, same₂)
 
 -- an ASCII text whose alignments are the bytes at their indices
@@ -115,17 +115,17 @@ module _ (text starts ends : List ℕ) (small : ascii text ≡ true) (own : isId
   unfolding continues within
   begins i h = rw (lt-leb 0x80 (getD text i 0) (ascii-at text small i h))
 
-  own-unedited-at : (i : ℕ) → i < length text → charAlignedAt text starts ends i ≡ true
+  own-char-aligned-at : (i : ℕ) → i < length text → charAlignedAt text starts ends i ≡ true
   unfolding charAlignedAt carriesOwn
-  own-unedited-at zero h =
+  own-char-aligned-at zero h =
       and-intro (eq-eqb _ _ (own-at 0 h .0)) (eq-eqb _ _ (own-at (length text - 1) (omega arith) .1 ∙ omega arith))
-  own-unedited-at (suc i) h =
+  own-char-aligned-at (suc i) h =
       rw (begins (suc i) h)
       (and-intro (eq-eqb _ _ (own-at (suc i) h .0)) (eq-eqb _ _ (own-at i (omega arith) .1 ∙ omega arith)))
 
-  own-unedited : isCharAligned text starts ends (length text) ≡ true
+  own-char-aligned : isCharAligned text starts ends (length text) ≡ true
   unfolding isCharAligned
-  own-unedited = every-all (length text) _ own-unedited-at
+  own-char-aligned = every-all (length text) _ own-char-aligned-at
 
 -- how `isIdentity` is told
 pub own-none : (starts ends : List ℕ) → true ≡ isIdentity starts ends 0
@@ -137,22 +137,22 @@ unfolding isIdentity
 own-more starts ends i at ok same p = rw (every-suc i _, same, p)
 
 -- by the text's kind
-pub untouched-ascii : (m s e : List ℕ) (r : Bool) → ascii m ≡ true → r ≡ isIdentity s e (length s) → r ≡ isStarting m s e
+pub starting-ascii : (m s e : List ℕ) (r : Bool) → ascii m ≡ true → r ≡ isIdentity s e (length s) → r ≡ isStarting m s e
 unfolding isStarting
-untouched-ascii m s e r small is = rw small is
+starting-ascii m s e r small is = rw small is
 
-pub untouched-other : (m s e : List ℕ) (r : Bool) → ascii m ≡ false → r ≡ isCharAligned m s e (length m) → r ≡ isStarting m s e
+pub starting-other : (m s e : List ℕ) (r : Bool) → ascii m ≡ false → r ≡ isCharAligned m s e (length m) → r ≡ isStarting m s e
 unfolding isStarting
-untouched-other m s e r large is = rw large is
+starting-other m s e r large is = rw large is
 
-untouched-unedited : (m s e : List ℕ) → length s ≡ length m → isStarting m s e ≡ true → isCharAligned m s e (length m) ≡ true
+starting-char-aligned : (m s e : List ℕ) → length s ≡ length m → isStarting m s e ≡ true → isCharAligned m s e (length m) ≡ true
 unfolding isStarting
-untouched-unedited m s e long t =
+starting-char-aligned m s e long t =
     true-or-false (ascii m)
-    (λ small. own-unedited m s e small (rw (small, long) at t))
+    (λ small. own-char-aligned m s e small (rw (small, long) at t))
     (λ large. rw large at t)
 
 -- such a note is aligned
-pub untouched-aligned : (o m s e : List ℕ) (r : Bool) → wellFormed m ≡ true → length s ≡ length m → length e ≡ length m → o ≡ m → r ≡ isStarting m s e → r ≡ true → true ≡ aligned (lent o m s e 0)
-untouched-aligned o m s e r p long long₂ same is t =
-    rw (same, unedited-starting m s e p (untouched-unedited m s e long (sym is ∙ t)) long long₂) (sym (starting-sound m p .has-alignments))
+pub starting-aligned : (o m s e : List ℕ) (r : Bool) → wellFormed m ≡ true → length s ≡ length m → length e ≡ length m → o ≡ m → r ≡ isStarting m s e → r ≡ true → true ≡ aligned (lent o m s e 0)
+starting-aligned o m s e r p long long₂ same is t =
+    rw (same, char-aligned-starting m s e p (starting-char-aligned m s e long (sym is ∙ t)) long long₂) (sym (starting-sound m p .has-alignments))
