@@ -5,8 +5,6 @@
 //! emoji text in the regular layout, `.in_rotation([..])` for the other, and after the row `.of_regular([..])` for ours
 //! in one beside ours in the other. An aim is what two runs on a quiet machine held, with a tenth to spare. A row with
 //! an aim of another kind, or without one because ours is slower than the Rust, says why: `.because("..")`.
-//!
-//! The aims that are here now are of one run only, the one of docs/BENCHMARKS.md at 18a81de.
 
 mod buffers;
 mod characters;
@@ -68,7 +66,7 @@ named below the table. A cell in bold misses it.\n",
 type Aims = [f64; 4];
 
 /// What ours may take of the linear as a text grows from the least of the sizes.
-const LINEAR: f64 = 1.3;
+const LINEAR: f64 = 1.5;
 
 /// The columns of the table: who else is measured. A row says in its name what exactly.
 const OTHERS: [&str; 5] =

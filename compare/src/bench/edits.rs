@@ -17,15 +17,15 @@ const MIXTURE: Table =
     Table::new("`transform`, all three commands by turns, check included", UNAIMED).because(BY_COMMANDS);
 const RANGE: Table =
     Table::new("`transform_range`, one character of the cleaned text, check included", UNAIMED).because(IN_PLACE);
-const MAP: Table = Table::new("`map`, check included", &[RUST.at_most([0.11, 0.15, 0.21, 0.14]), COPYING]);
+const MAP: Table = Table::new("`map`, check included", &[RUST.at_most([0.11, 0.15, 0.21, 0.26]), COPYING]);
 const MAP_EDITED: Table = Table::new("`map` of a note with each literal replaced, check included", UNAIMED);
 const FILTER: Table =
-    Table::new("`filter`, about a third dropped, check included", &[RUST.at_most([0.16, 0.14, 0.22, 0.15]), COPYING]);
+    Table::new("`filter`, about a third dropped, check included", &[RUST.at_most([0.16, 0.14, 0.22, 0.16]), COPYING]);
 const FILTER_ALL_KEPT: Table =
-    Table::new("`filter`, all kept, check included", &[RUST.at_most([0.035, 0.038, 0.076, 0.056]), COPYING]);
+    Table::new("`filter`, all kept, check included", &[RUST.at_most([0.036, 0.039, 0.078, 0.058]), COPYING]);
 const PREPEND: Table = Table::new("`prepend` of 8 bytes, check included", UNAIMED).because(IN_PLACE);
 const APPEND: Table = Table::new("`append` of 8 bytes, check included", UNAIMED).because(IN_PLACE);
-const CLEAR: Table = Table::new("`clear`, check included", &[RUST.at_most([0.047, 0.064, 0.16, 0.12]), COPYING]);
+const CLEAR: Table = Table::new("`clear`, check included", &[RUST.at_most([0.047, 0.067, 0.16, 0.12]), COPYING]);
 
 const UNAIMED: &[Other] = &[RUST, COPYING];
 

@@ -16,7 +16,7 @@ const MANY: usize = 10_000;
 
 /// Beside `NormalizedString::split` of a list, which does not check; its pieces are freed after the clock is read.
 const SPLIT: Table =
-    Table::new("`split` into 10,000 pieces, check included", &[RUST.at_most([0.08, 0.09, 0.09, 0.094])]);
+    Table::new("`split` into 10,000 pieces, check included", &[RUST.at_most([0.082, 0.093, 0.09, 0.094])]);
 
 const CONTIGUOUS: Table = Table::new("`split` of 10,000 places that are by turns matched, Contiguous", &[RUST]);
 
@@ -33,7 +33,7 @@ const CHARACTERS: Table = Table::new(
 const BYTES: Table = Table::new("`get_splits` of 10,000 pieces, transcript, in bytes, check included", &[RUST]);
 
 const OFFSETS_GROWTH: Table =
-    Table::new("`get_splits` of 10,000 pieces, in characters, beside 1,250", &[FEWER.at_most([4.4, 2.9, 2.8, 2.6])]);
+    Table::new("`get_splits` of 10,000 pieces, in characters, beside 1,250", &[FEWER.at_most([3.2, 2.9, 2.8, 2.6])]);
 
 pub fn bench(bench: &mut Bench) {
     bench.table(&SPLIT, |texts| split(texts, Isolated));

@@ -76,7 +76,7 @@ pub record Converting (most : ℕ) (starts ends : List ℕ) (shift : ℕ) (side 
   pub ends-laid : Laying (eachSpan (λ a e. e) starts ends shift side 0 (firsts count spans₀) (lasts count spans₀)) (eachSpan (λ a e. e) starts ends shift side sum (drop k (firsts count spans₀)) (drop k (lasts count spans₀))) to₀ k to
 
 abbrev pub zero-cursor : Cursor
-zero-cursor = record { at = record { 0 = 0 }; index = record { 0 = 0 } }
+zero-cursor = record { at = 0; index = 0 }
 
 pub both-zero : {most : ℕ} {s : List ℕ} → length s ≤ most → BothKnown most s zero-cursor zero-cursor
 both-zero short = record { first-known = known-none short; last-known = known-none short }

@@ -50,7 +50,7 @@ pub cursor-at : {most : ℕ} {s : List ℕ} {at index : ℕ} → length s ≤ mo
 cursor-at short below is = record { short = short; inside = omega arith; so-far = is }
 
 -- a start where the last end was
-pub start-same : {most : ℕ} {s : List ℕ} {a : ℕ} {first last : Cursor} → BothKnown most s first last → a ≡ last .at .0 → last .index .0 ≡ indexOf s a
+pub start-same : {most : ℕ} {s : List ℕ} {a : ℕ} {first last : Cursor} → BothKnown most s first last → a ≡ last .at → last .index ≡ indexOf s a
 start-same {s = s} known is = known .last-known .so-far ∙ ap (indexOf s) (sym is)
 
 -- in a text of bytes below 80 each byte is a character

@@ -37,7 +37,7 @@ pub record Piece (most : ℕ) (starts ends : List ℕ) (shift sum a b : ℕ) : T
 
 -- a byte of the transcript whose character is known
 abbrev pub Known : ℕ → List ℕ → Cursor → Type 0
-Known most s c = IndexKnown most s (c .at .0) (c .index .0)
+Known most s c = IndexKnown most s (c .at) (c .index)
 
 -- two of them
 pub record BothKnown (most : ℕ) (s : List ℕ) (first last : Cursor) : Type 0 where

@@ -53,10 +53,11 @@ pub enum Splits {
     Refused(Refusal),
 }
 
-// A byte of the transcript whose character is known.
+// A byte of the transcript whose character is known. The loop over pieces goes on from it with plain numbers, since
+// wrapped ones take longer; `in_chars` and `index_from` take wrapped ones.
 pub struct Cursor {
-    pub at: OriginalByte,
-    pub index: CharIndex,
+    pub at: usize,
+    pub index: u32,
 }
 
 // The offsets of a piece in characters, or the bytes themselves where the transcript has none there; and a byte near
@@ -111,16 +112,21 @@ fn looked_up(side: OffsetReferential, offset: u32) -> OriginalByte
 
 // The character of the byte `from`: that of the last byte where they are the same, as along pieces without a gap; else
 // from the first one on.
-fn start_index(text: &[u8], first: Cursor, last: Cursor, from: OriginalByte) -> CharIndex
+fn start_index(text: &[u8], first: Cursor, last: Cursor, from: usize) -> u32
     requires { ⌜ BothKnown limit (now text) first last ⌝ }
-    requires { ⌜ from .0 < length (now text) ⌝ }
-    ensures { λ r. ⌜ r .0 ≡ indexOf (now (text .entry)) (from .0) ⌝ }
+    requires { ⌜ from < length (now text) ⌝ }
+    ensures { λ r. ⌜ r ≡ indexOf (now (text .entry)) from ⌝ }
 {
-    let known = last.at;
-    if from.0 == known.0 {
+    if from == last.at {
         return last.index;
     }
-    index_from(text, first.at, first.index, from)
+    let index = index_from(
+        text,
+        OriginalByte(first.at as u32),
+        CharIndex(first.index),
+        OriginalByte(from as u32),
+    );
+    index.0
 }
 
 // How many of the first `n` bytes from `from` on begin a character, of which there are at most 16: a block of 16 is
@@ -141,23 +147,26 @@ fn first_leads(text: &[u8], flags: &[u8; 32], from: usize, n: usize) -> u8
 }
 
 // The character of the byte `to`, from a byte that is most often at most 16 before it.
-fn index_after(text: &[u8], flags: &[u8; 32], last: Cursor, to: OriginalByte) -> CharIndex
+fn index_after(text: &[u8], flags: &[u8; 32], last: Cursor, to: usize) -> u32
     requires { ⌜ Known limit (now text) last × (now flags ≡ nearFlags) ⌝ }
-    requires { ⌜ to .0 < length (now text) ⌝ }
-    ensures { λ r. ⌜ r .0 ≡ indexOf (now (text .entry)) (to .0) ⌝ }
+    requires { ⌜ to < length (now text) ⌝ }
+    ensures { λ r. ⌜ r ≡ indexOf (now (text .entry)) to ⌝ }
 {
-    let known = last.at;
-    let index = last.index;
-    let at = known.0 as usize;
-    let asked = to.0 as usize;
-    if at <= asked {
-        if asked - at <= 16 {
+    let at = last.at;
+    if at <= to {
+        if to - at <= 16 {
             if at + 17 <= text.len() {
-                return CharIndex(index.0 + first_leads(text, flags, at + 1, asked - at) as u32);
+                return last.index + first_leads(text, flags, at + 1, to - at) as u32;
             }
         }
     }
-    index_from(text, known, index, to)
+    let index = index_from(
+        text,
+        OriginalByte(at as u32),
+        CharIndex(last.index),
+        OriginalByte(to as u32),
+    );
+    index.0
 }
 
 // Two bytes as characters of the text; the bytes themselves where the text has none at `start`. Starts and ends have a
@@ -173,8 +182,9 @@ fn in_chars(
     requires { ⌜ BothKnown limit (now text) first last × (now flags ≡ nearFlags) ⌝ }
     ensures { λ r. ⌜ Stepped limit (now (text .entry)) (start .0) (end .0) r ⌝ }
 {
+    let from = start.0 as usize;
     let to = end.0 as usize;
-    if text.len() <= start.0 as usize {
+    if text.len() <= from {
         return Offsets {
             start: start.0,
             end: end.0,
@@ -182,27 +192,23 @@ fn in_chars(
             last,
         };
     }
-    let index = start_index(text, first, last, start);
-    let first = Cursor { at: start, index };
+    let index = start_index(text, first, last, from);
+    let first = Cursor { at: from, index };
     if text.len() < to {
         return Offsets {
-            start: index.0,
-            end: index.0 + 2,
+            start: index,
+            end: index + 2,
             first,
             last,
         };
     }
     let at = least_of_two(to, text.len() - 1);
-    let byte = OriginalByte(at as u32);
-    let past = index_after(text, flags, last, byte);
+    let past = index_after(text, flags, last, at);
     Offsets {
-        start: index.0,
-        end: past.0 + (to - at) as u32,
+        start: index,
+        end: past + (to - at) as u32,
         first,
-        last: Cursor {
-            at: byte,
-            index: past,
-        },
+        last: Cursor { at, index: past },
     }
 }
 
@@ -285,10 +291,7 @@ fn count_chars(
 {
     let mut flags = [0u8; 32];
     fill_bytes(1, 16, &mut flags, 0);
-    let mut first = Cursor {
-        at: OriginalByte(0),
-        index: CharIndex(0),
-    };
+    let mut first = Cursor { at: 0, index: 0 };
     let mut last = first;
     let mut k = 0;
     while k < count {

@@ -8,35 +8,35 @@ use Rattle.split_offsets.proofs.Numbered.{cursor-at, end-near, unmapped
 use Rattle.split_offsets.proofs.in_chars.Statement.{statement}
 use Rattle.split_offsets.proofs.in_chars.Tie as tie
 
-add-two : tie.Need-add-t16
+add-two : tie.Need-add-t15
 add-two c =
-    let entry = c .before .before .before .before .before .before .before in
-    omega (arith, c .before .before .start-index .ensures, index-most (entry .args .text .now) (entry .args .start .0), entry .pre .0 .first-known .short)
+    let entry = c .before .before .before .before .before .before in
+    omega (arith, c .before .start-index .ensures, index-most (entry .args .text .now) (entry .args .start .0), entry .pre .0 .first-known .short)
 
 returns-2 : tie.Need-returns-2
 returns-2 c =
-    let entry = c .before .before .before .before .before .before .before in
+    let entry = c .before .before .before .before .before .before in
     let args = entry .args in
-    let below = c .before .before .before .if1 .left in
-    let first = c .before .before .start-index .ensures in
+    let below = c .before .before .if1 .left in
+    let first = c .before .start-index .ensures in
     mapped-chars _ _ _ (record { first-known = cursor-at (entry .pre .0 .first-known .short) below first; last-known = entry .pre .0 .last-known }) below first
-    (omega (arith, first, end-past (args .start .0) (args .end .0) below (c .before .if2 .taken) .right (args .text .now) refl))
+    (omega (arith, first, end-past (args .start .0) (args .end .0) below (c .if2 .taken) .right (args .text .now) refl))
 
 add-past : tie.Need-add-t18
 add-past c =
-    let entry = c .before .before .before .before .before .before .before .before .before in
-    let at = c .before .before .least-of-two in
-    omega (arith, c .before .index-after .ensures, at .ensures, index-most (entry .args .text .now) (at .result), entry .pre .0 .last-known .short)
+    let entry = c .before .before .before .before .before .before .before .before in
+    let at = c .before .least-of-two in
+    omega (arith, c .index-after .ensures, at .ensures, index-most (entry .args .text .now) (at .result), entry .pre .0 .last-known .short)
 
 returns-3 : tie.Need-returns-3
 returns-3 c =
-    let entry = c .before .before .before .before .before .before .before .before .before in
-    let below = c .before .before .before .before .before .if1 .left in
-    let first = c .before .before .before .before .start-index .ensures in
-    let at = c .before .before .least-of-two .ensures in
-    let last = cursor-at (entry .pre .0 .last-known .short) (omega (arith, at)) (c .before .index-after .ensures) in
+    let entry = c .before .before .before .before .before .before .before .before in
+    let below = c .before .before .before .before .if1 .left in
+    let first = c .before .before .before .start-index .ensures in
+    let at = c .before .least-of-two .ensures in
+    let last = cursor-at (entry .pre .0 .last-known .short) (omega (arith, at)) (c .index-after .ensures) in
     mapped-chars _ _ _ (record { first-known = cursor-at (entry .pre .0 .first-known .short) below first; last-known = last }) below first
-    (end-near _ _ _ below (c .before .before .before .if2 .left) at (c .before .index-after .ensures))
+    (end-near _ _ _ below (c .before .before .if2 .left) at (c .index-after .ensures))
 
 pub in-chars-spec : {M : Type 1} → statement M
 in-chars-spec =
@@ -47,9 +47,7 @@ in-chars-spec =
     (λ c κs. search needs)
     add-two
     returns-2
-    (λ c. search needs) (λ c κs. search needs)
-    (λ c. omega (arith, c .least-of-two .ensures, c .before .before .before .before .before .before .before .pre .0 .first-known .short))
-    (λ c κs. ((c .before .before .before .before .before .before .before .pre .0 .last-known, c .before .before .before .before .before .before .before .pre .1), omega (arith, c .least-of-two .ensures)))
+    (λ c. search needs) (λ c κs. search needs) (λ c κs. search needs)
     (λ c. search needs) (λ c. search needs)
     add-past
     returns-3)

@@ -8,6 +8,7 @@ pub start-index-spec : {M : Type 1} → statement M
 start-index-spec =
     tie.close
     (tie.spec
-    (λ c. start-same (c .before .before .before .before .before .before .pre .0) (c .before .if1 .taken))
+    (λ c. start-same (c .before .before .before .pre .0) (c .if1 .taken))
+    (λ c. search needs) (λ c. search needs)
     (λ c κs. search needs)
     (λ c. search needs))
