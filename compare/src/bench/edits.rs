@@ -25,7 +25,7 @@ const FILTER_ALL_KEPT: Table =
     Table::new("`filter`, all kept, check included", &[RUST.at_most([0.036, 0.039, 0.078, 0.058]), COPYING]);
 const PREPEND: Table = Table::new("`prepend` of 8 bytes, check included", UNAIMED).because(IN_PLACE);
 const APPEND: Table = Table::new("`append` of 8 bytes, check included", UNAIMED).because(IN_PLACE);
-const CLEAR: Table = Table::new("`clear`, check included", &[RUST.at_most([0.047, 0.067, 0.16, 0.12]), COPYING]);
+const CLEAR: Table = Table::new("`clear`, check included", &[RUST.at_most([0.054, 0.072, 0.16, 0.14]), COPYING]);
 
 const UNAIMED: &[Other] = &[RUST, COPYING];
 

@@ -24,7 +24,7 @@ const THREE_CALLS: Table =
 
 const REDACT: Table = Table::new(
     "`redact`: finding, checks and alignments included",
-    &[RUST.at_most([0.07, 0.076, 0.095, 0.11]), COPYING.at_most([4.4, 5.3, 5.5, 8.2])],
+    &[RUST.at_most([0.07, 0.076, 0.095, 0.11]), COPYING.at_most([4.4, 7.0, 5.5, 8.2])],
 )
 .of_regular([1.6, 1.6, 1.7, 1.2]);
 
