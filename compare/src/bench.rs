@@ -3,7 +3,7 @@
 //!
 //! The aims are below `bench`, beside the rows: `RUST.at_most([0.61, 0.11, 0.14, 0.29])` for ASCII, mixed, CJK and
 //! emoji text in the regular layout, `.in_rotation([..])` for the other, and after the row `.of_regular([..])` for ours
-//! in one beside ours in the other. An aim is what two runs on a quiet machine held, with a tenth to spare. A row with
+//! in one beside ours in the other. An aim is what earlier runs held, with a tenth to spare. A row with
 //! an aim of another kind, or without one because ours is slower than the Rust, says why: `.because("..")`.
 
 mod buffers;
@@ -53,7 +53,7 @@ fn heading() {
 regular: a literal every 45 bytes; the best of up to {} runs, {RUNS} of ours and {RUNS} of theirs by turns.
 rotation: 12 texts with 13 to 63 bytes between literals, one after the other, so that none is learned; the mean over
 them of the best half of each one's runs. From `replace` on, what is freed stays with the process: theirs takes no fresh
-pages from the system. A number after ≤ is an aim: what two runs held, with a tenth to spare, where no other reason is
+pages from the system. A number after ≤ is an aim: what earlier runs held, with a tenth to spare, where no other reason is
 named below the table. A cell in bold misses it.\n",
         layouts::LEN,
         ROUNDS * RUNS
@@ -123,7 +123,7 @@ struct Table {
     others: &'static [Other],
     /// What ours in rotation may take of ours in the regular layout.
     of_regular: Option<Aims>,
-    /// Why there is no aim, or one of another kind than two runs held with a tenth to spare.
+    /// Why there is no aim, or one of another kind than earlier runs held with a tenth to spare.
     reason: Option<&'static str>,
 }
 
