@@ -178,8 +178,8 @@ impl Bench {
             return;
         }
         for (kind, texts) in self.texts.iter().enumerate() {
-            let regular = table.times(&mut sides(&texts.regular), 1);
-            let rotation = table.times(&mut sides(&texts.irregular), texts.irregular.len());
+            let groups = [(sides(&texts.regular), 1), (sides(&texts.irregular), texts.irregular.len())];
+            let [regular, rotation] = table.times(groups);
             let of_regular = rotation[0] / regular[0];
             let (text, kind) = (texts.name, Some(kind));
             let regular = Line { text, kind, layout: Layout::Regular, times: regular, of_regular: None };
@@ -203,9 +203,9 @@ impl Bench {
     }
 
     /// A row of a table on one text of its own, for which no aims are given.
-    fn row(&mut self, table: &Table, text: &str, mut sides: Vec<Side>) {
+    fn row(&mut self, table: &Table, text: &str, sides: Vec<Side>) {
         if self.begins(table) {
-            let times = table.times(&mut sides, 1);
+            let [times] = table.times([(sides, 1)]);
             let line = Line { text, kind: None, layout: Layout::Regular, times, of_regular: None };
             table.print(&mut self.report, &line);
         }
@@ -243,15 +243,16 @@ impl Table {
         Table { reason: Some(reason), ..self }
     }
 
-    /// The time of ours, without what is taken off it, and of each other.
-    fn times(&self, sides: &mut [Side], texts: usize) -> Vec<f64> {
-        let mut times = times(sides, texts);
-        if self.beyond.is_some() {
-            let taken = times.remove(1);
-            times[0] -= taken;
-        }
-        assert_eq!(times.len(), 1 + self.others.len(), "{}", self.name);
-        times
+    /// For each group of sides the time of ours, without what is taken off it, and of each other.
+    fn times<const N: usize>(&self, groups: [(Vec<Side>, usize); N]) -> [Vec<f64>; N] {
+        times(groups).map(|mut times| {
+            if self.beyond.is_some() {
+                let taken = times.remove(1);
+                times[0] -= taken;
+            }
+            assert_eq!(times.len(), 1 + self.others.len(), "{}", self.name);
+            times
+        })
     }
 
     /// A line; where an aim is given for its text and layout, it is counted as held or missed.
@@ -285,34 +286,62 @@ fn cell(report: &mut Report, ratio: f64, beside: &str, aim: Option<f64>) -> Stri
     }
 }
 
-/// In microseconds: on each text the best run.
+/// In microseconds: on each text the best run. The texts go by turns.
 fn growth(ours: &mut Side, texts: &[Marked]) -> Vec<f64> {
-    let best = |i| (0..ROUNDS * RUNS / 4).map(|_| ours(i)).min().expect("a run").as_secs_f64() * 1e6;
-    (0..texts.len()).map(best).collect()
-}
-
-/// In microseconds: on one text the best run, on several the mean over them of the best half of each one's runs.
-fn times(sides: &mut [Side], texts: usize) -> Vec<f64> {
-    let mut runs: Vec<Vec<Vec<Duration>>> = vec![vec![vec![]; texts]; sides.len()];
-    let mut taken = vec![Duration::ZERO; sides.len()];
-    for round in 0..ROUNDS {
-        for ((side, runs), taken) in sides.iter_mut().zip(&mut runs).zip(&mut taken) {
-            if round >= FEWEST && *taken > ENOUGH {
-                continue;
-            }
-            let begin = Instant::now();
-            for i in 0..RUNS {
-                runs[i % texts].push(side(i % texts));
-            }
-            *taken += begin.elapsed();
+    let mut best = vec![Duration::MAX; texts.len()];
+    for _ in 0..ROUNDS / 4 {
+        for (i, best) in best.iter_mut().enumerate() {
+            *best = (0..RUNS).map(|_| ours(i)).fold(*best, Duration::min);
         }
     }
-    let best = |mut runs: Vec<Duration>| {
-        runs.sort();
-        runs.truncate(if texts == 1 { 1 } else { runs.len() / 2 });
-        runs.iter().sum::<Duration>().as_secs_f64() * 1e6 / runs.len() as f64
-    };
-    runs.into_iter().map(|runs| runs.into_iter().map(best).sum::<f64>() / texts as f64).collect()
+    best.into_iter().map(in_micros).collect()
+}
+
+/// In microseconds: what each side of each group took. A group has its sides and how many texts they go through. All
+/// sides of all groups go by turns, so that a slow spell of the machine meets each of them.
+fn times<const N: usize>(groups: [(Vec<Side>, usize); N]) -> [Vec<f64>; N] {
+    let mut groups = groups.map(|(sides, texts)| -> Vec<Runs> {
+        sides.into_iter().map(|side| Runs { side, times: vec![vec![]; texts], taken: Duration::ZERO }).collect()
+    });
+    for round in 0..ROUNDS {
+        for runs in groups.iter_mut().flatten().filter(|runs| round < FEWEST || runs.taken <= ENOUGH) {
+            runs.round();
+        }
+    }
+    groups.map(|group| group.into_iter().map(Runs::time).collect())
+}
+
+/// A side, the times of its runs on each text, and how long its rounds took.
+struct Runs<'a> {
+    side: Side<'a>,
+    times: Vec<Vec<Duration>>,
+    taken: Duration,
+}
+
+impl Runs<'_> {
+    fn round(&mut self) {
+        let begin = Instant::now();
+        for i in 0..RUNS {
+            let text = i % self.times.len();
+            self.times[text].push((self.side)(text));
+        }
+        self.taken += begin.elapsed();
+    }
+
+    /// In microseconds: on one text the best run, on several the mean over them of the best half of each one's runs.
+    fn time(self) -> f64 {
+        let texts = self.times.len();
+        let best = |mut times: Vec<Duration>| {
+            times.sort();
+            times.truncate(if texts == 1 { 1 } else { times.len() / 2 });
+            in_micros(times.iter().sum()) / times.len() as f64
+        };
+        self.times.into_iter().map(best).sum::<f64>() / texts as f64
+    }
+}
+
+fn in_micros(time: Duration) -> f64 {
+    time.as_secs_f64() * 1e6
 }
 
 /// A side by its function from a text's number.

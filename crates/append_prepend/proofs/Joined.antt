@@ -182,13 +182,17 @@ module _ (most : ℕ) (n : Note) (string : List ℕ) {u v w : Verdict} (noted : 
         some-made :
             prepended n string
             ≡ lent (n .original) (string ++ n .normalized)
-            (replicate (length string + announced (getD (n .normalized) 0 0)) (frontOf string (n .starts)) ++ drop (announced (getD (n .normalized) 0 0)) (n .starts)) (replicate (length string + announced (getD (n .normalized) 0 0)) (frontOf string (n .ends)) ++ drop (announced (getD (n .normalized) 0 0)) (n .ends)) (n .original-shift)
+            (replicate (length string + announced (getD (n .normalized) 0 0)) (frontOf string (n .starts)) ++ drop (announced (getD (n .normalized) 0 0)) (n .starts))
+            (replicate (length string + announced (getD (n .normalized) 0 0)) (frontOf string (n .ends)) ++ drop (announced (getD (n .normalized) 0 0)) (n .ends))
+            (n .original-shift)
         unfolding prepended
         some-made = rw (ne-eqb (length (n .normalized)) 0 more)
 
         there : Makes n (prependEdit n string)
             (lent (n .original) (string ++ n .normalized)
-            (replicate (length string + announced (getD (n .normalized) 0 0)) (frontOf string (n .starts)) ++ drop (announced (getD (n .normalized) 0 0)) (n .starts)) (replicate (length string + announced (getD (n .normalized) 0 0)) (frontOf string (n .ends)) ++ drop (announced (getD (n .normalized) 0 0)) (n .ends)) (n .original-shift))
+            (replicate (length string + announced (getD (n .normalized) 0 0)) (frontOf string (n .starts)) ++ drop (announced (getD (n .normalized) 0 0)) (n .starts))
+            (replicate (length string + announced (getD (n .normalized) 0 0)) (frontOf string (n .ends)) ++ drop (announced (getD (n .normalized) 0 0)) (n .ends))
+            (n .original-shift))
         there = rw some-made at before
 
         far : length (string ++ n .normalized) ≡ length string + length (n .normalized)

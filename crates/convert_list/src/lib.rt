@@ -236,8 +236,8 @@ pub fn convert_list(
         (now (numbers .exit)) (now («out_starts» .exit)) (now («out_ends» .exit)) ⌝ }
 {
     let checked = check_note(original, normalized, starts, ends, original_shift);
-    let uneven = refused_if(from.len() != to.len(), Refusal::LengthMismatch);
-    if let Verdict::Refused(k) = earlier(checked, uneven) {
+    let unpaired = refused_if(from.len() != to.len(), Refusal::LengthMismatch);
+    if let Verdict::Refused(k) = earlier(checked, unpaired) {
         return Verdict::Refused(k);
     }
     if least_room(numbers.len(), out_starts.len(), out_ends.len()) < from.len() {

@@ -56,16 +56,16 @@ module _ (most : ℕ) (n : Note) (codes : List ℕ) {v : Verdict} (noted : v ≡
       number : m ≡ chars (n .normalized)
       number = counted ∙ sym (chars-leads (n .normalized) (normalized-formed n (accepted-sound most n (sym noted ∙ ok) .0)))
 
-      uneven : (length codes ≡ m → ⊥) → Rejected CountMismatch ≡ verdict (codesFaults (n .normalized) codes)
+      count-verdict : (length codes ≡ m → ⊥) → Rejected CountMismatch ≡ verdict (codesFaults (n .normalized) codes)
       unfolding verdict
-      uneven h = rw (sym is ∙ not-false t u, ne-eqb (length codes) (chars (n .normalized)) (λ z. h (z ∙ sym number)))
+      count-verdict h = rw (sym is ∙ not-false t u, ne-eqb (length codes) (chars (n .normalized)) (λ z. h (z ∙ sym number)))
 
       even : length codes ≡ m → Accepted ≡ verdict (codesFaults (n .normalized) codes)
       unfolding verdict
       even h = rw (sym is ∙ not-false t u, eq-eqb (length codes) (chars (n .normalized)) (h ∙ number))
 
-      pub miscounted : (length codes ≡ m → ⊥) → Rejected CountMismatch ≡ verdict (also (noteFaults most n) (codesFaults (n .normalized) codes))
-      miscounted h = second (uneven h)
+      pub count-refused : (length codes ≡ m → ⊥) → Rejected CountMismatch ≡ verdict (also (noteFaults most n) (codesFaults (n .normalized) codes))
+      count-refused h = second (count-verdict h)
 
       pub well-counted : length codes ≡ m → Accepted ≡ verdict (also (noteFaults most n) (codesFaults (n .normalized) codes))
       well-counted h = second (even h)

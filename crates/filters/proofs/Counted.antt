@@ -48,16 +48,16 @@ module _ (most : ℕ) (n : Note) (flags : List ℕ) {v : Verdict} (noted : v ≡
     pub flag-each : length flags ≡ m → length flags ≡ chars (n .normalized)
     flag-each h = h ∙ number
 
-    uneven : (length flags ≡ m → ⊥) → Rejected CountMismatch ≡ verdict (flagFaults (n .normalized) flags)
+    count-verdict : (length flags ≡ m → ⊥) → Rejected CountMismatch ≡ verdict (flagFaults (n .normalized) flags)
     unfolding verdict
-    uneven h = rw (ne-eqb (length flags) (chars (n .normalized)) (λ z. h (z ∙ sym number)))
+    count-verdict h = rw (ne-eqb (length flags) (chars (n .normalized)) (λ z. h (z ∙ sym number)))
 
     even : length flags ≡ m → Accepted ≡ verdict (flagFaults (n .normalized) flags)
     unfolding verdict
     even h = rw (eq-eqb (length flags) (chars (n .normalized)) (h ∙ number))
 
-    pub miscounted : (length flags ≡ m → ⊥) → Rejected CountMismatch ≡ verdict (also (noteFaults most n) (flagFaults (n .normalized) flags))
-    miscounted h = accepted-then (upTo Misaligned) (noteFaults most n) (flagFaults (n .normalized) flags) refl refl noted ok (uneven h)
+    pub count-refused : (length flags ≡ m → ⊥) → Rejected CountMismatch ≡ verdict (also (noteFaults most n) (flagFaults (n .normalized) flags))
+    count-refused h = accepted-then (upTo Misaligned) (noteFaults most n) (flagFaults (n .normalized) flags) refl refl noted ok (count-verdict h)
 
     pub well-counted : length flags ≡ m → Accepted ≡ verdict (also (noteFaults most n) (flagFaults (n .normalized) flags))
     well-counted h = accepted-then (upTo Misaligned) (noteFaults most n) (flagFaults (n .normalized) flags) refl refl noted ok (even h)

@@ -8,11 +8,12 @@ use redact_note::Redaction;
 use redact_note::redact_note;
 ghost use mathlib.Core.Path.{_≡_};
 ghost use lib.ListN.{length};
+ghost use Prim.Native.Nat.{_+_, _*_};
 ghost use Rattle.note.specs.Notes.{limit};
+ghost use Rattle.pattern.specs.Encoding.{roomFor};
 ghost use Rattle.redact_in_place.specs.InPlace.{Held, InPlace};
 
-// Room for the list of any literal's matches: one place for each match, one before each, and one after the last
-// (RULES 9.6).
+// The longest list of a literal's matches: one place for each match, one before each, and one after the last (RULES 9.6).
 const LIST: usize = MAX_PLACE_LEN * (2 * LIMIT + 1);
 
 // Room for the longest text.
@@ -27,6 +28,13 @@ pub fn column_buffer() -> [Offset; LIMIT]
     ensures { λ r. ⌜ limit ≡ length r ⌝ }
 {
     [0; LIMIT]
+}
+
+// Room for the list of any literal's matches.
+fn list_buffer() -> [u8; LIST]
+    ensures { λ r. ⌜ roomFor (2 * limit + 1) ≡ length r ⌝ }
+{
+    [0; LIST]
 }
 
 // Blanks every match of the literal in the note of the first `size` bytes of `text` and alignments of `starts` and
@@ -45,7 +53,7 @@ pub fn redact_in_place(
         (now (text .entry)) (now (starts .entry)) (now (ends .entry))
         r (now (text .exit)) (now (starts .exit)) (now (ends .exit)) ⌝ }
 {
-    let mut list = [0u8; LIST];
+    let mut list = list_buffer();
     let mut out = text_buffer();
     let mut out_starts = column_buffer();
     let mut out_ends = column_buffer();

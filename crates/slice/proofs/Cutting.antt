@@ -126,8 +126,8 @@ module _ (n : Note) (sound : Sound n) where
       }
 
   -- a range of the cleaned text
-  pub cleaned-cutting : (c d : ℕ) → c ≤ d → boundary (n .normalized) c ≡ true → boundary (n .normalized) d ≡ true → Cutting n (inNormalized c d)
-  cleaned-cutting c d h bc bd =
+  pub normalized-cutting : (c d : ℕ) → c ≤ d → boundary (n .normalized) c ≡ true → boundary (n .normalized) d ≡ true → Cutting n (inNormalized c d)
+  normalized-cutting c d h bc bd =
       let most : d ≤ length (n .normalized) = boundary-most (n .normalized) d bd in
       le-or-lt d c
       (λ empty.
@@ -216,7 +216,7 @@ module _ (n : Note) (sound : Sound n) where
       let bx : boundary (n .normalized) (x .0) ≡ true = and-elim-left _ (boundary (n .normalized) (y .0)) v in
       let by : boundary (n .normalized) (y .0) ≡ true = and-elim-right (boundary (n .normalized) (x .0)) _ v in
       le-or-lt (x .0) (y .0)
-      (λ h. cleaned-cutting n sound (x .0) (y .0) h bx by)
+      (λ h. normalized-cutting n sound (x .0) (y .0) h bx by)
       (λ reversed. clash (missing o) (reversed-original (n .starts) (n .ends) (x .0) (y .0) reversed) (all .0))
   cutting (Original x y) v m =
       let c : Converted = asNormalized (n .starts) (n .ends) (Original x y) in

@@ -13,7 +13,7 @@ use Rattle.slice.specs.Slicing.{sliceOf, sliced}
 use Rattle.slice.specs.Bytes.{Has, HasBytes, SliceBytes}
 use Rattle.slice.proofs.Cutting.{Cutting, original-empty, normalized-own, original-own, normalized-empty, normalized-found, reversed-original, reversed-normalized}
 use Rattle.slice.proofs.Judged.{accepted-note, accepted-cutting}
-use Rattle.slice.proofs.SliceNotes.{cleaned-sliced}
+use Rattle.slice.proofs.SliceNotes.{normalized-sliced}
 
 module _ (n : Note) where
   bytes-forward : (range : Range) → Cutting n range → startOf range ≤ endOf range
@@ -45,7 +45,7 @@ module _ (n : Note) where
   unfolding sliced sliceOf
   bytes-some sound (Normalized x y) k h =
       let end : y .0 ≡ k .d = ap endIn (sym (normalized-own (n .starts) (n .ends) (x .0) (y .0)) ∙ k .normalized-is) in
-      let is = cleaned-sliced n (x .0) (y .0) h (omega (arith, k .inside, length-ends n sound)) in
+      let is = normalized-sliced n (x .0) (y .0) h (omega (arith, k .inside, length-ends n sound)) in
       rw is (record { original-from = refl; original-to = refl; normalized-from = refl; normalized-to = refl })
   bytes-some sound (Original x y) k h = (
     record {

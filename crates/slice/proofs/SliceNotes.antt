@@ -180,13 +180,13 @@ boundary-of-part s c d e stands h most =
 
 -- a range of the cleaned text that has a byte
 module _ (n : Note) (c d : ℕ) (some : c < d) (most : d ≤ length (n .ends)) where
-  pub cleaned-sliced : sliced n (inNormalized c d) ≡ sliceOf (Found (inOriginal (startAt n c) (endAt n (d - 1)))) (Found (inNormalized c d)) (n .original-shift)
+  pub normalized-sliced : sliced n (inNormalized c d) ≡ sliceOf (Found (inOriginal (startAt n c) (endAt n (d - 1)))) (Found (inNormalized c d)) (n .original-shift)
   unfolding sliced
-  cleaned-sliced = rw (original-found (n .starts) (n .ends) c d some most, ← expanded-inside (n .starts) (n .ends) c d most, normalized-own (n .starts) (n .ends) c d)
+  normalized-sliced = rw (original-found (n .starts) (n .ends) c d some most, ← expanded-inside (n .starts) (n .ends) c d most, normalized-own (n .starts) (n .ends) c d)
 
-  cleaned-note : normalizedSlice n c d ≡ noteAt n (startAt n c) (endAt n (d - 1)) c d
+  normalized-note : normalizedSlice n c d ≡ noteAt n (startAt n c) (endAt n (d - 1)) c d
   unfolding sliceNote slicedColumn sliceOf
-  cleaned-note = rw cleaned-sliced
+  normalized-note = rw normalized-sliced
 
 note-same : {o n s e o₁ n₁ s₁ e₁ : List ℕ} {shift shift₁ : ℕ} → o ≡ o₁ → n ≡ n₁ → s ≡ s₁ → e ≡ e₁ → shift ≡ shift₁ → lent o n s e shift ≡ lent o₁ n₁ s₁ e₁ shift₁
 note-same p q r t u = rw (p, q, r, t, u)
@@ -242,11 +242,11 @@ slice-of-slice most n c d e f room ok some less fits =
     let in-text : d ≤ length (n .normalized) = boundary-most (n .normalized) d bd in
     let in-ends : d ≤ length (n .ends) = omega (arith, length-ends n sound) in
     let outer : Note = noteAt n (startAt n c) (endAt n (d - 1)) c d in
-    let is : normalizedSlice n c d ≡ outer = cleaned-note n c d some in-ends in
+    let is : normalizedSlice n c d ≡ outer = normalized-note n c d some in-ends in
     let long : length (outer .ends) ≡ d - c = length-lowered (startAt n c) (part (n .ends) c d) ∙ length-part (n .ends) c d in-ends in
     rw is (
       rw (boundary-of-part (n .normalized) c d e bd (omega arith) (omega arith), boundary-of-part (n .normalized) c d f bd (omega arith) fits),
-      cleaned-note outer e f less (omega (arith, long))
+      normalized-note outer e f less (omega (arith, long))
           ∙ slice-again n sound c d e f some less fits in-text
-          ∙ sym (cleaned-note n (c + e) (c + f) (omega arith) (omega arith)),
+          ∙ sym (normalized-note n (c + e) (c + f) (omega arith) (omega arith)),
     )

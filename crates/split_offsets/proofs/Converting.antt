@@ -144,7 +144,9 @@ module _ {most : ℕ} {starts ends : List ℕ} {shift count : ℕ} {spans₀ to�
             }
 
         each-here : (number : ℕ → ℕ → ℕ)
-            → eachSpan number starts ends shift side sum (drop k (firsts count spans₀)) (drop k (lasts count spans₀)) ≡ (number (fromByte starts shift side sum a) (toByte ends shift side sum a b) ∷ []) ++ eachSpan number starts ends shift side (sum + (b - a)) (drop (k + 1) (firsts count spans₀)) (drop (k + 1) (lasts count spans₀))
+            → eachSpan number starts ends shift side sum (drop k (firsts count spans₀)) (drop k (lasts count spans₀))
+            ≡ (number (fromByte starts shift side sum a) (toByte ends shift side sum a b) ∷ [])
+            ++ eachSpan number starts ends shift side (sum + (b - a)) (drop (k + 1) (firsts count spans₀)) (drop (k + 1) (lasts count spans₀))
         unfolding eachSpan
         each-here number = rw (from-here, to-here)
 

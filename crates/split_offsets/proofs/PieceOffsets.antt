@@ -28,7 +28,7 @@ use Rattle.pattern.specs.Places.{coversFrom}
 use Rattle.pattern.proofs.Places.{Span, covers-span, covers-rest}
 use Rattle.slice.specs.declared.NoteSlice.{NoteSlice}
 use Rattle.slice.specs.Slicing.{sliceOf}
-use Rattle.slice.proofs.SliceNotes.{cleaned-sliced}
+use Rattle.slice.proofs.SliceNotes.{normalized-sliced}
 use Rattle.behaviors.specs.declared.SplitDelimiterBehavior.{SplitDelimiterBehavior}
 use Rattle.behaviors.specs.declared.EmptyPieces.the-variants.{Dropped}
 use Rattle.behaviors.specs.Splits.{splits, isDropped, isPiece, remaining, pieces}
@@ -77,7 +77,7 @@ module _ (n : Note) (sound : Sound n) (p : Place) (some : p .start .0 < p .end .
 
   piece-is : pieceOf n p ≡ sliceOf (Found (inOriginal (startAt n (p .start .0)) (endAt n (p .end .0 - 1)))) (Found (inNormalized (p .start .0) (p .end .0))) (n .original-shift)
   unfolding pieceOf
-  piece-is = cleaned-sliced n (p .start .0) (p .end .0) some in-ends
+  piece-is = normalized-sliced n (p .start .0) (p .end .0) some in-ends
 
   pub start-byte : (side : OffsetReferential) → startByte n side sum p ≡ fromByte (n .starts) (n .original-shift) side sum (p .start .0)
   unfolding startByte fromByte sliceOf

@@ -78,9 +78,9 @@ module _ (most : ℕ) (s : List ℕ) (e : Edit) (room : ℕ) (a : verdict (editF
 
 -- the edit's part of the verdict, by what the code tests
 module _ (most : ℕ) (s : List ℕ) (e : Edit) (room : ℕ) where
-  pub off-place : charRange s (e .from) (e .to) ≡ false → Rejected NotBoundary ≡ verdict (editFaults most s e room)
+  pub not-boundary : charRange s (e .from) (e .to) ≡ false → Rejected NotBoundary ≡ verdict (editFaults most s e room)
   unfolding verdict
-  off-place p = rw p
+  not-boundary p = rw p
 
   pub starving : charRange s (e .from) (e .to) ≡ true → starved s (e .to) (firstPosition s e) (e .commands) ≡ true → Rejected Exhausted ≡ verdict (editFaults most s e room)
   unfolding verdict
@@ -121,7 +121,7 @@ module _ (most : ℕ) {s starts ends : List ℕ} (ed : Editable s starts ends) (
 
   pub not-placed : not t ≡ true → Made (Refusing NotBoundary) out₀ starts₀ ends₀
   unfolding e rooms
-  not-placed u = refused-rewritten (off-place most s e rooms (sym is ∙ not-true t u))
+  not-placed u = refused-rewritten (not-boundary most s e rooms (sym is ∙ not-true t u))
 
   module _ (u : not t ≡ false) {table : List ℕ} (tab : table ≡ lengthTable) where
     is-placed : charRange s a b ≡ true

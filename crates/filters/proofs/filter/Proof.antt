@@ -8,7 +8,7 @@ use Rattle.note.specs.Faults.{noteFaults}
 use Rattle.transform.proofs.Verdicts.{inputs-refused, inputs-accepted, note-columns, note-editable}
 use Rattle.edits.specs.Whole.{filterEdit}
 use Rattle.edits.proofs.Inputs.{note-short}
-use Rattle.filters.proofs.Counted.{flagFaults, note-first, flag-each, miscounted, well-counted, filter-found, filter-none}
+use Rattle.filters.proofs.Counted.{flagFaults, note-first, flag-each, count-refused, well-counted, filter-found, filter-none}
 use Rattle.filters.proofs.Spanned.{range-ready}
 use Rattle.filters.proofs.filter.Statement.{statement}
 use Rattle.filters.proofs.filter.Tie as tie
@@ -38,7 +38,7 @@ returns c =
     let given = entry (told .before .before) .args in
     let note = note (entry (told .before .before)) in
     inputs-refused limit note (also (noteFaults limit note) (flagFaults (given .normalized .now) (given .flags .now))) refl (filterEdit note (given .flags .now)) (given .out .now) (given .out-starts .now) (given .out-ends .now)
-    (miscounted limit note (given .flags .now) (told .before .before .check-note .ensures) (told .enum-told .given .1) (c .before .count-leads .ensures) (c .if1 .taken)) refl
+    (count-refused limit note (given .flags .now) (told .before .before .check-note .ensures) (told .enum-told .given .1) (c .before .count-leads .ensures) (c .if1 .taken)) refl
 
 filter-range-requires : tie.Need-filter-range-requires
 filter-range-requires c κs =

@@ -13,7 +13,7 @@ use Rattle.redact_in_place.proofs.redact_in_place.Tie as tie
 
 -- the places that others are told by: the entry, where there are buffers, where the note is redacted, where that is published, and where the text and the first column are copied
 abbrev entry : tie.After-column-buffer2 → tie.Start
-entry c = c .before .before .before .before .before .before .before .before .before
+entry c = c .before .before .before .before .before .before .before .before .before .before
 
 abbrev made : tie.After-redact-note → tie.After-column-buffer2
 made c = c .before .before .before .before .before .before .before .before
@@ -28,7 +28,6 @@ abbrev copied : tie.After-copy-offsets → tie.After-copy-bytes
 copied c = c .before .before .before .before .before
 
 returns : tie.Need-returns
-unfolding roomFor
 returns c =
     let started = c .before .before .before .before .before .before .before in
     let copied = copied started in
@@ -36,7 +35,7 @@ returns c =
     record {
       list₀ = _;
       list = _;
-      list-room = length-replicate {0} {A = ℕ} (roomFor (2 * limit + 1)) 0;
+      list-room = sym (made .before .before .before .list-buffer .ensures);
       call =
           moved-published (called (told copied) .redact-note .ensures) _ _ _ (sym (made .before .before .text-buffer .ensures) ∙ sym (entry made .pre .text-long))
           (sym (made .before .column-buffer .ensures) ∙ sym (entry made .pre .starts-long)) (sym (made .column-buffer2 .ensures) ∙ sym (entry made .pre .ends-long))
@@ -44,14 +43,13 @@ returns c =
     }
 
 returns-2 : tie.Need-returns-2
-unfolding roomFor
 returns-2 c =
     let called = c .before .before .before .before .before .before .before in
     let made = made called in
     record {
       list₀ = _;
       list = _;
-      list-room = length-replicate {0} {A = ℕ} (roomFor (2 * limit + 1)) 0;
+      list-room = sym (made .before .before .before .list-buffer .ensures);
       call =
           moved-refused (called .redact-note .ensures) _ _ _ (sym (made .before .before .text-buffer .ensures) ∙ sym (entry made .pre .text-long))
           (sym (made .before .column-buffer .ensures) ∙ sym (entry made .pre .starts-long)) (sym (made .column-buffer2 .ensures) ∙ sym (entry made .pre .ends-long))
@@ -62,7 +60,7 @@ pub redact-in-place-spec : {M : Type 1} → statement M
 redact-in-place-spec =
     tie.close
     (tie.spec
-    (λ c κs. search needs) (λ c κs. search needs) (λ c κs. search needs) (λ c. search needs)
+    (λ c κs. search needs) (λ c κs. search needs) (λ c κs. search needs) (λ c κs. search needs) (λ c. search needs)
     (λ c. sym (length-take-le _ _ (text-within (entry (c .before) .pre))))
     (λ c. search needs)
     (λ c. sym (length-take-le _ _ (starts-within (entry (c .before .before) .pre))))

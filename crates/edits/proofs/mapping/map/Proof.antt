@@ -6,7 +6,7 @@ use Rattle.note.specs.Notes.{Note, lent, limit}
 use Rattle.note.specs.Faults.{noteFaults}
 use Rattle.transform.proofs.Verdicts.{inputs-refused, note-editable}
 use Rattle.edits.specs.Whole.{codesFaults, mapEdit}
-use Rattle.edits.proofs.Inputs.{note-first, bad-codes, miscounted}
+use Rattle.edits.proofs.Inputs.{note-first, bad-codes, count-refused}
 use Rattle.edits.proofs.Mapped.{head-refused, map-large, map-room, map-made}
 use Rattle.edits.proofs.mapping.map.Statement.{statement}
 use Rattle.edits.proofs.mapping.map.Tie as tie
@@ -41,7 +41,7 @@ returns-2 c =
     let given = entry (told .before .before) .args in
     let note = note (entry (told .before .before)) in
     inputs-refused limit note (also (noteFaults limit note) (codesFaults (given .normalized .now) (given .codes .now))) refl (mapEdit note (given .codes .now)) (given .out .now) (given .out-starts .now) (given .out-ends .now)
-    (miscounted limit note (given .codes .now) (told .before .before .check-note .ensures) (told .enum-told .given .1) (c .before .before .before .before .judge .ensures .scalar-is) (c .before .before .if1 .left) (c .before .count-leads .ensures) (c .if2 .taken)) refl
+    (count-refused limit note (given .codes .now) (told .before .before .check-note .ensures) (told .enum-told .given .1) (c .before .before .before .before .judge .ensures .scalar-is) (c .before .before .if1 .left) (c .before .count-leads .ensures) (c .if2 .taken)) refl
 
 has-head-requires : tie.Need-has-head-requires
 has-head-requires c κs =
