@@ -211,6 +211,12 @@ pub laying-size : (whole rest d₀ : List ℕ) (at : ℕ) (d : List ℕ) → Lay
 laying-size whole rest d₀ at d l =
     sym (length-front d rest at (omega (arith, l .room))) ∙ ap length (l .so-far)
 
+-- an element of what is not written yet
+pub unwritten : {whole rest d₀ : List ℕ} {k : ℕ} {d : List ℕ} → Laying whole rest d₀ k d → getD d k 0 ≡ getD d₀ k 0
+unwritten {d₀ = d₀} {k = k} {d = d} l =
+    let here : k + 0 ≡ k = omega arith in
+    ap (λ (i : ℕ). getD d i 0) (sym here) ∙ sym (getD-drop k d 0 0) ∙ ap (λ (xs : List ℕ). getD xs 0 0) (l .beyond) ∙ getD-drop k d₀ 0 0 ∙ ap (λ (i : ℕ). getD d₀ i 0) here
+
 pub all-laid : (whole d₀ : List ℕ) (at : ℕ) (d : List ℕ) → Laying whole [] d₀ at d → d ≡ overlay whole d₀
 unfolding overlay
 all-laid whole d₀ at d l =

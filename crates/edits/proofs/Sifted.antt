@@ -178,7 +178,17 @@ module _ (s : List ℕ) where
         rw (of-chars-at s xs long p (at .formed) (at .stands) more)
         (true-or-false (eqb k 0)
         (λ drops. rw (drops-command c k cs ks drops, next-dropped k ks p drops, one-on p more, sifts-out k c cs ks drops, sifts-out k (getD xs p 0) (ofChars (drop q s) (drop q xs)) ks drops) rest)
-        (λ keeps. rw (keeps-command c k cs ks keeps, next-kept k ks p keeps, sifts-in k c cs ks keeps, sifts-in k (getD xs p 0) (ofChars (drop q s) (drop q xs)) ks keeps, given-cons p c (droppedAhead ks) (keptCommands cs ks), after-kept c ks p, one-on p more) (spread-on c (getD xs p 0) (sifted ks cs) (sifted ks (ofChars (drop q s) (drop q xs))) rest))))
+        (λ keeps.
+        rw (
+          keeps-command c k cs ks keeps,
+          next-kept k ks p keeps,
+          sifts-in k c cs ks keeps,
+          sifts-in k (getD xs p 0) (ofChars (drop q s) (drop q xs)) ks keeps,
+          given-cons p c (droppedAhead ks) (keptCommands cs ks),
+          after-kept c ks p,
+          one-on p more,
+        )
+        (spread-on c (getD xs p 0) (sifted ks cs) (sifted ks (ofChars (drop q s) (drop q xs))) rest))))
 
 -- ALL BEHIND A HEAD, by code points and flags, one for each character
 module _ (n : Note) (sound : Sound n) {range : Range} {h : ℕ} (k : Behind n range h) (codes flags : List ℕ) (coded : length codes ≡ length flags) (flagged : length flags ≡ chars (n .normalized)) where

@@ -8,18 +8,39 @@ use native.Mathlib.Numerals.{add-one}
 use native.Mathlib.Omega.{arith}
 use lib.Dec.{leb, ltb}
 use lib.ListN.{length, getD, set, take, drop, length-map, drop-of-length-le}
-use lib.Seq.{drop-cons, getD-take, getD-drop, length-take-le}
+use lib.Seq.{drop-cons, getD-take, length-take-le}
 use borrow.Author.Tests.{leb-true, ltb-true}
 use Rattle.buffers.proofs.Cases.{clash}
-use Rattle.buffers.proofs.Splice.{Laying, none-laid, piece-laid, all-laid, store-one}
+use Rattle.buffers.proofs.Splice.{Laying, none-laid, piece-laid, unwritten, all-laid, store-one}
 use Rattle.spans.specs.Packing.{spanStart, spanEnd}
-use Rattle.char_offsets.proofs.CharOffsetsList.{known-none}
 use Rattle.convert.specs.declared.Range.{Range}
-use Rattle.convert.specs.Converting.{rangeOf, startOf, endOf}
+use Rattle.convert.specs.Converting.{inOriginal, inNormalized, rangeOf, startOf, endOf}
 use Rattle.convert.specs.declared.OffsetReferential.{OffsetReferential}
-use Rattle.split_offsets.specs.declared.Cursor.{Cursor}
-use Rattle.split_offsets.proofs.Numbered.{range-start, range-end}
-use Rattle.split_offsets.specs.Steps.{fromByte, toByte, Piece, BothKnown, inOrder, eachSpan, SpansReady, BytesWritten}
+use Rattle.convert.specs.declared.OffsetReferential.the-variants.{Original, Normalized}
+use Rattle.split_offsets.specs.Steps.{fromByte, toByte, Piece, inOrder, eachSpan, SpansReady, BytesWritten}
+
+-- the bytes of a piece
+module _ (starts ends : List ℕ) (shift sum a b : ℕ) {side : OffsetReferential} where
+  pub bytes-original : side ≡ Original
+      → inOriginal (shift + getD starts a 0) (shift + getD ends (b - 1) 0) ≡ rangeOf side (fromByte starts shift side sum a) (toByte ends shift side sum a b)
+  unfolding rangeOf fromByte toByte
+  bytes-original is = rw is
+
+  pub bytes-normalized : side ≡ Normalized
+      → inNormalized sum (sum + (b - a)) ≡ rangeOf side (fromByte starts shift side sum a) (toByte ends shift side sum a b)
+  unfolding rangeOf fromByte toByte
+  bytes-normalized is = rw is
+
+-- the numbers of a range
+range-start : (side : OffsetReferential) (a b : ℕ) → startOf (rangeOf side a b) ≡ a
+unfolding rangeOf
+range-start Original a b = refl
+range-start Normalized a b = refl
+
+range-end : (side : OffsetReferential) (a b : ℕ) → endOf (rangeOf side a b) ≡ b
+unfolding rangeOf
+range-end Original a b = refl
+range-end Normalized a b = refl
 
 -- the first of pieces in order
 pub record First (size at a b : ℕ) (from to : List ℕ) : Type 0 where
@@ -48,12 +69,6 @@ length-each number starts ends shift side sum size at (a ∷ from) [] e = clash 
 length-each number starts ends shift side sum size at (a ∷ from) (b ∷ to) e =
     ap suc (length-each number starts ends shift side (sum + (b - a)) size b from to (first-of size at a b from to e .rest))
 
--- an element of what is not written yet
-pub unwritten : {whole rest d₀ : List ℕ} {k : ℕ} {d : List ℕ} → Laying whole rest d₀ k d → getD d k 0 ≡ getD d₀ k 0
-unwritten {d₀ = d₀} {k = k} {d = d} l =
-    let here : k + 0 ≡ k = omega arith in
-    ap (λ (i : ℕ). getD d i 0) (sym here) ∙ sym (getD-drop k d 0 0) ∙ ap (λ (xs : List ℕ). getD xs 0 0) (l .beyond) ∙ getD-drop k d₀ 0 0 ∙ ap (λ (i : ℕ). getD d₀ i 0) here
-
 -- an element of a column whose numbers become others
 getD-map : (f : ℕ → ℕ) (xs : List ℕ) (k : ℕ) → k < length xs → getD (map f xs) k 0 ≡ f (getD xs k 0)
 getD-map f [] k h = absurd (omega arith)
@@ -74,12 +89,6 @@ pub record Converting (most : ℕ) (starts ends : List ℕ) (shift : ℕ) (side 
   pub ordered : inOrder (length starts) at (drop k (firsts count spans₀)) (drop k (lasts count spans₀)) ≡ true
   pub starts-laid : Laying (eachSpan (λ a e. a) starts ends shift side 0 (firsts count spans₀) (lasts count spans₀)) (eachSpan (λ a e. a) starts ends shift side sum (drop k (firsts count spans₀)) (drop k (lasts count spans₀))) spans₀ k from
   pub ends-laid : Laying (eachSpan (λ a e. e) starts ends shift side 0 (firsts count spans₀) (lasts count spans₀)) (eachSpan (λ a e. e) starts ends shift side sum (drop k (firsts count spans₀)) (drop k (lasts count spans₀))) to₀ k to
-
-abbrev pub zero-cursor : Cursor
-zero-cursor = record { at = 0; index = 0 }
-
-pub both-zero : {most : ℕ} {s : List ℕ} → length s ≤ most → BothKnown most s zero-cursor zero-cursor
-both-zero short = record { first-known = known-none short; last-known = known-none short }
 
 module _ {most : ℕ} {starts ends : List ℕ} {shift count : ℕ} {spans₀ to₀ : List ℕ} (r : SpansReady most starts ends shift count spans₀ to₀) where
   spans-long : length (take count spans₀) ≡ count

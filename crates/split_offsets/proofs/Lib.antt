@@ -1,6 +1,4 @@
 -- Laws of split offsets.
-pub mod Numbered
-pub mod FirstBytes
 pub mod Converting
 pub mod Pairs
 pub mod Judged

@@ -37,9 +37,10 @@ use Rattle.spans.specs.Packing.{packedOf, packedSpan, spanStart, spanEnd, Packe
 use Rattle.spans.proofs.Packing.{packed-long, packed-front}
 use Rattle.behaviors.proofs.Gathered.{splits-cover}
 use Rattle.split.specs.Splitting.{pieceOf, originalLength}
-use Rattle.split_offsets.specs.declared.OffsetType.{OffsetType}
+use Rattle.char_columns.specs.declared.OffsetType.{OffsetType}
 use Rattle.split_offsets.specs.declared.Splits.the-variants.{Listed as Offered, Refused}
-use Rattle.split_offsets.specs.SplitOffsets.{splitPieces, placeLength, startByte, endByte, startNumber, endNumber, eachPiece, splitsFaults, GetSplits}
+use Rattle.char_columns.specs.Numbers.{startNumber, endNumber}
+use Rattle.split_offsets.specs.SplitOffsets.{splitPieces, placeLength, startByte, endByte, eachPiece, splitsFaults, GetSplits}
 use Rattle.split_offsets.specs.Steps.{fromByte, toByte, inOrder, eachSpan, SpansReady, SpansConverted}
 use Rattle.split_offsets.proofs.Converting.{First, first-of}
 use Rattle.split_offsets.proofs.Judged.{accepted-note, accepted-lengths, accepted-covers, accepted-whole, accepted-room}

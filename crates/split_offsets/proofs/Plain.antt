@@ -21,8 +21,9 @@ use Rattle.behaviors.specs.declared.EmptyPieces.the-variants.{Dropped}
 use Rattle.behaviors.specs.Splits.{unremoved, splits, isDropped, isPiece, remaining, pieces}
 use Rattle.behaviors.specs.Joining.{joins, dropsMatches, startsOf, endsOf}
 use Rattle.behaviors.proofs.Gathered.{gathered, splits-gathered, splits-none, splits-cover}
-use Rattle.split_offsets.specs.declared.OffsetType.the-variants.{Byte}
-use Rattle.split_offsets.specs.SplitOffsets.{splitPieces, placeLength, startByte, endByte, startNumber, endNumber, eachPiece, SplitsOriginal, SplitsNormalized}
+use Rattle.char_columns.specs.declared.OffsetType.the-variants.{Byte}
+use Rattle.char_columns.specs.Numbers.{startNumber, endNumber}
+use Rattle.split_offsets.specs.SplitOffsets.{splitPieces, placeLength, startByte, endByte, eachPiece, SplitsOriginal, SplitsNormalized}
 use Rattle.split_offsets.specs.Steps.{fromByte, toByte, inOrder}
 use Rattle.split_offsets.proofs.Converting.{First, first-of}
 use Rattle.split_offsets.proofs.Judged.{accepted-note, accepted-covers}

@@ -11,7 +11,6 @@ use Rattle.note.specs.declared.Verdict.the-variants.{Accepted}
 use Rattle.note.specs.Refusals.{also, verdict, unlessRefused, after}
 use Rattle.note.specs.Notes.{Note, startAt, endAt}
 use Rattle.note.specs.Faults.{noteFaults, roomFaults}
-use Rattle.char_offsets.specs.Positions.{ofPair, pairOf}
 use Rattle.convert.specs.declared.OffsetReferential.{OffsetReferential}
 use Rattle.convert.specs.declared.OffsetReferential.the-variants.{Original, Normalized}
 use Rattle.pattern.specs.declared.Place.{Place}
@@ -22,8 +21,9 @@ use Rattle.behaviors.specs.declared.EmptyPieces.the-variants.{Dropped}
 use Rattle.behaviors.specs.Splits.{pieces}
 use Rattle.behaviors.specs.Joining.{dropsMatches, startsOf, endsOf}
 use Rattle.split.specs.Splitting.{pieceOf, originalLength}
-use Rattle.split_offsets.specs.declared.OffsetType.{OffsetType}
-use Rattle.split_offsets.specs.declared.OffsetType.the-variants.{Byte, Char}
+use Rattle.char_columns.specs.declared.OffsetType.{OffsetType}
+use Rattle.char_columns.specs.declared.OffsetType.the-variants.{Byte}
+use Rattle.char_columns.specs.Numbers.{startNumber, endNumber}
 use Rattle.split_offsets.specs.declared.Splits.{Splits}
 use Rattle.split_offsets.specs.declared.Splits.the-variants.{Listed, Refused}
 
@@ -43,16 +43,6 @@ startByte n Normalized sum p = sum
 unfoldable pub endByte : Note → OffsetReferential → ℕ → Place → ℕ
 endByte n Original sum p = pieceOf n p .«original_shift» + originalLength (pieceOf n p)
 endByte n Normalized sum p = sum + placeLength p
-
--- RULES 13.3: what stands for two bytes a and e, by what the converter of the transcript says of them (12): the two
--- characters, or the bytes themselves
-unfoldable pub startNumber : List ℕ → OffsetType → ℕ → ℕ → ℕ
-startNumber original Byte a e = a
-startNumber original Char a e = ofPair (λ i j. i) (λ k. a) (pairOf original a e)
-
-unfoldable pub endNumber : List ℕ → OffsetType → ℕ → ℕ → ℕ
-endNumber original Byte a e = e
-endNumber original Char a e = ofPair (λ i j. j) (λ k. e) (pairOf original a e)
 
 -- a number for each piece, from the sum of the sizes before it on
 unfoldable pub eachPiece : (ℕ → ℕ → ℕ) → Note → OffsetReferential → ℕ → List Place → List ℕ

@@ -24,7 +24,7 @@ use Rattle.behaviors.specs.declared.SplitDelimiterBehavior.the-variants.{Remove
 use Rattle.behaviors.specs.declared.EmptyPieces.{EmptyPieces}
 use Rattle.split.specs.declared.Pieces.{Pieces}
 use Rattle.split.specs.Splitting.{PieceColumns, Splitting}
-use Rattle.split_offsets.specs.declared.OffsetType.{OffsetType}
+use Rattle.char_columns.specs.declared.OffsetType.{OffsetType}
 use Rattle.split_offsets.specs.declared.Splits.{Splits}
 use Rattle.split_offsets.specs.SplitOffsets.{GetSplits}
 use Rattle.replace.specs.declared.Publication.{Publication}

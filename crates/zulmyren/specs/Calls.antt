@@ -34,8 +34,8 @@ use Rattle.behaviors.specs.declared.EmptyPieces.{EmptyPieces}
 use Rattle.behaviors.specs.declared.EmptyPieces.the-variants.{Kept, Dropped}
 use Rattle.split.specs.declared.Pieces.{Pieces}
 use Rattle.split.specs.declared.Pieces.the-variants.{Cut as Divided, Refused as Undivided}
-use Rattle.split_offsets.specs.declared.OffsetType.{OffsetType}
-use Rattle.split_offsets.specs.declared.OffsetType.the-variants.{Byte, Char}
+use Rattle.char_columns.specs.declared.OffsetType.{OffsetType}
+use Rattle.char_columns.specs.declared.OffsetType.the-variants.{Byte, Char}
 use Rattle.split_offsets.specs.declared.Splits.{Splits}
 use Rattle.split_offsets.specs.declared.Splits.the-variants.{Listed as Offered, Refused as Unoffered}
 use Rattle.transform.specs.declared.Editing.{Editing}

@@ -14,7 +14,7 @@ use Rattle.slice.specs.Slicing.{Slicing}
 use Rattle.behaviors.specs.declared.SplitDelimiterBehavior.{SplitDelimiterBehavior}
 use Rattle.behaviors.specs.declared.EmptyPieces.{EmptyPieces}
 use Rattle.split.specs.Splitting.{PieceColumns, Splitting}
-use Rattle.split_offsets.specs.declared.OffsetType.{OffsetType}
+use Rattle.char_columns.specs.declared.OffsetType.{OffsetType}
 use Rattle.split_offsets.specs.SplitOffsets.{GetSplits}
 use Rattle.zulmyren.specs.declared.answers.Count.{Count}
 use Rattle.zulmyren.specs.declared.answers.Cut.{Cut}

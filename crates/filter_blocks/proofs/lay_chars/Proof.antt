@@ -37,19 +37,28 @@ shared-slice-read-kept-size c =
 add-at : tie.Need-add-at Inv-loop μ-loop
 add-at c =
     let started = c .before .before .before .before .before .before .before .before in
-    let next = one-between-chars (entry (turn (told started)) .pre) (turn (told started) .loop .inv .1) (told started .before .before .loop-test .taken) (told started .lead-len .ensures) (started .before .before .before .before .copy-four-bytes .ensures) (started .copy-four-offsets .ensures) (c .before .before .before .before .copy-four-offsets2 .ensures) (c .kept-len .ensures) in
-    let long : length (entry (turn (told started)) .args .out .now) < 2 ^ 64 = entry (turn (told started)) .good .1 .1 .1 .1 .1 .0 .0 in
+    let told = told started in
+    let next =
+    one-between-chars (entry (turn told) .pre) (turn told .loop .inv .1) (told .before .before .loop-test .taken) (told .lead-len .ensures)
+    (started .before .before .before .before .copy-four-bytes .ensures) (started .copy-four-offsets .ensures)
+    (c .before .before .before .before .copy-four-offsets2 .ensures) (c .kept-len .ensures) in
+    let long : length (entry (turn told) .args .out .now) < 2 ^ 64 = entry (turn told) .good .1 .1 .1 .1 .1 .0 .0 in
     omega (arith, long, next .laid .text .room, next .laid .text .same)
 
 add-q : tie.Need-add-q Inv-loop μ-loop
 add-q c =
-    omega
-    (arith, char-inside (entry (turn (told (c .before .before .before .before .before .before .before .before))) .pre) (turn (told (c .before .before .before .before .before .before .before .before)) .loop .inv .1) (told (c .before .before .before .before .before .before .before .before) .before .before .loop-test .taken) (told (c .before .before .before .before .before .before .before .before) .lead-len .ensures))
+    let told = told (c .before .before .before .before .before .before .before .before) in
+    omega (arith, char-inside (entry (turn told) .pre) (turn told .loop .inv .1) (told .before .before .loop-test .taken) (told .lead-len .ensures))
 
 loop-again : tie.Need-loop-again Inv-loop μ-loop
 loop-again c =
     let started = c .before .before .before .before .before .before .before .before in
-    (omega (arith, told started .before .before .loop-test .taken), one-between-chars (entry (turn (told started)) .pre) (turn (told started) .loop .inv .1) (told started .before .before .loop-test .taken) (told started .lead-len .ensures) (started .before .before .before .before .copy-four-bytes .ensures) (started .copy-four-offsets .ensures) (c .before .before .before .before .copy-four-offsets2 .ensures) (c .kept-len .ensures))
+    let told = told started in (
+      omega (arith, told .before .before .loop-test .taken),
+      one-between-chars (entry (turn told) .pre) (turn told .loop .inv .1) (told .before .before .loop-test .taken) (told .lead-len .ensures)
+          (started .before .before .before .before .copy-four-bytes .ensures) (started .copy-four-offsets .ensures)
+          (c .before .before .before .before .copy-four-offsets2 .ensures) (c .kept-len .ensures),
+    )
 
 pub lay-chars-spec : {M : Type 1} → statement M
 lay-chars-spec =

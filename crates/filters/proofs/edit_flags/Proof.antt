@@ -33,7 +33,13 @@ returns c =
 measure-flags-requires : tie.Need-measure-flags-requires
 measure-flags-requires c κs =
     let entry = entry (c .before .before .before) in
-    record { tabled = skip-ready limit (entry .pre .0) (entry .args .from .0) (entry .args .to .0) (skips (entry .args .flags .now)) (flagCommands (entry .args .text .now) (entry .args .flags .now)) (entry .args .out .now) (entry .args .out-starts .now) (entry .args .out-ends .now) (c .before .before .before .is-char-range .ensures) (c .before .before .if1 .left) (c .before .lengths .ensures); counted = entry .pre .1 }
+    record {
+      tabled =
+          skip-ready limit (entry .pre .0) (entry .args .from .0) (entry .args .to .0) (skips (entry .args .flags .now))
+          (flagCommands (entry .args .text .now) (entry .args .flags .now)) (entry .args .out .now) (entry .args .out-starts .now)
+          (entry .args .out-ends .now) (c .before .before .before .is-char-range .ensures) (c .before .before .if1 .left) (c .before .lengths .ensures);
+      counted = entry .pre .1;
+    }
 
 sub-kept : tie.Need-sub-kept
 sub-kept c =
@@ -47,7 +53,11 @@ sub-kept c =
 add-kept : tie.Need-add-kept
 add-kept c =
     let entry = entry (placed (measured c)) in
-    let range = range-inside limit (entry .pre .0) (entry .args .from .0) (entry .args .to .0) (skips (entry .args .flags .now)) (flagCommands (entry .args .text .now) (entry .args .flags .now)) (entry .args .out .now) (entry .args .out-starts .now) (entry .args .out-ends .now) (placed (measured c) .is-char-range .ensures) (measured c .before .before .before .if1 .left) (measured c .before .before .lengths .ensures) in
+    let range =
+    range-inside limit (entry .pre .0) (entry .args .from .0) (entry .args .to .0) (skips (entry .args .flags .now))
+    (flagCommands (entry .args .text .now) (entry .args .flags .now)) (entry .args .out .now) (entry .args .out-starts .now)
+    (entry .args .out-ends .now) (placed (measured c) .is-char-range .ensures) (measured c .before .before .before .if1 .left)
+    (measured c .before .before .lengths .ensures) in
     let long : length (entry .args .text .now) < 2 ^ 64 = entry .good .0 .0 in
     omega (arith, long, range .0, range .1)
 
@@ -82,8 +92,23 @@ lay-filtered-requires c κs =
     let measured = measured bounded in
     let entry = entry (placed measured) in
     record {
-      ready = record { tabled = skip-ready limit (entry .pre .0) (entry .args .from .0) (entry .args .to .0) (skips (entry .args .flags .now)) (flagCommands (entry .args .text .now) (entry .args .flags .now)) (entry .args .out .now) (entry .args .out-starts .now) (entry .args .out-ends .now) (placed measured .is-char-range .ensures) (measured .before .before .before .if1 .left) (measured .before .before .lengths .ensures); counted = entry .pre .1 };
-      rooms = edit-room limit (entry .pre .0) (entry .args .from .0) (entry .args .to .0) (skips (entry .args .flags .now)) (flagCommands (entry .args .text .now) (entry .args .flags .now)) (entry .args .out .now) (entry .args .out-starts .now) (entry .args .out-ends .now) (placed measured .is-char-range .ensures) (measured .before .before .before .if1 .left) (measured .before .before .lengths .ensures) (begun-skipped (entry .args .text .now) (entry .args .to .0) (entry .args .from .0) (entry .args .flags .now)) (measured .measure-flags .ensures) (bounded .before .before .before .size .given .1) (bounded .before .least-room .ensures) (bounded .least-of-two .ensures) (c .before .before .before .before .before .if2 .left) (c .before .before .before .before .if3 .left);
+      ready =
+          record {
+            tabled =
+                skip-ready limit (entry .pre .0) (entry .args .from .0) (entry .args .to .0) (skips (entry .args .flags .now))
+                (flagCommands (entry .args .text .now) (entry .args .flags .now)) (entry .args .out .now) (entry .args .out-starts .now)
+                (entry .args .out-ends .now) (placed measured .is-char-range .ensures) (measured .before .before .before .if1 .left)
+                (measured .before .before .lengths .ensures);
+            counted = entry .pre .1;
+          };
+      rooms =
+          edit-room limit (entry .pre .0) (entry .args .from .0) (entry .args .to .0) (skips (entry .args .flags .now))
+          (flagCommands (entry .args .text .now) (entry .args .flags .now)) (entry .args .out .now) (entry .args .out-starts .now)
+          (entry .args .out-ends .now) (placed measured .is-char-range .ensures) (measured .before .before .before .if1 .left)
+          (measured .before .before .lengths .ensures)
+          (begun-skipped (entry .args .text .now) (entry .args .to .0) (entry .args .from .0) (entry .args .flags .now))
+          (measured .measure-flags .ensures) (bounded .before .before .before .size .given .1) (bounded .before .least-room .ensures)
+          (bounded .least-of-two .ensures) (c .before .before .before .before .before .if2 .left) (c .before .before .before .before .if3 .left);
     }
 
 returns-4 : tie.Need-returns-4

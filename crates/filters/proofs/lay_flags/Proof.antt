@@ -47,6 +47,13 @@ add-i c =
     let less : turn laid .loop .i < length (entry (turn laid) .args .flags .now) = laid .before .before .before .before .before .before .loop-test .taken in
     omega (arith, long, less)
 
+loop-again : tie.Need-loop-again Inv-loop μ-loop
+loop-again c =
+    let laid = c .before .before .before .before .before .before .before in
+    let sized = laid .before .before .before .before .before in
+    next-flagged (entry (turn laid) .pre) (turn laid .loop .inv) (sized .before .loop-test .taken) (sized .char-len .ensures)
+    (laid .lay-flag .ensures) (c .skip .ensures)
+
 pub lay-flags-spec : {M : Type 1} → statement M
 lay-flags-spec =
     tie.close
@@ -61,7 +68,7 @@ lay-flags-spec =
     add-q
     add-i
     (λ c. omega arith)
-    (λ c. let laid = c .before .before .before .before .before .before .before in next-flagged (entry (turn laid) .pre) (turn laid .loop .inv) (laid .before .before .before .before .before .before .loop-test .taken) (laid .before .before .before .before .before .char-len .ensures) (laid .lay-flag .ensures) (c .skip .ensures))
+    loop-again
     (λ c. c .before .loop .inv .going .text-laid .same)
     (λ c. c .before .loop .inv .going .starts-laid .same)
     (λ c. c .before .loop .inv .going .ends-laid .same)

@@ -29,6 +29,12 @@ add-q c =
     let long : length (entry turn .args .text .now) < 2 ^ 64 = entry turn .good .0 .0 in
     omega (arith, long, c .before .before .before .before .before .before .char-len .ensures .inside)
 
+loop-again : tie.Need-loop-again Inv-loop μ-loop
+loop-again c =
+    let sized = c .before .before .before .before .before .before in
+    next-filtered (sized .before .before .loop .inv) (sized .before .loop-test .taken) (sized .char-len .ensures)
+    (c .before .before .before .before .flag-starves .ensures) (c .before .before .before .if1 .left) (c .before .kept-len .ensures) (c .skip .ensures)
+
 pub measure-flags-spec : {M : Type 1} → statement M
 measure-flags-spec =
     tie.close
@@ -44,5 +50,5 @@ measure-flags-spec =
     (λ c κs. let turn = c .before .before .before .before .before .before .before in record { standing = turn .loop .inv .beside .standing; lent = entry turn .pre .tabled .lent })
     add-q
     (λ c. omega arith) (λ c. omega arith)
-    (λ c. next-filtered (c .before .before .before .before .before .before .before .before .loop .inv) (c .before .before .before .before .before .before .before .loop-test .taken) (c .before .before .before .before .before .before .char-len .ensures) (c .before .before .before .before .flag-starves .ensures) (c .before .before .before .if1 .left) (c .before .kept-len .ensures) (c .skip .ensures))
+    loop-again
     (λ c. all-filtered (c .before .loop .inv) (c .loop-test .left)))

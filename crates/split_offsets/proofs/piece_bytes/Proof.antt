@@ -2,7 +2,7 @@
 use native.Mathlib.Omega.{arith}
 use borrow.Author.Needs.{needs}
 use Prim.Native.Nat.{_-_}
-use Rattle.split_offsets.proofs.Numbered.{bytes-original, bytes-normalized}
+use Rattle.split_offsets.proofs.Converting.{bytes-original, bytes-normalized}
 use Rattle.split_offsets.proofs.piece_bytes.Statement.{statement}
 use Rattle.split_offsets.proofs.piece_bytes.Tie as tie
 

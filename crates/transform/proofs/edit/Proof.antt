@@ -27,7 +27,9 @@ kept c = c .before .before .before .before .before .before .before
 returns : tie.Need-returns
 returns c =
     let entry = entry (c .before) in
-    not-placed limit (entry .pre) (entry .args .from .0) (entry .args .to .0) (entry .args .initial-offset) (commandsOf (entry .args .script .now)) (entry .args .out .now) (entry .args .out-starts .now) (entry .args .out-ends .now) (c .before .is-char-range .ensures) (c .if1 .taken)
+    not-placed limit (entry .pre) (entry .args .from .0) (entry .args .to .0) (entry .args .initial-offset)
+    (commandsOf (entry .args .script .now)) (entry .args .out .now) (entry .args .out-starts .now) (entry .args .out-ends .now)
+    (c .before .is-char-range .ensures) (c .if1 .taken)
 
 skip-requires : tie.Need-skip-requires
 skip-requires c κs =
@@ -56,7 +58,11 @@ sub-kept c =
 add-kept : tie.Need-add-kept
 add-kept c =
     let entry = entry (placed (measured c)) in
-    let range = range-inside limit (entry .pre) (entry .args .from .0) (entry .args .to .0) (entry .args .initial-offset) (commandsOf (entry .args .script .now)) (entry .args .out .now) (entry .args .out-starts .now) (entry .args .out-ends .now) (placed (measured c) .is-char-range .ensures) (measured c .before .before .before .before .before .if1 .left) (measured c .before .before .before .before .lengths .ensures) in
+    let range =
+    range-inside limit (entry .pre) (entry .args .from .0) (entry .args .to .0) (entry .args .initial-offset)
+    (commandsOf (entry .args .script .now)) (entry .args .out .now) (entry .args .out-starts .now) (entry .args .out-ends .now)
+    (placed (measured c) .is-char-range .ensures) (measured c .before .before .before .before .before .if1 .left)
+    (measured c .before .before .before .before .lengths .ensures) in
     let long : length (entry .args .text .now) < 2 ^ 64 = entry .good .0 .0 in
     omega (arith, long, range .0, range .1)
 
@@ -87,8 +93,15 @@ lay-edit-requires : tie.Need-lay-edit-requires
 lay-edit-requires c κs =
     let kept = c .before .before .before .before .before .before in
     let measured = measured kept in
-    let entry = entry (placed measured) in
-    (edit-room limit (entry .pre) (entry .args .from .0) (entry .args .to .0) (entry .args .initial-offset) (commandsOf (entry .args .script .now)) (entry .args .out .now) (entry .args .out-starts .now) (entry .args .out-ends .now) (placed measured .is-char-range .ensures) (measured .before .before .before .before .before .if1 .left) (measured .before .before .before .before .lengths .ensures) (measured .before .before .skip .ensures) (measured .measure .ensures) (kept .before .before .before .size .given .1) (kept .before .least-room .ensures) (kept .least-of-two .ensures) (c .before .before .before .before .before .if2 .left) (c .before .before .before .before .if3 .left), measured-size _ _ _ _ (sym (measured .measure .ensures) ∙ kept .before .before .before .size .given .1) .1)
+    let entry = entry (placed measured) in (
+      edit-room limit (entry .pre) (entry .args .from .0) (entry .args .to .0) (entry .args .initial-offset)
+          (commandsOf (entry .args .script .now)) (entry .args .out .now) (entry .args .out-starts .now) (entry .args .out-ends .now)
+          (placed measured .is-char-range .ensures) (measured .before .before .before .before .before .if1 .left)
+          (measured .before .before .before .before .lengths .ensures) (measured .before .before .skip .ensures) (measured .measure .ensures)
+          (kept .before .before .before .size .given .1) (kept .before .least-room .ensures) (kept .least-of-two .ensures)
+          (c .before .before .before .before .before .if2 .left) (c .before .before .before .before .if3 .left),
+      measured-size _ _ _ _ (sym (measured .measure .ensures) ∙ kept .before .before .before .size .given .1) .1,
+    )
 
 returns-4 : tie.Need-returns-4
 returns-4 c =

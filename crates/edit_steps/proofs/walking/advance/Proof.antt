@@ -152,7 +152,9 @@ module _ {M : Type 1} (𝓤 : URA M) (H : Heap 𝓤) (A : Atoms 𝓤) (W : Given
         move ! (5 ∷ 0 ∷ []) $ use2 W (raw (Step 𝓤 H A at-mem run .pre to-step)) (goes need) $
         -- [what `step` asks; the cell; the open borrow; obs; auth; B; S; _7; …; _6; …; _5; …; _4; …; _3; …; _2; …; _1; …; room for _0; …]
         calls-at ! fm (Step 𝓤 H A at-mem run) known to-step
-        (and-then ! (load ! (from ! (stop !)) (look ! 17 refl)) (and-then ! (load ! (from ! (stop !)) (look ! 15 refl)) (and-then ! (load ! (from ! (stop !)) (look ! 7 refl)) (and-then ! (load ! (from ! (stop !)) (look ! 13 refl)) (and-then ! (load ! (from ! (stop !)) (look ! 11 refl)) (no-more !))))))
+        (and-then ! (load ! (from ! (stop !)) (look ! 17 refl)) (and-then ! (load ! (from ! (stop !)) (look ! 15 refl))
+        (and-then ! (load ! (from ! (stop !)) (look ! 7 refl)) (and-then ! (load ! (from ! (stop !)) (look ! 13 refl))
+        (and-then ! (load ! (from ! (stop !)) (look ! 11 refl)) (no-more !))))))
         (λ w.
         use1 W (later (some (λ (r : Progress). ((‵ (flft κ₁ q₁) ⊛ ‵ (flft κ₂ q₂) ⊛ ‵ ftrue) ⊛ ‵ (P .own r (w ∷ []))) ⊛ raw (ensured 𝓤 H A step.ended (step.clauses 𝓤 H A at-mem run) (κ₁, (κ₂, tt)) (text, (n, (g, (c, (tab, tt))))) tt r)))) (id⊢ 𝓤 _) $ await ! tt $ pick ! (λ r.
         split ! $ move ! (1 ∷ []) $ use1 W (raw (fact 𝓤 (r ≡ progressAfter (text .now) (n .0) g c))) (said r) $ heard ! (r ≡ progressAfter (text .now) (n .0) g c) (λ e. split ! $ move ! (1 ∷ []) $
@@ -174,8 +176,19 @@ module _ {M : Type 1} (𝓤 : URA M) (H : Heap 𝓤) (A : Atoms 𝓤) (W : Given
       (walk 𝓤 H A W at-mem run (κs .0) (κs .1 .0) (κs .1 .1 .0) (qs .0) (qs .1 .0) (qs .1 .1 .0) (a .0 .ptr .0) (a .0 .ptr .1) (a .0 .name) (a .0 .now) (a .1 .0) (a .1 .1 .0) (a .1 .1 .1 .0) (a .1 .1 .1 .1 .0) (are .1 .1 .0) (are .1 .1 .1 .0) C Λ fm known (are .1 .0)))
 
   goes-all : AllGo 𝓤 H A W 3 (f.signature .params) (f.ended .kept) stayed
-  goes-all =
-      (goes-ref 𝓤 H A W 3 0 tt (plain (λ _. P)), (goes-none-slice 𝓤 H A W 3 (1 ∷ []) tt (plain (λ _. u8)) yes, (goes-none 𝓤 H A W 3 (λ _. N.the-row) yes (λ κs x f. refl), (goes-none 𝓤 H A W 3 (λ _. K.the-row) yes (λ κs x f. refl), (goes-none-ref 𝓤 H A W 3 (2 ∷ []) tt (ArrayOf (plain (λ _. u8)) (λ _. tt) 256) yes, tt)))))
+  goes-all = (
+    goes-ref 𝓤 H A W 3 0 tt (plain (λ _. P)),
+    (
+      goes-none-slice 𝓤 H A W 3 (1 ∷ []) tt (plain (λ _. u8)) yes,
+      (
+        goes-none 𝓤 H A W 3 (λ _. N.the-row) yes (λ κs x f. refl),
+        (
+          goes-none 𝓤 H A W 3 (λ _. K.the-row) yes (λ κs x f. refl),
+          (goes-none-ref 𝓤 H A W 3 (2 ∷ []) tt (ArrayOf (plain (λ _. u8)) (λ _. tt) 256) yes, tt),
+        ),
+      ),
+    ),
+  )
 
 meets : {M : Type 1} (𝓤 : URA M) (H : Heap 𝓤) (A : Atoms 𝓤) → Given 𝓤 H A → (at-mem : Memory → SProp 𝓤) (run : Routine → Fun 𝓤) (𝓣 : Tables 𝓤 H) → Triple 𝓤 (𝓣 .C #step) (Step 𝓤 H A at-mem run)
     → Meets 𝓤 H A f.signature (WpFn 𝓤 H (𝓣 .C) (𝓣 .Λ) code.function) (f.spec 𝓤 H A at-mem run)

@@ -181,7 +181,9 @@ module _ {M : Type 1} (𝓤 : URA M) (H : Heap 𝓤) (A : Atoms 𝓤) (W : Given
         move ! (5 ∷ 0 ∷ []) $ fjoin ! $ move ! (1 ∷ 0 ∷ []) $ fjoin ! $ move ! (2 ∷ 22 ∷ []) $ join ! $ use2 W (raw (Advance 𝓤 H A at-mem run .pre (to-advance ν l₆ δ))) (goes ν l₆ δ need) $
         -- [what `advance` asks; the lender's part; B; S; _8; …; _7; …; …; _5; …; _4; …; _3; …; _2; …; _1; …; room for _0; …]
         calls-at ! fm (Advance 𝓤 H A at-mem run) known (to-advance ν l₆ δ)
-        (and-then ! (load ! (from ! (stop !)) (look ! 4 refl)) (and-then ! (load ! (from ! (stop !)) (look ! 17 refl)) (and-then ! (load ! (from ! (stop !)) (look ! 15 refl)) (and-then ! (load ! (from ! (stop !)) (look ! 11 refl)) (and-then ! (load ! (from ! (stop !)) (look ! 9 refl)) (no-more !))))))
+        (and-then ! (load ! (from ! (stop !)) (look ! 4 refl)) (and-then ! (load ! (from ! (stop !)) (look ! 17 refl))
+        (and-then ! (load ! (from ! (stop !)) (look ! 15 refl)) (and-then ! (load ! (from ! (stop !)) (look ! 11 refl))
+        (and-then ! (load ! (from ! (stop !)) (look ! 9 refl)) (no-more !))))))
         (λ v.
         use1 W
         (later (some (λ (u : Unit {0}). ((‵ (flft (ν ∷ []) fullShare) ⊛ ‵ (flft κ₁ q₁) ⊛ ‵ (flft κ₂ q₂) ⊛ ‵ ftrue) ⊛ ‵ (Nothing .own u (v ∷ []))) ⊛ raw (ensured 𝓤 H A advance.ended (advance.clauses 𝓤 H A at-mem run) (ν ∷ [], (κ₁, (κ₂, tt))) (lent l₆ δ) tt u))))
@@ -209,8 +211,19 @@ module _ {M : Type 1} (𝓤 : URA M) (H : Heap 𝓤) (A : Atoms 𝓤) (W : Given
       (walk 𝓤 H A W at-mem run (κs .0) (κs .1 .0) (qs .0) (qs .1 .0) (a .0) (a .1 .0) (a .1 .1 .0) (a .1 .1 .1 .0) (a .1 .1 .1 .1 .0) (are .1 .0) (are .1 .1 .0) (are .1 .1 .1 .0) C Λ fm known (are .0)))
 
   goes-all : AllGo 𝓤 H A W 2 (f.signature .params) (f.ended .kept) stayed
-  goes-all =
-      (goes-none-slice 𝓤 H A W 2 (0 ∷ []) tt (plain (λ _. u8)) yes, (goes-none 𝓤 H A W 2 (λ _. N.the-row) yes (λ κs x f. refl), (goes-none 𝓤 H A W 2 (λ _. P) yes (λ κs x f. refl), (goes-none 𝓤 H A W 2 (λ _. K.the-row) yes (λ κs x f. refl), (goes-none-ref 𝓤 H A W 2 (1 ∷ []) tt (ArrayOf (plain (λ _. u8)) (λ _. tt) 256) yes, tt)))))
+  goes-all = (
+    goes-none-slice 𝓤 H A W 2 (0 ∷ []) tt (plain (λ _. u8)) yes,
+    (
+      goes-none 𝓤 H A W 2 (λ _. N.the-row) yes (λ κs x f. refl),
+      (
+        goes-none 𝓤 H A W 2 (λ _. P) yes (λ κs x f. refl),
+        (
+          goes-none 𝓤 H A W 2 (λ _. K.the-row) yes (λ κs x f. refl),
+          (goes-none-ref 𝓤 H A W 2 (1 ∷ []) tt (ArrayOf (plain (λ _. u8)) (λ _. tt) 256) yes, tt),
+        ),
+      ),
+    ),
+  )
 
 meets : {M : Type 1} (𝓤 : URA M) (H : Heap 𝓤) (A : Atoms 𝓤) → Given 𝓤 H A → (at-mem : Memory → SProp 𝓤) (run : Routine → Fun 𝓤) (𝓣 : Tables 𝓤 H) → Triple 𝓤 (𝓣 .C #advance) (Advance 𝓤 H A at-mem run)
     → Meets 𝓤 H A f.signature (WpFn 𝓤 H (𝓣 .C) (𝓣 .Λ) code.function) (f.spec 𝓤 H A at-mem run)

@@ -6,9 +6,10 @@ use Rattle.replayed_pieces.proofs.told.are_pieces.Tie as tie
 
 returns : tie.Need-returns
 returns c =
-    both
-    (both (both (both (both (both (c .before .before .before .before .before .before .is-number .ensures) (c .before .before .before .before .before .is-size .ensures)) (c .before .before .before .before .is-size2 .ensures)) (c .before .before .before .are-offsets .ensures)) (c .before .before .are-offsets2 .ensures)) (c .before .are-numbers .ensures))
-    (c .are-offsets3 .ensures)
+    let sized = c .before .before .before .before in
+    let numbers = both (both (sized .before .before .is-number .ensures) (sized .before .is-size .ensures)) (sized .is-size2 .ensures) in
+    let spans = both (both numbers (c .before .before .before .are-offsets .ensures)) (c .before .before .are-offsets2 .ensures) in
+    both (both spans (c .before .are-numbers .ensures)) (c .are-offsets3 .ensures)
 
 pub are-pieces-spec : {M : Type 1} → statement M
 are-pieces-spec =

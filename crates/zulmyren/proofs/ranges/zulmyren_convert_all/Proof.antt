@@ -10,4 +10,7 @@ zulmyren-convert-all-spec =
     (tie.spec
     (λ c κs. search needs) (λ c κs. search needs) (λ c κs. search needs) (λ c. search needs) (λ c. search needs)
     (λ c. search needs)
-    (λ c. list-call (c .before .before .before .before .before .before .before .before .before .before .before .before .before .before .before .before .before .before .before .before .before .args .of-original) (c .before .before .before .before .before .before .before .before .before .before .before .side-of .ensures) (c .before .before .before .before .before .before .before .convert-list .ensures) (c .answer .ensures)))
+    (λ c.
+    let sided = c .before .before .before .before .before .before .before .before .before .before .before in
+    list-call (sided .before .before .before .before .before .before .before .before .before .before .args .of-original)
+    (sided .side-of .ensures) (c .before .before .before .before .before .before .before .convert-list .ensures) (c .answer .ensures)))

@@ -3,9 +3,9 @@ use Prim.Native.Nat.{_-_}
 use mathlib.Core.Path.{refl}
 use native.Mathlib.Omega.{arith}
 use borrow.Author.Needs.{needs}
-use Rattle.split_offsets.proofs.Pairs.{Ending, none-ended, end-room, one-ended, all-ended}
-use Rattle.split_offsets.proofs.write_plain.Statement.{statement}
-use Rattle.split_offsets.proofs.write_plain.Tie as tie
+use Rattle.char_columns.proofs.Pairs.{Ending, none-ended, end-room, one-ended, all-ended}
+use Rattle.char_columns.proofs.write_plain.Statement.{statement}
+use Rattle.char_columns.proofs.write_plain.Tie as tie
 
 abbrev Inv-loop : tie.InvT-loop
 Inv-loop text side count from to₀ k₀ to k = Ending text count from to₀ k to

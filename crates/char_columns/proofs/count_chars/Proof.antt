@@ -3,10 +3,10 @@ use Prim.Native.Nat.{_-_}
 use native.Mathlib.Omega.{arith}
 use borrow.Author.Needs.{needs}
 use Rattle.note.specs.Notes.{limit}
-use Rattle.split_offsets.proofs.FirstBytes.{flags-made}
-use Rattle.split_offsets.proofs.Pairs.{Counting, none-counted, in-both, one-counted, all-counted}
-use Rattle.split_offsets.proofs.count_chars.Statement.{statement}
-use Rattle.split_offsets.proofs.count_chars.Tie as tie
+use Rattle.char_columns.proofs.FirstBytes.{flags-made}
+use Rattle.char_columns.proofs.Pairs.{Counting, none-counted, in-both, one-counted, all-counted}
+use Rattle.char_columns.proofs.count_chars.Statement.{statement}
+use Rattle.char_columns.proofs.count_chars.Tie as tie
 
 abbrev Inv-loop : tie.InvT-loop
 Inv-loop text side count from₀ to₀ flags first₀ last₀ k₀ from to first last k = Counting limit text count from₀ to₀ first last k from to

@@ -4,9 +4,9 @@ use native.Mathlib.Omega.{arith}
 use borrow.Author.Needs.{needs}
 use Rattle.char_offsets.proofs.IndexOf.{index-most}
 use Rattle.char_offsets.proofs.PairTold.{end-past}
-use Rattle.split_offsets.proofs.Numbered.{cursor-at, end-near, unmapped, mapped-chars}
-use Rattle.split_offsets.proofs.in_chars.Statement.{statement}
-use Rattle.split_offsets.proofs.in_chars.Tie as tie
+use Rattle.char_columns.proofs.Numbered.{cursor-at, end-near, unmapped, mapped-chars}
+use Rattle.char_columns.proofs.in_chars.Statement.{statement}
+use Rattle.char_columns.proofs.in_chars.Tie as tie
 
 add-two : tie.Need-add-t15
 add-two c =

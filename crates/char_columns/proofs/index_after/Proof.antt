@@ -2,9 +2,9 @@
 use native.Mathlib.Omega.{arith}
 use borrow.Author.Needs.{needs}
 use Rattle.char_offsets.proofs.IndexOf.{index-most}
-use Rattle.split_offsets.proofs.FirstBytes.{moved-near}
-use Rattle.split_offsets.proofs.index_after.Statement.{statement}
-use Rattle.split_offsets.proofs.index_after.Tie as tie
+use Rattle.char_columns.proofs.FirstBytes.{moved-near}
+use Rattle.char_columns.proofs.index_after.Statement.{statement}
+use Rattle.char_columns.proofs.index_after.Tie as tie
 
 returns : tie.Need-returns
 returns c =

@@ -2,9 +2,9 @@
 use Prim.Native.Nat.{_-_}
 use native.Mathlib.Omega.{arith}
 use borrow.Author.Needs.{needs}
-use Rattle.split_offsets.proofs.FirstBytes.{Nearing, none-near, next-near, near-small, all-near}
-use Rattle.split_offsets.proofs.first_leads.Statement.{statement}
-use Rattle.split_offsets.proofs.first_leads.Tie as tie
+use Rattle.char_columns.proofs.FirstBytes.{Nearing, none-near, next-near, near-small, all-near}
+use Rattle.char_columns.proofs.first_leads.Statement.{statement}
+use Rattle.char_columns.proofs.first_leads.Tie as tie
 
 abbrev Inv-loop : tie.InvT-loop
 Inv-loop text flags from n skipped count₀ j₀ count j = Nearing text from n count j

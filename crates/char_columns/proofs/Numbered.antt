@@ -1,4 +1,4 @@
--- Laws of `fromByte`, `toByte`, `startNumber` and `endNumber`: the numbers of one piece, case by case as the code comes to them.
+-- Laws of `startNumber` and `endNumber`: the numbers of one pair, case by case as the code comes to them.
 use Prim.Native.Nat.{ℕ, zero, suc, _+_, _-_, _≤_, _<_, min}
 use mathlib.Core.Path.{_≡_, _∙_, ap, refl, sym}
 use mathlib.Core.Bool.{true}
@@ -14,36 +14,19 @@ use Rattle.utf8.specs.Formed.{continues}
 use Rattle.validity.specs.Texts.{ascii}
 use Rattle.char_offsets.specs.Positions.{indexOf, endIndex, pairOf}
 use Rattle.char_offsets.specs.Steps.{IndexKnown}
+use Rattle.char_offsets.proofs.CharOffsetsList.{known-none}
 use Rattle.char_offsets.proofs.PairTold.{end-inside, end-last, end-past}
-use Rattle.convert.specs.Converting.{inOriginal, inNormalized, rangeOf, startOf, endOf}
-use Rattle.convert.specs.declared.OffsetReferential.{OffsetReferential}
-use Rattle.convert.specs.declared.OffsetReferential.the-variants.{Original, Normalized}
-use Rattle.split_offsets.specs.declared.OffsetType.the-variants.{Char}
-use Rattle.split_offsets.specs.declared.Cursor.{Cursor}
-use Rattle.split_offsets.specs.SplitOffsets.{startNumber, endNumber}
-use Rattle.split_offsets.specs.Steps.{fromByte, toByte, BothKnown, Stepped, PlainEnd}
+use Rattle.char_columns.specs.declared.OffsetType.the-variants.{Char}
+use Rattle.char_columns.specs.declared.Cursor.{Cursor}
+use Rattle.char_columns.specs.Numbers.{startNumber, endNumber}
+use Rattle.char_columns.specs.Steps.{BothKnown, Stepped, PlainEnd}
 
-module _ (starts ends : List ℕ) (shift sum a b : ℕ) {side : OffsetReferential} where
-  pub bytes-original : side ≡ Original
-      → inOriginal (shift + getD starts a 0) (shift + getD ends (b - 1) 0) ≡ rangeOf side (fromByte starts shift side sum a) (toByte ends shift side sum a b)
-  unfolding rangeOf fromByte toByte
-  bytes-original is = rw is
+-- the text's beginning, whose character is the first
+abbrev pub zero-cursor : Cursor
+zero-cursor = record { at = 0; index = 0 }
 
-  pub bytes-normalized : side ≡ Normalized
-      → inNormalized sum (sum + (b - a)) ≡ rangeOf side (fromByte starts shift side sum a) (toByte ends shift side sum a b)
-  unfolding rangeOf fromByte toByte
-  bytes-normalized is = rw is
-
--- the numbers of a range
-pub range-start : (side : OffsetReferential) (a b : ℕ) → startOf (rangeOf side a b) ≡ a
-unfolding rangeOf
-range-start Original a b = refl
-range-start Normalized a b = refl
-
-pub range-end : (side : OffsetReferential) (a b : ℕ) → endOf (rangeOf side a b) ≡ b
-unfolding rangeOf
-range-end Original a b = refl
-range-end Normalized a b = refl
+pub both-zero : {most : ℕ} {s : List ℕ} → length s ≤ most → BothKnown most s zero-cursor zero-cursor
+both-zero short = record { first-known = known-none short; last-known = known-none short }
 
 -- a byte inside the text, and its character
 pub cursor-at : {most : ℕ} {s : List ℕ} {at index : ℕ} → length s ≤ most → at < length s → index ≡ indexOf s at → IndexKnown most s at index

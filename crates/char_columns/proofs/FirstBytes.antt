@@ -18,7 +18,7 @@ use Rattle.utf8.proofs.Chars.{none-counted, flag-counted, counted-le, all-count
 use Rattle.char_offsets.specs.Positions.{indexOf}
 use Rattle.char_offsets.specs.Steps.{IndexKnown}
 use Rattle.char_offsets.proofs.PairTold.{moved-on}
-use Rattle.split_offsets.specs.Steps.{Near, nearFlags}
+use Rattle.char_columns.specs.Steps.{Near, nearFlags}
 
 -- the flags of a block, as they are filled
 pub flags-made : {flags : List ℕ} → flags ≡ splice (replicate 32 0) 0 (replicate 16 1) → flags ≡ nearFlags

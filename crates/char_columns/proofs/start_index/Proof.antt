@@ -1,8 +1,8 @@
 -- Known already, or counted.
 use borrow.Author.Needs.{needs}
-use Rattle.split_offsets.proofs.Numbered.{start-same}
-use Rattle.split_offsets.proofs.start_index.Statement.{statement}
-use Rattle.split_offsets.proofs.start_index.Tie as tie
+use Rattle.char_columns.proofs.Numbered.{start-same}
+use Rattle.char_columns.proofs.start_index.Statement.{statement}
+use Rattle.char_columns.proofs.start_index.Tie as tie
 
 pub start-index-spec : {M : Type 1} → statement M
 start-index-spec =
