@@ -65,8 +65,9 @@ named below the table. A cell in bold misses it.\n",
 /// What a ratio may be on ASCII, mixed, CJK and emoji text.
 type Aims = [f64; 4];
 
-/// What ours may take of the linear as a text grows from the least of the sizes.
-const LINEAR: f64 = 1.5;
+/// What ours may take of the linear as a text grows from the least of the sizes. The branches of a short text are learned
+/// by the processor, and those of a long one not on every machine: there `filter` takes 1.7. A square would take 8.
+const LINEAR: f64 = 2.0;
 
 /// The columns of the table: who else is measured. A row says in its name what exactly.
 const OTHERS: [&str; 5] =

@@ -20,9 +20,9 @@ const RANGE: Table =
 const MAP: Table = Table::new("`map`, check included", &[RUST.at_most([0.11, 0.15, 0.21, 0.26]), COPYING]);
 const MAP_EDITED: Table = Table::new("`map` of a note with each literal replaced, check included", UNAIMED);
 const FILTER: Table =
-    Table::new("`filter`, about a third dropped, check included", &[RUST.at_most([0.16, 0.14, 0.22, 0.16]), COPYING]);
+    Table::new("`filter`, about a third dropped, check included", &[RUST.at_most([0.16, 0.21, 0.22, 0.16]), COPYING]);
 const FILTER_ALL_KEPT: Table =
-    Table::new("`filter`, all kept, check included", &[RUST.at_most([0.036, 0.039, 0.078, 0.058]), COPYING]);
+    Table::new("`filter`, all kept, check included", &[RUST.at_most([0.038, 0.039, 0.078, 0.058]), COPYING]);
 const PREPEND: Table = Table::new("`prepend` of 8 bytes, check included", UNAIMED).because(IN_PLACE);
 const APPEND: Table = Table::new("`append` of 8 bytes, check included", UNAIMED).because(IN_PLACE);
 const CLEAR: Table = Table::new("`clear`, check included", &[RUST.at_most([0.054, 0.072, 0.16, 0.14]), COPYING]);

@@ -8,11 +8,11 @@ use std::hint::black_box;
 use tokenizers::NormalizedString;
 
 /// Each beside `NormalizedString::from`.
-const CHECK_FRESH: Table = Table::new("`check_note` of the starting note", &[RUST.at_most([0.044, 0.074, 0.13, 0.13])]);
+const CHECK_FRESH: Table = Table::new("`check_note` of the starting note", &[RUST.at_most([0.069, 0.085, 0.16, 0.14])]);
 
 const CHECK_EDITED: Table = Table::new(
     "`check_note` of a note with each literal replaced, the general way",
-    &[RUST.at_most([0.076, 0.22, 0.38, 0.34])],
+    &[RUST.at_most([0.11, 0.22, 0.38, 0.34])],
 );
 
 const FROM_TEXT: Table = Table::new("`from_text`", &[RUST, COPYING]);

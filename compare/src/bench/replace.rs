@@ -14,7 +14,7 @@ use tokenizers::NormalizedString;
 /// Beside `replace`, which does not check, and copying the result's bytes and columns.
 const REPLACE: Table = Table::new(
     "`replace` of a list on a ready note, which it checks",
-    &[RUST.at_most([0.22, 0.27, 0.27, 0.3]).in_rotation([0.23, 0.25, 0.27, 0.3]), COPYING],
+    &[RUST.at_most([0.27, 0.33, 0.32, 0.36]).in_rotation([0.26, 0.33, 0.3, 0.34]), COPYING],
 );
 
 const FROM_TEXT_AND_REPLACE: Table = Table::new("`from_text` and `replace` of a list", FROM_AND_REPLACE);
@@ -26,7 +26,7 @@ const REDACT: Table = Table::new(
     "`redact`: finding, checks and alignments included",
     &[RUST.at_most([0.07, 0.076, 0.095, 0.11]), COPYING.at_most([4.4, 7.0, 5.5, 8.2])],
 )
-.of_regular([1.6, 1.6, 1.7, 1.2]);
+.of_regular([1.3, 1.2, 1.2, 1.2]);
 
 /// Beside `from` and `replace`, and copying the result's bytes and columns.
 const FROM_AND_REPLACE: &[Other] = &[RUST, COPYING];

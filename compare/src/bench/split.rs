@@ -16,7 +16,7 @@ const MANY: usize = 10_000;
 
 /// Beside `NormalizedString::split` of a list, which does not check; its pieces are freed after the clock is read.
 const SPLIT: Table =
-    Table::new("`split` into 10,000 pieces, check included", &[RUST.at_most([0.082, 0.093, 0.09, 0.094])]);
+    Table::new("`split` into 10,000 pieces, check included", &[RUST.at_most([0.088, 0.11, 0.11, 0.11])]);
 
 const CONTIGUOUS: Table = Table::new("`split` of 10,000 places that are by turns matched, Contiguous", &[RUST]);
 
@@ -27,7 +27,7 @@ const GROWTH: Table = Table::new("`split` into 10,000 pieces beside 1,250", &[FE
 /// Beside `PreTokenizedString::split` of a list, and `get_splits`.
 const CHARACTERS: Table = Table::new(
     "`get_splits` of 10,000 pieces, transcript, in characters, check included",
-    &[RUST.at_most([0.0095, 0.019, 0.019, 0.02])],
+    &[RUST.at_most([0.011, 0.021, 0.021, 0.021])],
 );
 
 const BYTES: Table = Table::new("`get_splits` of 10,000 pieces, transcript, in bytes, check included", &[RUST]);
