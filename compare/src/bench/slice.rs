@@ -9,8 +9,9 @@ use tokenizers::normalizer::Range;
 use tokenizers::NormalizedString;
 
 const SLICE: Table =
-    Table::new("`slice`, half of the cleaned text, check included", &[RUST.at_most([0.59, 0.97, 0.99, 1.3])])
-        .because("on emoji text slower than the Rust: nearly all of it is the check of the note, which the Rust has not");
+    Table::new("`slice`, half of the cleaned text, check included", &[RUST.at_most([0.59, 0.97, 0.99, 1.3])]).because(
+        "on emoji text slower than the Rust: nearly all of it is the check of the note, which the Rust has not",
+    );
 
 const SLICE_ORIGINAL: Table =
     Table::new("`slice`, half of the transcript, check included", &[RUST.at_most([0.15, 0.24, 0.24, 0.29])]);
