@@ -8,7 +8,7 @@ use std::hint::black_box;
 use tokenizers::NormalizedString;
 
 /// Each beside `NormalizedString::from`.
-const CHECK_FRESH: Table = Table::new("`check_note` of the starting note", &[RUST.at_most([0.069, 0.085, 0.16, 0.14])]);
+const CHECK_FRESH: Table = Table::new("`check_note` of the starting note", &[RUST.at_most([0.069, 0.085, 0.16, 0.15])]);
 
 const CHECK_EDITED: Table = Table::new(
     "`check_note` of a note with each literal replaced, the general way",

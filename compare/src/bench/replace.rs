@@ -14,7 +14,7 @@ use tokenizers::NormalizedString;
 /// Beside `replace`, which does not check, and copying the result's bytes and columns.
 const REPLACE: Table = Table::new(
     "`replace` of a list on a ready note, which it checks",
-    &[RUST.at_most([0.27, 0.33, 0.32, 0.36]).in_rotation([0.26, 0.33, 0.3, 0.34]), COPYING],
+    &[RUST.at_most([0.27, 0.33, 0.34, 0.36]).in_rotation([0.26, 0.33, 0.3, 0.34]), COPYING],
 );
 
 const FROM_TEXT_AND_REPLACE: Table = Table::new("`from_text` and `replace` of a list", FROM_AND_REPLACE);

@@ -9,7 +9,7 @@ use tokenizers::normalizer::Range;
 use tokenizers::NormalizedString;
 
 const SLICE: Table =
-    Table::new("`slice`, half of the cleaned text, check included", &[RUST.at_most([0.59, 0.97, 0.99, 1.3])]).because(
+    Table::new("`slice`, half of the cleaned text, check included", &[RUST.at_most([0.59, 0.97, 1.0, 1.3])]).because(
         "on emoji text slower than the Rust: nearly all of it is the check of the note, which the Rust has not",
     );
 

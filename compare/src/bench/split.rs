@@ -27,7 +27,7 @@ const GROWTH: Table = Table::new("`split` into 10,000 pieces beside 1,250", &[FE
 /// Beside `PreTokenizedString::split` of a list, and `get_splits`.
 const CHARACTERS: Table = Table::new(
     "`get_splits` of 10,000 pieces, transcript, in characters, check included",
-    &[RUST.at_most([0.011, 0.021, 0.021, 0.021])],
+    &[RUST.at_most([0.011, 0.021, 0.022, 0.022])],
 );
 
 const BYTES: Table = Table::new("`get_splits` of 10,000 pieces, transcript, in bytes, check included", &[RUST]);
