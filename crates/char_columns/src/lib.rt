@@ -221,7 +221,7 @@ fn count_chars(
     }
 }
 
-// Pairs of offsets become characters of the text, which may be an ASCII text.
+// Pairs of offsets become characters of the text. In an ASCII text each byte is one, so that only ends past it change.
 pub fn write_chars(
     text: &[u8],
     side: OffsetReferential,
