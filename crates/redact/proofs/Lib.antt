@@ -2,3 +2,4 @@
 pub mod BlankedSize
 pub mod Blanks
 pub mod Redacting
+pub mod Resized

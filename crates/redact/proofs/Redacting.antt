@@ -21,6 +21,7 @@ use Rattle.note.specs.Rank.{upTo}
 use Rattle.note.proofs.FirstMet.{earlier-of, refused-then, accepted-then, accepted-first, accepted-second, both-accepted}
 use Rattle.note.proofs.Faults.{text-short, text-formed, string-formed, room-enough}
 use Rattle.note.proofs.Starting.{starting-accepted}
+use Rattle.pattern.specs.declared.Place.{Place}
 use Rattle.pattern.specs.Entries.{placesOf}
 use Rattle.pattern.specs.Places.{listFaults}
 use Rattle.pattern.proofs.Places.{covers-places}
@@ -28,13 +29,16 @@ use Rattle.find.specs.Matching.{foundPlaces}
 use Rattle.find.specs.Finding.{foundBytes}
 use Rattle.find.specs.Searching.{firstMatch}
 use Rattle.find.proofs.FoundPlaces.{found-read, found-covers}
-use Rattle.replace.specs.declared.Publication.the-variants.{Published, Refused}
-use Rattle.replace.specs.Replacing.{replaced, replaceFaults, publication}
+use Rattle.replace.specs.declared.Publication.the-variants.{Published as Replaced}
+use Rattle.replace.specs.Replacing.{laid, replaced, replaceFaults}
 use Rattle.replace.specs.Sizes.{placesSize}
 use Rattle.replace.proofs.Sizes.{length-laid}
+use Rattle.redact_note.specs.declared.Redaction.the-variants.{Published, Refused}
+use Rattle.redact_note.specs.Redacting.{matchCount}
+use Rattle.redact_note.proofs.Redacting.{says-published}
 use Rattle.redact.specs.Redacting.{blanked, inputFaults, redactFaults, Redacted}
 use Rattle.redact.specs.Publishing.{PublishedCall}
-use Rattle.redact.specs.Blanks.{Fitting, FoundLaid}
+use Rattle.redact.specs.Blanks.{Fitting, FoundLaid, Resized}
 
 -- the list that is found covers the text, so that the size of its places is that of the result
 module _ (text literal : List ℕ) (t : wellFormed text ≡ true) (l : wellFormed literal ≡ true) (short : length text ≤ limit) where
@@ -145,31 +149,41 @@ module _ (text literal content out₀ starts₀ ends₀ : List ℕ) {room : ℕ}
           ends-room = omega (arith, size, fits, rooms);
         }
 
-    pub all-blanked : {r : ℕ} {out starts ends : List ℕ} → FoundLaid text literal content out₀ starts₀ ends₀ r out starts ends → Redacted limit text literal content out₀ starts₀ ends₀ (Published r) out starts ends
+    -- how long it is tells how many matches gave way
+    pub all-resized : {first r : ℕ} {out starts ends : List ℕ} → first ≡ firstMatch text literal → FoundLaid text literal content out₀ starts₀ ends₀ r out starts ends → Resized text literal first (length content) r
     unfolding replaced starting
-    all-blanked l =
+    all-resized is l =
+        let g : Formed text literal content = formed text literal content room ok in
+        let read : placesOf (foundBytes text literal) ≡ foundPlaces text literal = found-read text literal (g .short) in
+        record {
+          short = g .short;
+          first-is = is;
+          size-is = l .reached ∙ ap (λ (ps : List Place). length (laid (λ end. content) ps text)) (sym read) ∙ blanked-length text literal (g .text-formed) (g .literal-formed) (g .short) content;
+        }
+
+    pub all-blanked : {r count : ℕ} {out starts ends : List ℕ} → FoundLaid text literal content out₀ starts₀ ends₀ r out starts ends → count ≡ matchCount (foundPlaces text literal) → Redacted limit text literal content out₀ starts₀ ends₀ (Published r count) out starts ends
+    unfolding replaced starting
+    all-blanked {r} l counted =
         let read : placesOf (foundBytes text literal) ≡ foundPlaces text literal = found-read text literal (formed text literal content room ok .short) in
+        let size : r ≡ length (blanked text literal content .text) = l .reached ∙ rw read in
         record {
           says = Accepted;
           says-is = sym ok ∙ rw rooms;
-          answer = ap Published (l .reached ∙ rw read);
+          answer = λ i. Published (size i) (counted i);
           text-is = l .text-is ∙ rw read;
           starts-are = l .starts-are ∙ rw read;
           ends-are = l .ends-are ∙ rw read;
         }
 
 -- a call that has published
-says-published : (v : Verdict) (a size : ℕ) → Published a ≡ publication v size → v ≡ Accepted
-says-published Accepted a size e = refl
-says-published (Rejected k) a size e = let z : _≡_ {A = ℕ} 0 1 = cc in absurd (omega arith)
-
 pub published-call : PublishedCall
-published-call text literal content out₀ starts₀ ends₀ m out starts ends call =
-    let ok : call .says ≡ Accepted = says-published (call .says) m _ (call .answer) in
+published-call text literal content out₀ starts₀ ends₀ m count out starts ends call =
+    let said = says-published (call .says) m count _ _ (call .answer) in
+    let ok : call .says ≡ Accepted = said .0 in
     record {
       says = Accepted;
       says-is = sym (replace-accepts text literal content _ (sym (call .says-is) ∙ ok));
-      answer = call .answer ∙ ap (λ (v : Verdict). publication v (length (blanked text literal content .text))) ok;
+      answer = ap Replaced (said .1);
       text-is = call .text-is ∙ ap (λ (v : Verdict). after v (blanked text literal content .text) out₀) ok;
       starts-are = call .starts-are ∙ ap (λ (v : Verdict). after v (blanked text literal content .starts) starts₀) ok;
       ends-are = call .ends-are ∙ ap (λ (v : Verdict). after v (blanked text literal content .ends) ends₀) ok;

@@ -29,6 +29,12 @@ pub record Fitting (text literal content : List ℕ) (first : ℕ) (out starts e
   pub starts-room : placesSize (length content) (foundPlaces text literal) ≤ length starts
   pub ends-room : placesSize (length content) (foundPlaces text literal) ≤ length ends
 
+-- so many bytes are left of a text once each match, from the first one on, gave way to `contentLen` bytes
+pub record Resized (text literal : List ℕ) (first contentLen size : ℕ) : Type 0 where
+  pub short : length text ≤ limit
+  pub first-is : first ≡ firstMatch text literal
+  pub size-is : size ≡ placesSize contentLen (foundPlaces text literal)
+
 -- a starting note as it is, and room for it
 pub record WholeRoom (text out starts ends : List ℕ) : Type 0 where
   pub formed : wellFormed text ≡ true

@@ -17,7 +17,8 @@ use note::Refusal;
 use note::Verdict;
 use note::verdicts::earlier;
 use redact_blocks::blank;
-use replace::Publication;
+use redact_note::Redaction;
+use redact_note::count_matches;
 use validity_blocks::extremes::largest;
 ghost use mathlib.Core.Path.{_≡_};
 ghost use Prim.Native.Nat.{_+_, _≤_, _<_, min};
@@ -28,8 +29,9 @@ ghost use Rattle.note.specs.Refusals.{verdict};
 ghost use Rattle.find.specs.Matching.{foundPlaces};
 ghost use Rattle.find.specs.Searching.{firstMatch};
 ghost use Rattle.replace.specs.Sizes.{placesSize};
+ghost use Rattle.redact_note.specs.Redacting.{matchCount};
 ghost use Rattle.redact.specs.Redacting.{Redacted, inputFaults};
-ghost use Rattle.redact.specs.Blanks.{Fitting, FoundLaid, Margin, WholeLaid, WholeRoom};
+ghost use Rattle.redact.specs.Blanks.{Fitting, FoundLaid, Margin, Resized, WholeLaid, WholeRoom};
 
 // Whether text, literal or content is refused.
 fn check_inputs(text: &[u8], literal: &[u8], content: &[u8]) -> Verdict
@@ -205,8 +207,30 @@ fn blank_found(
     )
 }
 
+// How many matches gave way in a text that has `size` bytes since. Each of them made it longer or shorter by as much: no
+// match is looked for again, unless the content is as long as the literal.
+fn match_count(
+    text: &[u8],
+    literal: &[u8],
+    first: usize,
+    content_len: usize,
+    size: usize,
+) -> usize
+    requires { ⌜ Resized (now text) (now literal) first «content_len» size ⌝ }
+    ensures { λ r. ⌜ r ≡ matchCount (foundPlaces (now (text .entry)) (now (literal .entry))) ⌝ }
+{
+    let literal_len = literal.len();
+    if literal_len < content_len {
+        return (size - text.len()) / (content_len - literal_len);
+    }
+    if content_len < literal_len {
+        return (text.len() - size) / (literal_len - content_len);
+    }
+    count_matches(text, literal, first)
+}
+
 // Blanks every match of the literal in the starting note of the text: what is published is in front of `out`,
-// `out_starts` and `out_ends`. It judges, in this order: `TooLong` (the text), `IllFormed` (text, literal or content),
+// `out_starts` and `out_ends`; how many matches gave way is answered too. It judges, in this order: `TooLong` (the text), `IllFormed` (text, literal or content),
 // `NoRoom`.
 pub fn redact(
     text: &[u8],
@@ -215,13 +239,13 @@ pub fn redact(
     out: &mut [u8],
     out_starts: &mut [Offset],
     out_ends: &mut [Offset],
-) -> Publication
+) -> Redaction
     ensures { λ r. ⌜ Redacted limit (now (text .entry)) (now (literal .entry)) (now (content .entry))
         (now (out .entry)) (now («out_starts» .entry)) (now («out_ends» .entry))
         r (now (out .exit)) (now («out_starts» .exit)) (now («out_ends» .exit)) ⌝ }
 {
     if let Verdict::Refused(k) = check_inputs(text, literal, content) {
-        return Publication::Refused(k);
+        return Redaction::Refused(k);
     }
     let first = first_match(text, literal);
     let room = least_of_two(
@@ -229,7 +253,9 @@ pub fn redact(
         least_room(out.len(), out_starts.len(), out_ends.len()),
     );
     if !result_fits(text, literal, first, content.len(), room) {
-        return Publication::Refused(Refusal::NoRoom);
+        return Redaction::Refused(Refusal::NoRoom);
     }
-    Publication::Published(blank_found(text, literal, content, first, out, out_starts, out_ends))
+    let size = blank_found(text, literal, content, first, out, out_starts, out_ends);
+    let count = match_count(text, literal, first, content.len(), size);
+    Redaction::Published(size, count)
 }

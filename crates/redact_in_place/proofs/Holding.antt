@@ -22,8 +22,8 @@ module _ {m : ℕ} {out starts ends : List ℕ} (f : Fits m out starts ends) {si
   ends-copied = omega (arith, length-take-le m ends (f .ends-fit), f .within, h .ends-long)
 
 -- what is left is held, in buffers that have kept their lengths
-pub left-held : {original : List ℕ} {size m count : ℕ} {literal content text₀ starts₀ ends₀ : List ℕ} {r : Redaction} {text starts ends : List ℕ}
-    → Held size text₀ starts₀ ends₀ → InPlace original size literal content text₀ starts₀ ends₀ r text starts ends → r ≡ Published m count
+pub left-held : {original : List ℕ} {shift size m count : ℕ} {literal content text₀ starts₀ ends₀ : List ℕ} {r : Redaction} {text starts ends : List ℕ}
+    → Held size text₀ starts₀ ends₀ → InPlace original shift size literal content text₀ starts₀ ends₀ r text starts ends → r ≡ Published m count
     → length text ≡ length text₀ → length starts ≡ length starts₀ → length ends ≡ length ends₀
     → Held m text starts ends
 left-held h p is t s e =

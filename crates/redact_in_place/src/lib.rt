@@ -38,9 +38,11 @@ fn list_buffer() -> [u8; LIST]
 }
 
 // Blanks every match of the literal in the note of the first `size` bytes of `text` and alignments of `starts` and
-// `ends`: what is published stands there afterwards. A refusal leaves all three.
+// `ends`: what is published is there afterwards. A refusal leaves all three.
+// An inner function: the three buffers have the limit's length.
 pub fn redact_in_place(
     original: &[u8],
+    original_shift: u32,
     size: usize,
     literal: &[u8],
     content: &[u8],
@@ -49,7 +51,7 @@ pub fn redact_in_place(
     ends: &mut [Offset],
 ) -> Redaction
     requires { ⌜ Held size (now text) (now starts) (now ends) ⌝ }
-    ensures { λ r. ⌜ InPlace (now (original .entry)) size (now (literal .entry)) (now (content .entry))
+    ensures { λ r. ⌜ InPlace (now (original .entry)) «original_shift» size (now (literal .entry)) (now (content .entry))
         (now (text .entry)) (now (starts .entry)) (now (ends .entry))
         r (now (text .exit)) (now (starts .exit)) (now (ends .exit)) ⌝ }
 {
@@ -62,7 +64,7 @@ pub fn redact_in_place(
         &text[..size],
         &starts[..size],
         &ends[..size],
-        0,
+        original_shift,
         literal,
         content,
         &mut list,

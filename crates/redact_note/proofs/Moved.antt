@@ -12,6 +12,7 @@ use Rattle.note.specs.declared.Verdict.the-variants.{Accepted, Refused as Rejec
 use Rattle.note.specs.Refusals.{after, unlessRefused}
 use Rattle.note.specs.Notes.{Note, limit}
 use Rattle.note.proofs.Sound.{length-starts, length-ends}
+use Rattle.find.specs.Matching.{foundPlaces}
 use Rattle.find.specs.Finding.{foundBytes}
 use Rattle.replace.specs.declared.Publication.the-variants.{Published as Replaced}
 use Rattle.replace.specs.Replacing.{Replacing, resulting}
@@ -21,10 +22,10 @@ use Rattle.replace.proofs.Replaced.{replaced-sound}
 use Rattle.replace.proofs.Blanking.{published-is}
 use Rattle.redact_note.specs.declared.Redaction.{Redaction}
 use Rattle.redact_note.specs.declared.Redaction.the-variants.{Published, Refused}
-use Rattle.redact_note.specs.Redacting.{blankedNote, NoteRedacted}
+use Rattle.redact_note.specs.Redacting.{blankedNote, matchCount, NoteRedacted}
 use Rattle.redact_note.proofs.Redacting.{blanked-call, says-published}
 
-says-refused : (v : Verdict) {k : Refusal} (size count : ℕ) → Refused k ≡ unlessRefused Refused v (Published size count) → v ≡ Rejected k
+pub says-refused : (v : Verdict) {k : Refusal} (size count : ℕ) → Refused k ≡ unlessRefused Refused v (Published size count) → v ≡ Rejected k
 says-refused Accepted size count e = let z : _≡_ {A = ℕ} 0 1 = cc in absurd (omega arith)
 says-refused (Rejected j) size count e = ap Rejected (sym cc)
 
@@ -40,10 +41,13 @@ module _ {n : Note} {literal content list₀ out₀ starts₀ ends₀ : List ℕ
   pub says-accepted : known .says ≡ Accepted
   says-accepted = says-published (known .says) m count _ _ (sym is ∙ known .answer) .0
 
+  pub counted : count ≡ matchCount (foundPlaces (n .normalized) literal)
+  counted = says-published (known .says) m count _ _ (sym is ∙ known .answer) .2
+
   replacing : Replacing limit n (foundBytes (n .normalized) literal) content out₀ starts₀ ends₀ (Replaced m) out starts ends
   replacing = blanked-call n literal content list₀ out₀ starts₀ ends₀ m count list out starts ends (rw is at known)
 
-  parts : Equal (published m out starts ends) (blankedNote n literal content)
+  pub parts : Equal (published m out starts ends) (blankedNote n literal content)
   parts = published-is replacing
 
   over-long : (r d : List ℕ) {o : List ℕ} → m ≡ length r → o ≡ after (known .says) r d → m ≤ length o

@@ -69,7 +69,7 @@ pub record Formed (n : Note) (literal content : List ℕ) : Type 0 where
   pub content-formed : wellFormed content ≡ true
   pub noted : verdict (noteFaults limit n) ≡ Accepted
 
-normalized-short : (most : ℕ) (n : Note) → fits most n ≡ true → length (n .normalized) ≤ most
+pub normalized-short : (most : ℕ) (n : Note) → fits most n ≡ true → length (n .normalized) ≤ most
 unfolding fits
 normalized-short most n within =
     leb-true (length (n .normalized)) most (and-elim-right (leb (length (n .original)) most) _ (and-elim-left (leb (length (n .original)) most && leb (length (n .normalized)) most) _ within))
@@ -149,7 +149,7 @@ module _ (n : Note) (literal content : List ℕ) (a b : ℕ) (ok : Accepted ≡ 
   list-fits : length (foundBytes (n .normalized) literal) ≤ a
   list-fits = room-enough (length (foundBytes (n .normalized) literal)) a (accepted-first (roomFaults (length (foundBytes (n .normalized) literal)) a) (roomFaults (length (blankedNote n literal content .text)) (min limit b)) rooms-accepted)
 
-  replaces : verdict (replaceFaults limit n (foundBytes (n .normalized) literal) content b) ≡ Accepted
+  pub replaces : verdict (replaceFaults limit n (foundBytes (n .normalized) literal) content b) ≡ Accepted
   replaces = replace-accepts n literal content all-formed b (accepted-second (roomFaults (length (foundBytes (n .normalized) literal)) a) (roomFaults (length (blankedNote n literal content .text)) (min limit b)) rooms-accepted)
 
 -- a written list is the front of its buffer
@@ -203,8 +203,8 @@ module _ (n : Note) (literal content list₀ out₀ starts₀ ends₀ : List ℕ
         }
 
 -- a call that has published
-pub says-published : (v : Verdict) (size count m k : ℕ) → Published size count ≡ unlessRefused Refused v (Published m k) → (v ≡ Accepted) × (size ≡ m)
-says-published Accepted size count m k e = (refl, cc)
+pub says-published : (v : Verdict) (size count m k : ℕ) → Published size count ≡ unlessRefused Refused v (Published m k) → (v ≡ Accepted) × (size ≡ m) × (count ≡ k)
+says-published Accepted size count m k e = (refl, cc, cc)
 says-published (Rejected j) size count m k e = let z : _≡_ {A = ℕ} 0 1 = cc in absurd (omega arith)
 
 pub blanked-call : BlankedCall

@@ -55,7 +55,8 @@ fn check_inputs(
 }
 
 // How many matches there are, from the first one on.
-fn count_matches(text: &[u8], literal: &[u8], first: usize) -> usize
+// An inner function: the text is within the limit, and `first` is its first match.
+pub fn count_matches(text: &[u8], literal: &[u8], first: usize) -> usize
     requires { ⌜ (length (now text) ≤ limit) × (first ≡ firstMatch (now text) (now literal)) ⌝ }
     ensures { λ r. ⌜ r ≡ matchCount (foundPlaces (now (text .entry)) (now (literal .entry))) ⌝ }
 {

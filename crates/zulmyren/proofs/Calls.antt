@@ -1,5 +1,5 @@
 -- From a call's answer to the exported numbers.
-use Prim.Native.Nat.{ℕ, _≤_}
+use Prim.Native.Nat.{ℕ}
 use mathlib.Core.Path.{_≡_, _∙_, ap, sym}
 use mathlib.Core.Bool.{Bool}
 use mathlib.Core.List.{List}
@@ -27,17 +27,11 @@ use Rattle.split.specs.Splitting.{PieceColumns, Splitting}
 use Rattle.char_columns.specs.declared.OffsetType.{OffsetType}
 use Rattle.split_offsets.specs.declared.Splits.{Splits}
 use Rattle.split_offsets.specs.SplitOffsets.{GetSplits}
-use Rattle.replace.specs.declared.Publication.{Publication}
-use Rattle.replace.specs.declared.Publication.the-variants.{Published, Refused}
-use Rattle.replace.specs.Replacing.{Replacing}
-use Rattle.replace.proofs.Faults.{published-short}
-use Rattle.redact.specs.Redacting.{Redacted}
-use Rattle.redact.proofs.Redacting.{published-call}
 use Rattle.zulmyren.specs.declared.answers.Offsets.{Offsets}
 use Rattle.zulmyren.specs.declared.answers.Slice.{Slice}
 use Rattle.zulmyren.specs.declared.answers.Cut.{Cut}
-use Rattle.zulmyren.specs.declared.answers.Listed.{Listed}
-use Rattle.zulmyren.specs.Calls.{Told, offsetsOf, sliceWith, sliceNumbers, cutNumbers, splitsNumbers, behaviorOf, emptyOf, unitOf, sideOf, PublishedShort}
+use Rattle.zulmyren.specs.declared.answers.Written.{Written}
+use Rattle.zulmyren.specs.Calls.{Told, offsetsOf, sliceWith, sliceNumbers, cutNumbers, splitsNumbers, behaviorOf, emptyOf, unitOf, sideOf}
 
 -- a range's call, through the side, the range and the answer's numbers
 pub range-call : (f : Range → Converted) (s : OffsetReferential) (a e : ℕ) {side : OffsetReferential} {range : Range} {answer : Converted} {r : Offsets} → side ≡ s → range ≡ rangeOf side a e → answer ≡ f range → r ≡ offsetsOf answer → r ≡ offsetsOf (f (rangeOf s a e))
@@ -55,18 +49,6 @@ range-found f p q = rw (f, p, q)
 pub range-refused : {v : Converted} {k : Refusal} {r : ℕ} → v ≡ NotFound k → r ≡ numberOf k → record { refusal = r; start = 0; end = 0 } ≡ offsetsOf v
 unfolding offsetsOf
 range-refused f q = rw (f, q)
-
--- what a replacement publishes is within the limit
-pub replaced-short : (v : Publication) {n : Note} {list content out₀ starts₀ ends₀ out starts ends : List ℕ} → Replacing limit n list content out₀ starts₀ ends₀ v out starts ends → PublishedShort v
-replaced-short (Published a) call = published-short call
-replaced-short (Refused k) call = tt {0}
-
-pub redacted-short : (v : Publication) {text literal content out₀ starts₀ ends₀ out starts ends : List ℕ} → Redacted limit text literal content out₀ starts₀ ends₀ v out starts ends → PublishedShort v
-redacted-short (Published a) call = published-short (published-call _ _ _ _ _ _ _ _ _ _ call)
-redacted-short (Refused k) call = tt {0}
-
-pub published-within : {v : Publication} {n : ℕ} → v ≡ Published n → PublishedShort v → n ≤ limit
-published-within is short = rw is at short
 
 -- a list's call, through the side
 pub list-call :
@@ -119,7 +101,7 @@ pub split-call :
 split-call b d {v = v} p q call t = record { answer = v; told = t; met = rw (p, q) at call }
 
 pub splits-call :
-    {n : Note} {list : List ℕ} (b : ℕ) (o u : Bool) {behavior : SplitDelimiterBehavior} {side : OffsetReferential} {unit : OffsetType} {starts₀ ends₀ : List ℕ} {v : Splits} {starts ends : List ℕ} {r : Listed}
+    {n : Note} {list : List ℕ} (b : ℕ) (o u : Bool) {behavior : SplitDelimiterBehavior} {side : OffsetReferential} {unit : OffsetType} {starts₀ ends₀ : List ℕ} {v : Splits} {starts ends : List ℕ} {r : Written}
     → behavior ≡ behaviorOf b → side ≡ sideOf o → unit ≡ unitOf u → GetSplits limit n list behavior side unit starts₀ ends₀ v starts ends
     → r ≡ splitsNumbers v
     → Told splitsNumbers (λ w. GetSplits limit n list (behaviorOf b) (sideOf o) (unitOf u) starts₀ ends₀ w starts ends) r

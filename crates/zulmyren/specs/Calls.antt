@@ -1,10 +1,9 @@
 -- An exported call answers the numbers of the call below, whose contract its buffers meet (RULES 2.6).
-use Prim.Native.Nat.{ℕ, _≤_}
+use Prim.Native.Nat.{ℕ}
 use mathlib.Core.Path.{_≡_}
 use mathlib.Core.Bool.{Bool, false, cond}
 use lib.Dec.{eqb}
 use Rattle.note.specs.Refusals.{numberOf}
-use Rattle.note.specs.Notes.{limit}
 use Rattle.char_offsets.specs.declared.CharOffsets.{CharOffsets}
 use Rattle.char_offsets.specs.declared.CharOffsets.the-variants.{Chars, Refused as Unmapped}
 use Rattle.char_offsets.specs.declared.letters.LetterCount.{LetterCount}
@@ -14,9 +13,13 @@ use Rattle.convert.specs.declared.OffsetReferential.the-variants.{Original, Nor
 use Rattle.convert.specs.declared.Converted.{Converted}
 use Rattle.convert.specs.Converting.{numberIn, startIn, endIn}
 use Rattle.find.specs.declared.Matches.{Matches}
-use Rattle.find.specs.declared.Matches.the-variants.{Written, Refused as Unlisted}
+use Rattle.find.specs.declared.Matches.the-variants.{Written as Found, Refused as Unlisted}
 use Rattle.replace.specs.declared.Publication.{Publication}
 use Rattle.replace.specs.declared.Publication.the-variants.{Published, Refused as Unpublished}
+use Rattle.redact_note.specs.declared.Redaction.{Redaction}
+use Rattle.redact_note.specs.declared.Redaction.the-variants.{Published as Redacted, Refused as Unredacted}
+use Rattle.redact_all.specs.declared.Redactions.{Redactions}
+use Rattle.redact_all.specs.declared.Redactions.the-variants.{Published as AllRedacted, Refused as NoneRedacted}
 use Rattle.published_alike.specs.declared.Comparison.{Comparison as Answer}
 use Rattle.published_alike.specs.declared.Comparison.the-variants.{Compared, Refused as Uncompared}
 use Rattle.slice.specs.declared.Sliced.{Sliced}
@@ -45,7 +48,9 @@ use Rattle.edits.specs.declared.Clearing.the-variants.{Cleared, Refused as Uncl
 use Rattle.zulmyren.specs.declared.answers.Count.{Count}
 use Rattle.zulmyren.specs.declared.answers.Lengths.{Lengths}
 use Rattle.zulmyren.specs.declared.answers.Offsets.{Offsets}
-use Rattle.zulmyren.specs.declared.answers.Listed.{Listed}
+use Rattle.zulmyren.specs.declared.answers.Written.{Written}
+use Rattle.zulmyren.specs.declared.answers.Blanked.{Blanked}
+use Rattle.zulmyren.specs.declared.answers.BlankedAll.{BlankedAll}
 use Rattle.zulmyren.specs.declared.answers.Comparison.{Comparison}
 use Rattle.zulmyren.specs.declared.answers.Slice.{Slice}
 use Rattle.zulmyren.specs.declared.answers.Cut.{Cut as CutCount}
@@ -60,9 +65,21 @@ abbrev pub lettersOf : LetterCount → Count
 lettersOf (Letters n) = record { refusal = 0; count = n }
 lettersOf (Uncounted k) = record { refusal = numberOf k; count = 0 }
 
-abbrev pub publishedOf : Publication → Count
-publishedOf (Published n) = record { refusal = 0; count = n }
-publishedOf (Unpublished k) = record { refusal = numberOf k; count = 0 }
+abbrev pub publishedOf : Publication → Written
+publishedOf (Published n) = record { refusal = 0; len = n }
+publishedOf (Unpublished k) = record { refusal = numberOf k; len = 0 }
+
+abbrev pub blankedOf : Redaction → Blanked
+blankedOf (Redacted n count) = record { refusal = 0; len = n; matches = count }
+blankedOf (Unredacted k) = record { refusal = numberOf k; len = 0; matches = 0 }
+
+abbrev pub allBlankedWith : ℕ → ℕ → ℕ → ℕ → ℕ → BlankedAll
+allBlankedWith refusal len notFound left fillersFound =
+    record { refusal = refusal; len = len; «not_found» = notFound; left = left; «fillers_found» = fillersFound }
+
+abbrev pub allBlankedOf : Redactions → BlankedAll
+allBlankedOf (AllRedacted r) = allBlankedWith 0 (r .len) (r .«not_found») (r .left) (r .«fillers_found»)
+allBlankedOf (NoneRedacted k) = allBlankedWith (numberOf k) 0 0 0 0
 
 abbrev pub charsOf : CharOffsets → Offsets
 charsOf (Chars a e) = record { refusal = 0; start = a .0; end = e .0 }
@@ -71,8 +88,8 @@ charsOf (Unmapped k) = record { refusal = numberOf k; start = 0; end = 0 }
 unfoldable pub offsetsOf : Converted → Offsets
 offsetsOf answer = record { refusal = numberIn answer; start = startIn answer; end = endIn answer }
 
-abbrev pub listedOf : Matches → Listed
-listedOf (Written n) = record { refusal = 0; len = n }
+abbrev pub listedOf : Matches → Written
+listedOf (Found n) = record { refusal = 0; len = n }
 listedOf (Unlisted k) = record { refusal = numberOf k; len = 0 }
 
 abbrev pub comparedOf : Answer → Comparison
@@ -96,10 +113,10 @@ sliceNumbers (Cut s) =
 sliceNumbers (Uncut k) = sliceWith (numberOf k) 0 0 0 0 0
 
 abbrev pub cutNumbers : Pieces → CutCount
-cutNumbers (Divided pieces alignments) = record { refusal = 0; pieces = pieces; alignments = alignments }
-cutNumbers (Undivided k) = record { refusal = numberOf k; pieces = 0; alignments = 0 }
+cutNumbers (Divided pieces alignments) = record { refusal = 0; len = pieces; «alignments_len» = alignments }
+cutNumbers (Undivided k) = record { refusal = numberOf k; len = 0; «alignments_len» = 0 }
 
-abbrev pub splitsNumbers : Splits → Listed
+abbrev pub splitsNumbers : Splits → Written
 splitsNumbers (Offered n) = record { refusal = 0; len = n }
 splitsNumbers (Unoffered k) = record { refusal = numberOf k; len = 0 }
 
@@ -115,28 +132,14 @@ emptyOf drop = cond drop Dropped Kept
 abbrev pub unitOf : Bool → OffsetType
 unitOf inChars = cond inChars Char Byte
 
-abbrev pub editedOf : Editing → Count
-editedOf (Edited n) = record { refusal = 0; count = n }
-editedOf (Unedited k) = record { refusal = numberOf k; count = 0 }
+abbrev pub editedOf : Editing → Written
+editedOf (Edited n) = record { refusal = 0; len = n }
+editedOf (Unedited k) = record { refusal = numberOf k; len = 0 }
 
 abbrev pub clearedOf : Clearing → Lengths
-clearedOf (Cleared before left) = record { refusal = 0; before = before; left = left }
-clearedOf (Uncleared k) = record { refusal = numberOf k; before = 0; left = 0 }
+clearedOf (Cleared before left) = record { refusal = 0; «before_len» = before; len = left }
+clearedOf (Uncleared k) = record { refusal = numberOf k; «before_len» = 0; len = 0 }
 
 -- the text that a range is in
 abbrev pub sideOf : Bool → OffsetReferential
 sideOf original = cond original Original Normalized
-
--- what is published is within the limit
-abbrev pub PublishedShort : Publication → Type 0
-PublishedShort (Published n) = n ≤ limit
-PublishedShort (Unpublished k) = Unit {0}
-
--- what an edit leaves, and what clearing tells, is within the limit
-abbrev pub EditingShort : Editing → Type 0
-EditingShort (Edited n) = n ≤ limit
-EditingShort (Unedited k) = Unit {0}
-
-abbrev pub ClearingShort : Clearing → Type 0
-ClearingShort (Cleared before left) = (before ≤ limit) × (left ≤ limit)
-ClearingShort (Uncleared k) = Unit {0}

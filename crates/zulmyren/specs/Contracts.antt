@@ -9,6 +9,8 @@ use Rattle.convert.specs.declared.OffsetReferential.{OffsetReferential}
 use Rattle.convert.specs.declared.Range.{Range}
 use Rattle.convert_list.specs.ConvertList.{ConvertedList}
 use Rattle.replace.specs.Replacing.{Replacing}
+use Rattle.redact_note.specs.Redacting.{NoteRedacted}
+use Rattle.redact_all.specs.RedactAll.{AllBuffers, AllRedacted}
 use Rattle.redact.specs.Redacting.{Redacted}
 use Rattle.slice.specs.Slicing.{Slicing}
 use Rattle.behaviors.specs.declared.SplitDelimiterBehavior.{SplitDelimiterBehavior}
@@ -16,11 +18,12 @@ use Rattle.behaviors.specs.declared.EmptyPieces.{EmptyPieces}
 use Rattle.split.specs.Splitting.{PieceColumns, Splitting}
 use Rattle.char_columns.specs.declared.OffsetType.{OffsetType}
 use Rattle.split_offsets.specs.SplitOffsets.{GetSplits}
-use Rattle.zulmyren.specs.declared.answers.Count.{Count}
+use Rattle.zulmyren.specs.declared.answers.Blanked.{Blanked}
+use Rattle.zulmyren.specs.declared.answers.BlankedAll.{BlankedAll}
 use Rattle.zulmyren.specs.declared.answers.Cut.{Cut}
-use Rattle.zulmyren.specs.declared.answers.Listed.{Listed}
 use Rattle.zulmyren.specs.declared.answers.Slice.{Slice}
-use Rattle.zulmyren.specs.Calls.{Told, cutNumbers, publishedOf, sliceNumbers, splitsNumbers}
+use Rattle.zulmyren.specs.declared.answers.Written.{Written}
+use Rattle.zulmyren.specs.Calls.{Told, allBlankedOf, blankedOf, cutNumbers, publishedOf, sliceNumbers, splitsNumbers}
 
 -- a contract on three buffers, its answer told in numbers
 abbrev pub ToldThree : {A N : Type 0} → (A → N) → OnThree A → OnThree N
@@ -35,12 +38,22 @@ abbrev pub ConvertAllCall : Note → OffsetReferential → List ℕ → List ℕ
 ConvertAllCall n side from to = ToldThree answerOf (ConvertedList limit n side from to)
 
 -- a note, a list, a content
-abbrev pub ReplaceCall : Note → List ℕ → List ℕ → OnThree Count
+abbrev pub ReplaceCall : Note → List ℕ → List ℕ → OnThree Written
 ReplaceCall n list content = ToldThree publishedOf (Replacing limit n list content)
 
 -- a text, a literal, a content
-abbrev pub RedactCall : List ℕ → List ℕ → List ℕ → OnThree Count
-RedactCall text literal content = ToldThree publishedOf (Redacted limit text literal content)
+abbrev pub RedactCall : List ℕ → List ℕ → List ℕ → OnThree Blanked
+RedactCall text literal content = ToldThree blankedOf (Redacted limit text literal content)
+
+-- a note, a literal, a content; the list, and three buffers
+abbrev pub RedactNoteCall : Note → List ℕ → List ℕ → List ℕ → List ℕ → List ℕ → List ℕ
+    → Blanked → List ℕ → List ℕ → List ℕ → List ℕ → Type 0
+RedactNoteCall n literal content list₀ out₀ starts₀ ends₀ r list out starts ends =
+    Told blankedOf (λ v. NoteRedacted limit n literal content list₀ out₀ starts₀ ends₀ v list out starts ends) r
+
+-- a note, words and sizes; six buffers
+abbrev pub RedactAllCall : Note → List ℕ → List ℕ → AllBuffers → BlankedAll → AllBuffers → Type 0
+RedactAllCall n bytes sizes b₀ r b = Told allBlankedOf (λ v. AllRedacted limit n bytes sizes b₀ v b) r
 
 -- a note, a range; two columns
 abbrev pub SliceCall : Note → Range → List ℕ → List ℕ → Slice → List ℕ → List ℕ → Type 0
@@ -53,6 +66,6 @@ SplitCall n list behavior empty c₀ r c = Told cutNumbers (λ v. Splitting limi
 
 -- a note, a list, a behaviour, the text and the unit that are asked for; two columns
 abbrev pub GetSplitsCall : Note → List ℕ → SplitDelimiterBehavior → OffsetReferential → OffsetType
-    → List ℕ → List ℕ → Listed → List ℕ → List ℕ → Type 0
+    → List ℕ → List ℕ → Written → List ℕ → List ℕ → Type 0
 GetSplitsCall n list behavior side unit starts₀ ends₀ r starts ends =
     Told splitsNumbers (λ v. GetSplits limit n list behavior side unit starts₀ ends₀ v starts ends) r

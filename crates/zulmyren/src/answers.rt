@@ -7,15 +7,17 @@ use convert::start_of;
 use edits::Clearing;
 use find::Matches;
 use note::verdicts::number;
+use redact_all::Redactions;
+use redact_note::Redaction;
 use replace::Publication;
 use slice::Sliced;
 use split::Pieces;
 use split_offsets::Splits;
 use transform::Editing;
 ghost use mathlib.Core.Path.{_≡_};
-ghost use Rattle.zulmyren.specs.Calls.{ClearingShort, EditingShort, PublishedShort, charsOf, clearedOf};
-ghost use Rattle.zulmyren.specs.Calls.{comparedOf, cutNumbers, editedOf, lettersOf, listedOf};
-ghost use Rattle.zulmyren.specs.Calls.{offsetsOf, publishedOf, sliceNumbers, splitsNumbers};
+ghost use Rattle.zulmyren.specs.Calls.{allBlankedOf, blankedOf, charsOf, clearedOf, comparedOf, cutNumbers};
+ghost use Rattle.zulmyren.specs.Calls.{editedOf, lettersOf, listedOf, offsetsOf, publishedOf, sliceNumbers};
+ghost use Rattle.zulmyren.specs.Calls.{splitsNumbers};
 
 // A count, 0 where the call is refused.
 #[repr(C)]
@@ -32,9 +34,9 @@ pub struct Offsets {
     pub end: u32,
 }
 
-// How many bytes a list has, or how many pieces there are; 0 where the call is refused.
+// How many elements the result has: bytes of a text or list, or pieces; 0 where the call is refused.
 #[repr(C)]
-pub struct Listed {
+pub struct Written {
     pub refusal: u32,
     pub len: usize,
 }
@@ -61,50 +63,62 @@ pub struct Slice {
 #[repr(C)]
 pub struct Cut {
     pub refusal: u32,
-    pub pieces: usize,
-    pub alignments: usize,
+    pub len: usize,
+    pub alignments_len: usize,
 }
 
-// How long a text was and is, 0 and 0 where the call is refused.
+// How many bytes a text had and has, 0 and 0 where the call is refused.
 #[repr(C)]
 pub struct Lengths {
     pub refusal: u32,
-    pub before: u32,
-    pub left: u32,
+    pub before_len: usize,
+    pub len: usize,
 }
 
-// An inner function: what is left is within the limit.
-pub fn edited_to_c(answer: Editing) -> Count
-    requires { ⌜ EditingShort answer ⌝ }
+// How many bytes are published, and how many matches gave way; 0 each where the call is refused.
+#[repr(C)]
+pub struct Blanked {
+    pub refusal: u32,
+    pub len: usize,
+    pub matches: usize,
+}
+
+// How many bytes are published; how many literals were not found, how many can still be read in what is published, and
+// how many fillers the note had already; 0 each where the call is refused.
+#[repr(C)]
+pub struct BlankedAll {
+    pub refusal: u32,
+    pub len: usize,
+    pub not_found: usize,
+    pub left: usize,
+    pub fillers_found: usize,
+}
+
+pub fn edited_to_c(answer: Editing) -> Written
     ensures { λ r. ⌜ r ≡ editedOf answer ⌝ }
 {
     match answer {
-        Editing::Edited(size) => Count {
-            refusal: 0,
-            count: size as u32,
-        },
-        Editing::Refused(k) => Count {
+        Editing::Edited(len) => Written { refusal: 0, len },
+        Editing::Refused(k) => Written {
             refusal: number(k),
-            count: 0,
+            len: 0,
         },
     }
 }
 
-// An inner function: both lengths are within the limit.
 pub fn cleared_to_c(answer: Clearing) -> Lengths
-    requires { ⌜ ClearingShort answer ⌝ }
     ensures { λ r. ⌜ r ≡ clearedOf answer ⌝ }
 {
     match answer {
-        Clearing::Cleared(before, left) => Lengths {
+        Clearing::Cleared(before_len, len) => Lengths {
             refusal: 0,
-            before: before as u32,
-            left: left as u32,
+            before_len,
+            len,
         },
         Clearing::Refused(k) => Lengths {
             refusal: number(k),
-            before: 0,
-            left: 0,
+            before_len: 0,
+            len: 0,
         },
     }
 }
@@ -121,19 +135,52 @@ pub fn letters_to_c(answer: LetterCount) -> Count
     }
 }
 
-// An inner function: what is published is within the limit.
-pub fn published_to_c(answer: Publication) -> Count
-    requires { ⌜ PublishedShort answer ⌝ }
+pub fn published_to_c(answer: Publication) -> Written
     ensures { λ r. ⌜ r ≡ publishedOf answer ⌝ }
 {
     match answer {
-        Publication::Published(size) => Count {
-            refusal: 0,
-            count: size as u32,
-        },
-        Publication::Refused(k) => Count {
+        Publication::Published(len) => Written { refusal: 0, len },
+        Publication::Refused(k) => Written {
             refusal: number(k),
-            count: 0,
+            len: 0,
+        },
+    }
+}
+
+pub fn blanked_to_c(answer: Redaction) -> Blanked
+    ensures { λ r. ⌜ r ≡ blankedOf answer ⌝ }
+{
+    match answer {
+        Redaction::Published(len, matches) => Blanked {
+            refusal: 0,
+            len,
+            matches,
+        },
+        Redaction::Refused(k) => Blanked {
+            refusal: number(k),
+            len: 0,
+            matches: 0,
+        },
+    }
+}
+
+pub fn all_blanked_to_c(answer: Redactions) -> BlankedAll
+    ensures { λ r. ⌜ r ≡ allBlankedOf answer ⌝ }
+{
+    match answer {
+        Redactions::Published(report) => BlankedAll {
+            refusal: 0,
+            len: report.len,
+            not_found: report.not_found,
+            left: report.left,
+            fillers_found: report.fillers_found,
+        },
+        Redactions::Refused(k) => BlankedAll {
+            refusal: number(k),
+            len: 0,
+            not_found: 0,
+            left: 0,
+            fillers_found: 0,
         },
     }
 }
@@ -172,12 +219,12 @@ pub fn range_to_c(answer: Converted) -> Offsets
     }
 }
 
-pub fn list_to_c(answer: Matches) -> Listed
+pub fn list_to_c(answer: Matches) -> Written
     ensures { λ r. ⌜ r ≡ listedOf answer ⌝ }
 {
     match answer {
-        Matches::Written(len) => Listed { refusal: 0, len },
-        Matches::Refused(k) => Listed {
+        Matches::Written(len) => Written { refusal: 0, len },
+        Matches::Refused(k) => Written {
             refusal: number(k),
             len: 0,
         },
@@ -229,25 +276,25 @@ pub fn cut_to_c(answer: Pieces) -> Cut
     ensures { λ r. ⌜ r ≡ cutNumbers answer ⌝ }
 {
     match answer {
-        Pieces::Cut(pieces, alignments) => Cut {
+        Pieces::Cut(len, alignments_len) => Cut {
             refusal: 0,
-            pieces,
-            alignments,
+            len,
+            alignments_len,
         },
         Pieces::Refused(k) => Cut {
             refusal: number(k),
-            pieces: 0,
-            alignments: 0,
+            len: 0,
+            alignments_len: 0,
         },
     }
 }
 
-pub fn splits_to_c(answer: Splits) -> Listed
+pub fn splits_to_c(answer: Splits) -> Written
     ensures { λ r. ⌜ r ≡ splitsNumbers answer ⌝ }
 {
     match answer {
-        Splits::Listed(len) => Listed { refusal: 0, len },
-        Splits::Refused(k) => Listed {
+        Splits::Listed(len) => Written { refusal: 0, len },
+        Splits::Refused(k) => Written {
             refusal: number(k),
             len: 0,
         },

@@ -1,6 +1,6 @@
 // Editing: scripts, and the edits of a whole note.
-use crate::answers::Count;
 use crate::answers::Lengths;
+use crate::answers::Written;
 use crate::answers::cleared_to_c;
 use crate::answers::edited_to_c;
 use crate::ranges::side_of;
@@ -27,7 +27,7 @@ pub extern "C" fn zulmyren_transform_range(
     out: &mut [u8],
     out_starts: &mut [Offset],
     out_ends: &mut [Offset],
-) -> Count
+) -> Written
     ensures { λ r. ⌜ TransformTold
         (lent (now (original .entry)) (now (normalized .entry)) (now (starts .entry)) (now (ends .entry))
         «original_shift»)
@@ -63,7 +63,7 @@ pub extern "C" fn zulmyren_transform(
     out: &mut [u8],
     out_starts: &mut [Offset],
     out_ends: &mut [Offset],
-) -> Count
+) -> Written
     ensures { λ r. ⌜ TransformTold
         (lent (now (original .entry)) (now (normalized .entry)) (now (starts .entry)) (now (ends .entry))
         «original_shift»)
@@ -96,7 +96,7 @@ pub extern "C" fn zulmyren_map(
     out: &mut [u8],
     out_starts: &mut [Offset],
     out_ends: &mut [Offset],
-) -> Count
+) -> Written
     ensures { λ r. ⌜ MapTold
         (lent (now (original .entry)) (now (normalized .entry)) (now (starts .entry)) (now (ends .entry))
         «original_shift») (now (codes .entry))
@@ -127,7 +127,7 @@ pub extern "C" fn zulmyren_filter(
     out: &mut [u8],
     out_starts: &mut [Offset],
     out_ends: &mut [Offset],
-) -> Count
+) -> Written
     ensures { λ r. ⌜ FilterTold
         (lent (now (original .entry)) (now (normalized .entry)) (now (starts .entry)) (now (ends .entry))
         «original_shift») (now (flags .entry))
@@ -158,7 +158,7 @@ pub extern "C" fn zulmyren_append(
     out: &mut [u8],
     out_starts: &mut [Offset],
     out_ends: &mut [Offset],
-) -> Count
+) -> Written
     ensures { λ r. ⌜ AppendTold
         (lent (now (original .entry)) (now (normalized .entry)) (now (starts .entry)) (now (ends .entry))
         «original_shift») (now (string .entry))
@@ -189,7 +189,7 @@ pub extern "C" fn zulmyren_prepend(
     out: &mut [u8],
     out_starts: &mut [Offset],
     out_ends: &mut [Offset],
-) -> Count
+) -> Written
     ensures { λ r. ⌜ PrependTold
         (lent (now (original .entry)) (now (normalized .entry)) (now (starts .entry)) (now (ends .entry))
         «original_shift») (now (string .entry))

@@ -4,5 +4,6 @@ pub mod editing;
 pub mod matches;
 pub mod notes;
 pub mod ranges;
+pub mod redacting;
 pub mod slices;
 pub mod texts;

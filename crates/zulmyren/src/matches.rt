@@ -1,7 +1,6 @@
 // Finding, replacing, and what can be told of what was replaced.
 use crate::answers::Comparison;
-use crate::answers::Count;
-use crate::answers::Listed;
+use crate::answers::Written;
 use crate::answers::comparison_to_c;
 use crate::answers::list_to_c;
 use crate::answers::published_to_c;
@@ -11,10 +10,10 @@ ghost use Rattle.note.specs.Notes.{lent, limit};
 ghost use Rattle.find.specs.Finding.{Finding};
 ghost use Rattle.published_alike.specs.Alike.{alikeAnswer};
 ghost use Rattle.zulmyren.specs.Calls.{Told, comparedOf, listedOf};
-ghost use Rattle.zulmyren.specs.Contracts.{RedactCall, ReplaceCall};
+ghost use Rattle.zulmyren.specs.Contracts.{ReplaceCall};
 
 #[no_mangle]
-pub extern "C" fn zulmyren_find_matches(text: &[u8], literal: &[u8], out: &mut [u8]) -> Listed
+pub extern "C" fn zulmyren_find_matches(text: &[u8], literal: &[u8], out: &mut [u8]) -> Written
     ensures { λ r. ⌜ Told listedOf (λ v. Finding limit (now (text .entry)) (now (literal .entry)) (now (out .entry))
         v (now (out .exit))) r ⌝ }
 {
@@ -33,7 +32,7 @@ pub extern "C" fn zulmyren_replace(
     out: &mut [u8],
     out_starts: &mut [Offset],
     out_ends: &mut [Offset],
-) -> Count
+) -> Written
     ensures { λ r. ⌜ ReplaceCall
         (lent (now (original .entry)) (now (normalized .entry))
         (now (starts .entry)) (now (ends .entry)) «original_shift»)
@@ -91,20 +90,4 @@ pub extern "C" fn zulmyren_published_alike(
         list,
         content,
     ))
-}
-
-#[no_mangle]
-pub extern "C" fn zulmyren_redact(
-    text: &[u8],
-    literal: &[u8],
-    content: &[u8],
-    out: &mut [u8],
-    out_starts: &mut [Offset],
-    out_ends: &mut [Offset],
-) -> Count
-    ensures { λ r. ⌜ RedactCall (now (text .entry)) (now (literal .entry)) (now (content .entry))
-        (now (out .entry)) (now («out_starts» .entry)) (now («out_ends» .entry))
-        r (now (out .exit)) (now («out_starts» .exit)) (now («out_ends» .exit)) ⌝ }
-{
-    published_to_c(redact::redact(text, literal, content, out, out_starts, out_ends))
 }

@@ -1,6 +1,6 @@
 // Slicing, splitting, split offsets.
 use crate::answers::Cut;
-use crate::answers::Listed;
+use crate::answers::Written;
 use crate::answers::Slice;
 use crate::answers::cut_to_c;
 use crate::answers::slice_to_c;
@@ -142,7 +142,7 @@ pub extern "C" fn zulmyren_get_splits(
     in_chars: bool,
     out_starts: &mut [u32],
     out_ends: &mut [u32],
-) -> Listed
+) -> Written
     ensures { λ r. ⌜ GetSplitsCall
         (lent (now (original .entry)) (now (normalized .entry))
         (now (starts .entry)) (now (ends .entry)) «original_shift») (now (list .entry))

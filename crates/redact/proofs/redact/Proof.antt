@@ -1,7 +1,7 @@
 -- The inputs are judged together, then the room; past both everything is laid.
 use mathlib.Core.Path.{refl}
 use borrow.Author.Needs.{needs}
-use Rattle.redact.proofs.Redacting.{inputs-refused, room-refused, all-accepted, refused-all, all-fitting, all-blanked}
+use Rattle.redact.proofs.Redacting.{inputs-refused, room-refused, all-accepted, refused-all, all-fitting, all-resized, all-blanked}
 use Rattle.redact.proofs.redact.Statement.{statement}
 use Rattle.redact.proofs.redact.Tie as tie
 
@@ -23,11 +23,19 @@ blank-found-requires c κs =
 
 returns-3 : tie.Need-returns-3
 returns-3 c =
-    let laid = c .before .before .before .before .before .before in
+    let laid = c .before .before .before .before .before .before .before in
     let fits = fits laid in
     all-blanked _ _ _ _ _ _ (fits .before .before .before .least-room .ensures)
     (all-accepted _ _ _ _ (fits .before .before .before .before .before .before .before .check-inputs .ensures) (fits .before .before .before .before .before .enum-told .given .1) (fits .before .before .least-of-two .ensures) (fits .before .result-fits .ensures) (fits .if1 .left))
-    (laid .blank-found .ensures)
+    (laid .blank-found .ensures) (c .match-count .ensures)
+
+match-count-requires : tie.Need-match-count-requires
+match-count-requires c κs =
+    let laid = c .before .before .before .before .before .before in
+    let fits = fits laid in
+    all-resized _ _ _ _ _ _ (fits .before .before .before .least-room .ensures)
+    (all-accepted _ _ _ _ (fits .before .before .before .before .before .before .before .check-inputs .ensures) (fits .before .before .before .before .before .enum-told .given .1) (fits .before .before .least-of-two .ensures) (fits .before .result-fits .ensures) (fits .if1 .left))
+    (fits .before .before .before .before .first-match .ensures) (laid .blank-found .ensures)
 
 pub redact-spec : {M : Type 1} → statement M
 redact-spec =
@@ -38,5 +46,6 @@ redact-spec =
     (λ c. search needs) (λ c κs. search needs) (λ c κs. search needs) (λ c κs. search needs) (λ c κs. search needs)
     returns-2
     blank-found-requires
+    match-count-requires
     (λ c. search needs) (λ c. search needs) (λ c. search needs)
     returns-3)

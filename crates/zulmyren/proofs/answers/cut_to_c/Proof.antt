@@ -11,4 +11,4 @@ cut-to-c-spec =
     (tie.spec
     (λ c. search needs) (λ c. search needs) (λ c κs. search needs)
     (λ c. sym (ap cutNumbers (c .before .answer .given .1)))
-    (λ c. (λ i. record { refusal = c .number .ensures i; pieces = 0; alignments = 0 }) ∙ sym (ap cutNumbers (c .before .before .answer2 .given .1))))
+    (λ c. (λ i. record { refusal = c .number .ensures i; len = 0; «alignments_len» = 0 }) ∙ sym (ap cutNumbers (c .before .before .answer2 .given .1))))

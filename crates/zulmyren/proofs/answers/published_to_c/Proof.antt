@@ -1,9 +1,7 @@
 -- The size that was published, or the refusal's number.
 use mathlib.Core.Path.{_∙_, ap, sym}
-use native.Mathlib.Omega.{arith}
 use borrow.Author.Needs.{needs}
 use Rattle.zulmyren.specs.Calls.{publishedOf}
-use Rattle.zulmyren.proofs.Calls.{published-within}
 use Rattle.zulmyren.proofs.answers.published_to_c.Statement.{statement}
 use Rattle.zulmyren.proofs.answers.published_to_c.Tie as tie
 
@@ -11,8 +9,6 @@ pub published-to-c-spec : {M : Type 1} → statement M
 published-to-c-spec =
     tie.close
     (tie.spec
-    (λ c. search needs)
-    (λ c. omega (arith, published-within (c .before .answer .given .1) (c .before .before .before .pre)))
-    (λ c. search needs) (λ c κs. search needs)
+    (λ c. search needs) (λ c. search needs) (λ c κs. search needs)
     (λ c. sym (ap publishedOf (c .before .answer .given .1)))
-    (λ c. (λ i. record { refusal = c .number .ensures i; count = 0 }) ∙ sym (ap publishedOf (c .before .before .answer2 .given .1))))
+    (λ c. (λ i. record { refusal = c .number .ensures i; len = 0 }) ∙ sym (ap publishedOf (c .before .before .answer2 .given .1))))

@@ -1,6 +1,5 @@
--- The numbers of the call below, and its buffers: both lengths are within the limit.
+-- The numbers of the call below, and its buffers.
 use borrow.Author.Needs.{needs}
-use Rattle.zulmyren.proofs.Edited.{clear-short}
 use Rattle.zulmyren.proofs.editing.zulmyren_clear.Statement.{statement}
 use Rattle.zulmyren.proofs.editing.zulmyren_clear.Tie as tie
 
@@ -9,6 +8,6 @@ zulmyren-clear-spec =
     tie.close
     (tie.spec
     (λ c κs. search needs)
-    (λ c κs. clear-short _ _ (c .before .before .before .before .before .before .clear .ensures))
+    (λ c κs. search needs)
     (λ c. search needs) (λ c. search needs) (λ c. search needs)
     (λ c. record { answer = c .before .before .before .before .before .before .before .clear .result; told = c .cleared-to-c .ensures; met = c .before .before .before .before .before .before .before .clear .ensures }))

@@ -1,6 +1,5 @@
--- The numbers of the call below, and its buffers: what is left is within the limit.
+-- The numbers of the call below, and its buffers.
 use borrow.Author.Needs.{needs}
-use Rattle.zulmyren.proofs.Edited.{filter-short}
 use Rattle.zulmyren.proofs.editing.zulmyren_filter.Statement.{statement}
 use Rattle.zulmyren.proofs.editing.zulmyren_filter.Tie as tie
 
@@ -9,6 +8,6 @@ zulmyren-filter-spec =
     tie.close
     (tie.spec
     (λ c κs. search needs)
-    (λ c κs. filter-short _ _ _ (c .before .before .before .before .before .before .filter .ensures))
+    (λ c κs. search needs)
     (λ c. search needs) (λ c. search needs) (λ c. search needs)
     (λ c. record { answer = c .before .before .before .before .before .before .before .filter .result; told = c .edited-to-c .ensures; met = c .before .before .before .before .before .before .before .filter .ensures }))

@@ -1,6 +1,6 @@
--- The range by its side, then the numbers of the call below, and its buffers: what is left is within the limit.
+-- The range by its side, then the numbers of the call below, and its buffers.
 use borrow.Author.Needs.{needs}
-use Rattle.zulmyren.proofs.Edited.{transform-short, range-edit}
+use Rattle.zulmyren.proofs.Edited.{range-edit}
 use Rattle.zulmyren.proofs.editing.zulmyren_transform_range.Statement.{statement}
 use Rattle.zulmyren.proofs.editing.zulmyren_transform_range.Tie as tie
 
@@ -22,6 +22,6 @@ zulmyren-transform-range-spec =
     tie.close
     (tie.spec
     (λ c κs. search needs) (λ c κs. search needs) (λ c κs. search needs)
-    (λ c κs. transform-short _ _ _ _ _ (c .before .before .before .before .before .before .transform-range .ensures))
+    (λ c κs. search needs)
     (λ c. search needs) (λ c. search needs) (λ c. search needs)
     returns)

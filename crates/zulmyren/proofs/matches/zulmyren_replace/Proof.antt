@@ -1,6 +1,5 @@
--- The numbers of the call below, and its buffers: what is published is within the limit.
+-- The numbers of the call below, and its buffers.
 use borrow.Author.Needs.{needs}
-use Rattle.zulmyren.proofs.Calls.{replaced-short}
 use Rattle.zulmyren.proofs.matches.zulmyren_replace.Statement.{statement}
 use Rattle.zulmyren.proofs.matches.zulmyren_replace.Tie as tie
 
@@ -9,6 +8,6 @@ zulmyren-replace-spec =
     tie.close
     (tie.spec
     (λ c κs. search needs)
-    (λ c κs. replaced-short _ (c .before .before .before .before .before .before .replace .ensures))
+    (λ c κs. search needs)
     (λ c. search needs) (λ c. search needs) (λ c. search needs)
     (λ c. search needs))

@@ -1,0 +1,3 @@
+-- Laws of invisible characters.
+pub mod Ranges
+pub mod Characters
