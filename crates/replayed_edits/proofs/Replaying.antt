@@ -1,6 +1,6 @@
 -- A call that was lent what its case's fields hold, by its number; buffers that hold what their fields do.
 use Prim.Native.Nat.{ℕ, _+_}
-use mathlib.Core.Path.{_≡_, _∙_, ap, sym}
+use mathlib.Core.Path.{_≡_, _∙_, ap, refl, sym}
 use mathlib.Core.Bool.{Bool}
 use mathlib.Core.List.{List}
 use lib.Dec.{eqb}
@@ -15,7 +15,8 @@ use Rattle.stored_answers.specs.Calls.{appendNumber, clearNumber, filterNumber,
 use Rattle.stored_answers.specs.Framing.{fieldOf}
 use Rattle.stored_answers.specs.Lending.{numberAt, noteAt}
 use Rattle.stored_answers.proofs.Splice.{take-laid}
-use Rattle.zulmyren.specs.declared.answers.Count.{Count}
+use Rattle.zulmyren.specs.declared.answers.Written.{Written}
+use Rattle.zulmyren.specs.declared.answers.Blanked.{Blanked}
 use Rattle.zulmyren.specs.declared.answers.Lengths.{Lengths}
 use Rattle.zulmyren.specs.Calls.{sideOf}
 use Rattle.zulmyren.specs.Contracts.{RedactCall, ReplaceCall}
@@ -32,13 +33,16 @@ use Rattle.replayed_edits.specs.Replaying.{
   WholeCase,
   clearStored,
   editStored,
+  lenOf,
 }
 
-module _ (case : List ℕ) {out₀ s₀ e₀ : List ℕ} {a : Count} {out s e : List ℕ} where
-  -- a literal, a content
-  pub redact-lent : {text literal content : List ℕ} → text ≡ fieldOf 0 case → literal ≡ fieldOf 1 case → content ≡ fieldOf 2 case → RedactCall text literal content out₀ s₀ e₀ a out s e → RedactCase case out₀ s₀ e₀ a out s e
-  redact-lent t l f call = coe 0 1 (i. RedactCall (t i) (l i) (f i) out₀ s₀ e₀ a out s e) call
+-- a literal, a content
+pub redact-lent : (case : List ℕ) {out₀ s₀ e₀ : List ℕ} {a : Blanked} {out s e text literal content : List ℕ} → text ≡ fieldOf 0 case → literal ≡ fieldOf 1 case → content ≡ fieldOf 2 case
+    → RedactCall text literal content out₀ s₀ e₀ a out s e → RedactCase case out₀ s₀ e₀ (lenOf a) out s e
+redact-lent case {out₀} {s₀} {e₀} {a} {out} {s} {e} t l f call =
+    record { answer = a; told = refl; met = coe 0 1 (i. RedactCall (t i) (l i) (f i) out₀ s₀ e₀ a out s e) call }
 
+module _ (case : List ℕ) {out₀ s₀ e₀ : List ℕ} {a : Written} {out s e : List ℕ} where
   -- what was read of the note
   module _ (starts ends : List ℕ) {original normalized : List ℕ} {shift : ℕ} (o : original ≡ fieldOf 0 case) (n : normalized ≡ fieldOf 1 case) (k : shift ≡ numberAt case 4) where
     pub replace-lent : {list content : List ℕ} → list ≡ fieldOf 5 case → content ≡ fieldOf 6 case → ReplaceCall (lent original normalized starts ends shift) list content out₀ s₀ e₀ a out s e → ReplaceCase case starts ends out₀ s₀ e₀ a out s e
@@ -55,7 +59,7 @@ module _ (case : List ℕ) {out₀ s₀ e₀ : List ℕ} {a : Count} {out s e : 
     script-lent b x call = coe 0 1 (i. TransformTold (lent (o i) (n i) starts ends (k i)) (wholeOriginal (o i)) (b i) (x i) out₀ s₀ e₀ a out s e) call
 
     -- code points, flags, a string
-    pub whole-lent : (edit : Note → List ℕ → OnThree Count) {given stored : List ℕ} → given ≡ stored → edit (lent original normalized starts ends shift) given out₀ s₀ e₀ a out s e → edit (noteAt case starts ends) stored out₀ s₀ e₀ a out s e
+    pub whole-lent : (edit : Note → List ℕ → OnThree Written) {given stored : List ℕ} → given ≡ stored → edit (lent original normalized starts ends shift) given out₀ s₀ e₀ a out s e → edit (noteAt case starts ends) stored out₀ s₀ e₀ a out s e
     whole-lent edit b call = coe 0 1 (i. edit (lent (o i) (n i) starts ends (k i)) (b i) out₀ s₀ e₀ a out s e) call
 
 module _ (case starts ends : List ℕ) {original normalized : List ℕ} {shift : ℕ} (o : original ≡ fieldOf 0 case) (n : normalized ≡ fieldOf 1 case) (k : shift ≡ numberAt case 4) {out₀ s₀ e₀ out s e : List ℕ} {r : Bool} where
@@ -71,7 +75,7 @@ module _ (case starts ends : List ℕ) {original normalized : List ℕ} {shift :
       }
 
 -- a call by its number
-module _ {call : ℕ} {case starts ends out₀ s₀ e₀ : List ℕ} {a : Count} {out s e : List ℕ} where
+module _ {call : ℕ} {case starts ends out₀ s₀ e₀ : List ℕ} {a : Written} {out s e : List ℕ} where
   pub filters : call ≡ filterNumber → FilterTold (noteAt case starts ends) (fieldOf 5 case) out₀ s₀ e₀ a out s e → WholeCase call case starts ends out₀ s₀ e₀ a out s e
   filters is met = record { met = rw is met }
 
@@ -103,7 +107,7 @@ module _ {call : ℕ} {case : List ℕ} {at : ℕ} {starts ends out₀ s₀ e₀
   pub cleared : call ≡ clearNumber → Replayed (ClearTold (noteAt case starts ends) out₀ s₀ e₀) (clearStored case 8) r → Published call case at starts ends out₀ s₀ e₀ r
   cleared is met = record { met = rw is met }
 
-  pub counted : {a : Count} {out s e : List ℕ} → (call ≡ clearNumber → ⊥) → CallAnswered call case starts ends out₀ s₀ e₀ a out s e → r ≡ editStored case (at + 3) a out s e → Published call case at starts ends out₀ s₀ e₀ r
+  pub counted : {a : Written} {out s e : List ℕ} → (call ≡ clearNumber → ⊥) → CallAnswered call case starts ends out₀ s₀ e₀ a out s e → r ≡ editStored case (at + 3) a out s e → Published call case at starts ends out₀ s₀ e₀ r
   counted {a} {out} {s} {e} c met told = record { met = rw (ne-eqb call clearNumber c) (record { answer = a; text = out; starts = s; ends = e; met = met; says = told }) }
 
   pub buffers-lent : {out₁ s₁ e₁ : List ℕ} → out₀ ≡ out₁ → s₀ ≡ s₁ → e₀ ≡ e₁ → Published call case at starts ends out₀ s₀ e₀ r → Published call case at starts ends out₁ s₁ e₁ r

@@ -14,10 +14,11 @@ use Rattle.stored_answers.specs.Calls.{appendNumber, clearNumber, filterNumber,
 use Rattle.stored_answers.specs.Framing.{fieldOf, isNumber}
 use Rattle.stored_answers.specs.Differences.{numbersOf, offsetColumn}
 use Rattle.stored_answers.specs.Lending.{flagAt, noteAt, numberAt}
-use Rattle.zulmyren.specs.declared.answers.Count.{Count}
+use Rattle.zulmyren.specs.declared.answers.Written.{Written}
+use Rattle.zulmyren.specs.declared.answers.Blanked.{Blanked}
 use Rattle.zulmyren.specs.declared.answers.Lengths.{Lengths}
 use Rattle.zulmyren.specs.Calls.{sideOf}
-use Rattle.zulmyren.specs.Contracts.{RedactCall, ReplaceCall}
+use Rattle.zulmyren.specs.Contracts.{RedactCall, ReplaceCall, ToldThree}
 use Rattle.zulmyren.specs.Edits.{AppendTold, ClearTold, FilterTold, MapTold, PrependTold, TransformTold}
 
 -- whether the fields from `index` on are a text and its columns
@@ -27,16 +28,16 @@ publishedStored case index text starts ends =
     && same ends (offsetColumn limit (fieldOf (index + 2) case))
 
 -- the refusal, the size, and these three
-abbrev pub editStored : List ℕ → ℕ → Count → List ℕ → List ℕ → List ℕ → Bool
+abbrev pub editStored : List ℕ → ℕ → Written → List ℕ → List ℕ → List ℕ → Bool
 editStored case index a text starts ends =
-    (isNumber (fieldOf index case) (a .refusal) && isNumber (fieldOf (index + 1) case) (a .count))
+    (isNumber (fieldOf index case) (a .refusal) && isNumber (fieldOf (index + 1) case) (a .len))
     && publishedStored case (index + 2) text starts ends
 
 -- the refusal, how long the text was and is, and these three
 abbrev pub clearStored : List ℕ → ℕ → Lengths → List ℕ → List ℕ → List ℕ → Bool
 clearStored case index a text starts ends =
-    ((isNumber (fieldOf index case) (a .refusal) && isNumber (fieldOf (index + 1) case) (a .before))
-    && isNumber (fieldOf (index + 2) case) (a .left))
+    ((isNumber (fieldOf index case) (a .refusal) && isNumber (fieldOf (index + 1) case) (a .«before_len»))
+    && isNumber (fieldOf (index + 2) case) (a .len))
     && publishedStored case (index + 3) text starts ends
 
 -- a call on three buffers, by its answer and what it leaves there, and what a case stores of them
@@ -50,27 +51,31 @@ pub record Replayed {A : Type 0} (call : A → List ℕ → List ℕ → List �
   pub says : r ≡ stored answer text starts ends
 
 -- the calls with what a case and the note's columns give them
-abbrev pub ReplaceCase : List ℕ → List ℕ → List ℕ → OnThree Count
+abbrev pub ReplaceCase : List ℕ → List ℕ → List ℕ → OnThree Written
 ReplaceCase case starts ends = ReplaceCall (noteAt case starts ends) (fieldOf 5 case) (fieldOf 6 case)
 
-abbrev pub RedactCase : List ℕ → OnThree Count
-RedactCase case = RedactCall (fieldOf 0 case) (fieldOf 1 case) (fieldOf 2 case)
+-- what is stored of blanking: the refusal and the size
+abbrev pub lenOf : Blanked → Written
+lenOf a = record { refusal = a .refusal; len = a .len }
 
-abbrev pub RangeCase : List ℕ → List ℕ → List ℕ → OnThree Count
+abbrev pub RedactCase : List ℕ → OnThree Written
+RedactCase case = ToldThree lenOf (RedactCall (fieldOf 0 case) (fieldOf 1 case) (fieldOf 2 case))
+
+abbrev pub RangeCase : List ℕ → List ℕ → List ℕ → OnThree Written
 RangeCase case starts ends =
     TransformTold (noteAt case starts ends)
     (rangeOf (sideOf (flagAt case 5)) (numberAt case 6) (numberAt case 7))
     (fieldOf 8 case) (numberAt case 9)
 
-abbrev pub ScriptCase : List ℕ → List ℕ → List ℕ → OnThree Count
+abbrev pub ScriptCase : List ℕ → List ℕ → List ℕ → OnThree Written
 ScriptCase case starts ends =
     TransformTold (noteAt case starts ends) (wholeOriginal (fieldOf 0 case)) (fieldOf 5 case) (numberAt case 6)
 
-abbrev pub MapCase : List ℕ → List ℕ → List ℕ → OnThree Count
+abbrev pub MapCase : List ℕ → List ℕ → List ℕ → OnThree Written
 MapCase case starts ends = MapTold (noteAt case starts ends) (numbersOf (fieldOf 5 case))
 
 -- a call by its number: filter, append, and prepend for any other
-pub record WholeCase (call : ℕ) (case starts ends out₀ starts₀ ends₀ : List ℕ) (r : Count)
+pub record WholeCase (call : ℕ) (case starts ends out₀ starts₀ ends₀ : List ℕ) (r : Written)
     (out s e : List ℕ) : Type 0 where
   pub met :
       cond (eqb call filterNumber) (FilterTold (noteAt case starts ends) (fieldOf 5 case))
@@ -79,7 +84,7 @@ pub record WholeCase (call : ℕ) (case starts ends out₀ starts₀ ends₀ : L
       out₀ starts₀ ends₀ r out s e
 
 -- and replace, redact, transform_range, transform, map
-pub record CallAnswered (call : ℕ) (case starts ends out₀ starts₀ ends₀ : List ℕ) (r : Count)
+pub record CallAnswered (call : ℕ) (case starts ends out₀ starts₀ ends₀ : List ℕ) (r : Written)
     (out s e : List ℕ) : Type 0 where
   pub met :
       cond (eqb call replaceNumber) (ReplaceCase case starts ends)

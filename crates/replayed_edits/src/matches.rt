@@ -2,9 +2,9 @@
 use buffers::Offset;
 use stored_answers::fields::field;
 use stored_answers::fields::value;
-use zulmyren::answers::Count;
-use zulmyren::matches::zulmyren_redact;
+use zulmyren::answers::Written;
 use zulmyren::matches::zulmyren_replace;
+use zulmyren::redacting::zulmyren_redact;
 ghost use Rattle.replayed_edits.specs.Replaying.{RedactCase, ReplaceCase};
 
 // A note, a list, a content.
@@ -15,7 +15,7 @@ pub fn replace(
     out: &mut [u8],
     out_starts: &mut [Offset],
     out_ends: &mut [Offset],
-) -> Count
+) -> Written
     ensures { λ r. ⌜ ReplaceCase (now (case .entry)) (now (starts .entry)) (now (ends .entry))
         (now (out .entry)) (now («out_starts» .entry)) (now («out_ends» .entry))
         r (now (out .exit)) (now («out_starts» .exit)) (now («out_ends» .exit)) ⌝ }
@@ -34,23 +34,27 @@ pub fn replace(
     )
 }
 
-// A text, a literal, a content.
+// A text, a literal, a content. How many matches gave way is not stored.
 pub fn redact(
     case: &[u8],
     out: &mut [u8],
     out_starts: &mut [Offset],
     out_ends: &mut [Offset],
-) -> Count
+) -> Written
     ensures { λ r. ⌜ RedactCase (now (case .entry))
         (now (out .entry)) (now («out_starts» .entry)) (now («out_ends» .entry))
         r (now (out .exit)) (now («out_starts» .exit)) (now («out_ends» .exit)) ⌝ }
 {
-    zulmyren_redact(
+    let answer = zulmyren_redact(
         field(case, 0),
         field(case, 1),
         field(case, 2),
         out,
         out_starts,
         out_ends,
-    )
+    );
+    Written {
+        refusal: answer.refusal,
+        len: answer.len,
+    }
 }

@@ -18,7 +18,7 @@ use stored_answers::calls::TRANSFORM_RANGE;
 use stored_answers::columns::bytes;
 use stored_answers::columns::offsets;
 use stored_answers::columns::zeros;
-use zulmyren::answers::Count;
+use zulmyren::answers::Written;
 ghost use Prim.Native.Nat.{_+_, _<_};
 ghost use lib.ListN.{take};
 ghost use Rattle.note.specs.Notes.{limit};
@@ -34,7 +34,7 @@ fn answered(
     out: &mut [u8],
     out_starts: &mut [Offset],
     out_ends: &mut [Offset],
-) -> Count
+) -> Written
     ensures { λ r. ⌜ CallAnswered call (now (case .entry)) (now (starts .entry)) (now (ends .entry))
         (now (out .entry)) (now («out_starts» .entry)) (now («out_ends» .entry))
         r (now (out .exit)) (now («out_starts» .exit)) (now («out_ends» .exit)) ⌝ }

@@ -2,7 +2,7 @@
 use buffers::Offset;
 use stored_answers::fields::field;
 use stored_answers::fields::value;
-use zulmyren::answers::Count;
+use zulmyren::answers::Written;
 use zulmyren::editing::zulmyren_transform;
 use zulmyren::editing::zulmyren_transform_range;
 ghost use Rattle.replayed_edits.specs.Replaying.{RangeCase, ScriptCase};
@@ -15,7 +15,7 @@ pub fn transform_range(
     out: &mut [u8],
     out_starts: &mut [Offset],
     out_ends: &mut [Offset],
-) -> Count
+) -> Written
     ensures { λ r. ⌜ RangeCase (now (case .entry)) (now (starts .entry)) (now (ends .entry))
         (now (out .entry)) (now («out_starts» .entry)) (now («out_ends» .entry))
         r (now (out .exit)) (now («out_starts» .exit)) (now («out_ends» .exit)) ⌝ }
@@ -45,7 +45,7 @@ pub fn transform(
     out: &mut [u8],
     out_starts: &mut [Offset],
     out_ends: &mut [Offset],
-) -> Count
+) -> Written
     ensures { λ r. ⌜ ScriptCase (now (case .entry)) (now (starts .entry)) (now (ends .entry))
         (now (out .entry)) (now («out_starts» .entry)) (now («out_ends» .entry))
         r (now (out .exit)) (now («out_starts» .exit)) (now («out_ends» .exit)) ⌝ }

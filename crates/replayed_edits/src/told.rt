@@ -3,9 +3,10 @@
 use buffers::Offset;
 use stored_answers::columns::are_offsets;
 use stored_answers::fields::is_number;
+use stored_answers::fields::is_size;
 use stored_answers::fields::is_text;
-use zulmyren::answers::Count;
 use zulmyren::answers::Lengths;
+use zulmyren::answers::Written;
 ghost use mathlib.Core.Path.{_≡_};
 ghost use Prim.Native.Nat.{_<_};
 ghost use Rattle.replayed_edits.specs.Replaying.{clearStored, editStored, publishedStored};
@@ -31,7 +32,7 @@ pub fn are_published(
 pub fn is_published(
     case: &[u8],
     index: usize,
-    answer: Count,
+    answer: Written,
     text: &[u8],
     starts: &[Offset],
     ends: &[Offset],
@@ -41,7 +42,7 @@ pub fn is_published(
         (now (text .entry)) (now (starts .entry)) (now (ends .entry)) ⌝ }
 {
     is_number(case, index, answer.refusal)
-        & is_number(case, index + 1, answer.count)
+        & is_size(case, index + 1, answer.len)
         & are_published(case, index + 2, text, starts, ends)
 }
 
@@ -59,7 +60,7 @@ pub fn is_cleared(
         (now (text .entry)) (now (starts .entry)) (now (ends .entry)) ⌝ }
 {
     is_number(case, index, answer.refusal)
-        & is_number(case, index + 1, answer.before)
-        & is_number(case, index + 2, answer.left)
+        & is_size(case, index + 1, answer.before_len)
+        & is_size(case, index + 2, answer.len)
         & are_published(case, index + 3, text, starts, ends)
 }

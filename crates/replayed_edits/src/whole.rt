@@ -7,7 +7,7 @@ use stored_answers::columns::FEW;
 use stored_answers::columns::numbers;
 use stored_answers::fields::field;
 use stored_answers::fields::value;
-use zulmyren::answers::Count;
+use zulmyren::answers::Written;
 use zulmyren::editing::zulmyren_append;
 use zulmyren::editing::zulmyren_clear;
 use zulmyren::editing::zulmyren_filter;
@@ -25,7 +25,7 @@ pub fn map(
     out: &mut [u8],
     out_starts: &mut [Offset],
     out_ends: &mut [Offset],
-) -> Count
+) -> Written
     ensures { λ r. ⌜ MapCase (now (case .entry)) (now (starts .entry)) (now (ends .entry))
         (now (out .entry)) (now («out_starts» .entry)) (now («out_ends» .entry))
         r (now (out .exit)) (now («out_starts» .exit)) (now («out_ends» .exit)) ⌝ }
@@ -54,7 +54,7 @@ pub fn edit(
     out: &mut [u8],
     out_starts: &mut [Offset],
     out_ends: &mut [Offset],
-) -> Count
+) -> Written
     ensures { λ r. ⌜ WholeCase call (now (case .entry)) (now (starts .entry)) (now (ends .entry))
         (now (out .entry)) (now («out_starts» .entry)) (now («out_ends» .entry))
         r (now (out .exit)) (now («out_starts» .exit)) (now («out_ends» .exit)) ⌝ }

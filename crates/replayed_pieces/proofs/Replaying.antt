@@ -19,7 +19,7 @@ use Rattle.stored_answers.specs.Lending.{numberAt}
 use Rattle.stored_answers.proofs.Framing.{both}
 use Rattle.stored_answers.proofs.Splice.{take-laid}
 use Rattle.zulmyren.specs.declared.answers.Cut.{Cut}
-use Rattle.zulmyren.specs.declared.answers.Listed.{Listed}
+use Rattle.zulmyren.specs.declared.answers.Written.{Written}
 use Rattle.zulmyren.specs.declared.answers.Slice.{Slice}
 use Rattle.zulmyren.specs.Calls.{sideOf, behaviorOf, emptyOf, unitOf}
 use Rattle.zulmyren.specs.Contracts.{CharOffsetsAllCall, ConvertAllCall, GetSplitsCall, SliceCall, SplitCall}
@@ -59,7 +59,7 @@ module _ {case starts ends original normalized : List ℕ} {shift : ℕ} (o : or
         }
 
     pub splits-replayed :
-        {side unit : ℕ} {s₀ e₀ s e : List ℕ} {a : Listed} {r : Bool} → side ≡ numberAt case 7 → unit ≡ numberAt case 8
+        {side unit : ℕ} {s₀ e₀ s e : List ℕ} {a : Written} {r : Bool} → side ≡ numberAt case 7 → unit ≡ numberAt case 8
         → GetSplitsCall (lent original normalized starts ends shift) list (behaviorOf behavior) (sideOf (eqb side 1)) (unitOf (eqb unit 1)) s₀ e₀ a s e
         → r ≡ splitsStored case 11 a s e → SplitsReplayed case starts ends s₀ e₀ r
     splits-replayed {s₀ = s₀} {e₀ = e₀} {s = s} {e = e} {a = a} f u call t =

@@ -14,7 +14,7 @@ use Rattle.stored_answers.specs.Framing.{fieldOf}
 use Rattle.stored_answers.specs.Differences.{offsetColumn}
 use Rattle.stored_answers.specs.Lending.{numberAt, flagAt, noteAt}
 use Rattle.zulmyren.specs.declared.answers.Cut.{Cut}
-use Rattle.zulmyren.specs.declared.answers.Listed.{Listed}
+use Rattle.zulmyren.specs.declared.answers.Written.{Written}
 use Rattle.zulmyren.specs.declared.answers.Slice.{Slice}
 use Rattle.zulmyren.specs.Calls.{sideOf, behaviorOf, emptyOf, unitOf}
 use Rattle.zulmyren.specs.Contracts.{CharOffsetsAllCall, ConvertAllCall, GetSplitsCall, SliceCall, SplitCall}
@@ -46,7 +46,7 @@ pub record SplitReplayed (case starts ends : List ℕ) (lent : PieceColumns) (r 
 
 -- split offsets; the note's columns, and the two for the offsets
 pub record SplitsReplayed (case starts ends lentStarts lentEnds : List ℕ) (r : Bool) : Type 0 where
-  pub answer : Listed
+  pub answer : Written
   pub out-starts : List ℕ
   pub out-ends : List ℕ
   pub met :

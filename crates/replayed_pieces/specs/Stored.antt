@@ -7,7 +7,7 @@ use Rattle.note.specs.Notes.{limit}
 use Rattle.stored_answers.specs.Framing.{fieldOf, isNumber}
 use Rattle.stored_answers.specs.Differences.{offsetColumn, numbersOf}
 use Rattle.zulmyren.specs.declared.answers.Cut.{Cut}
-use Rattle.zulmyren.specs.declared.answers.Listed.{Listed}
+use Rattle.zulmyren.specs.declared.answers.Written.{Written}
 use Rattle.zulmyren.specs.declared.answers.Slice.{Slice}
 
 -- the refusal, and a number, start and end for each pair of a list
@@ -32,15 +32,15 @@ sliceStored case index a =
 abbrev pub piecesStored : List ℕ → ℕ → Cut → List ℕ → List ℕ → List ℕ → List ℕ → Bool
 piecesStored case index a starts ends shifts lengths =
     (((((isNumber (fieldOf index case) (a .refusal)
-    && isNumber (fieldOf (index + 1) case) (a .pieces))
-    && isNumber (fieldOf (index + 2) case) (a .alignments))
+    && isNumber (fieldOf (index + 1) case) (a .len))
+    && isNumber (fieldOf (index + 2) case) (a .«alignments_len»))
     && same starts (offsetColumn limit (fieldOf (index + 3) case)))
     && same ends (offsetColumn limit (fieldOf (index + 4) case)))
     && same shifts (numbersOf (fieldOf (index + 5) case)))
     && same lengths (offsetColumn limit (fieldOf (index + 6) case))
 
 -- the refusal, how many there are, their starts and ends
-abbrev pub splitsStored : List ℕ → ℕ → Listed → List ℕ → List ℕ → Bool
+abbrev pub splitsStored : List ℕ → ℕ → Written → List ℕ → List ℕ → Bool
 splitsStored case index a starts ends =
     ((isNumber (fieldOf index case) (a .refusal)
     && isNumber (fieldOf (index + 1) case) (a .len))

@@ -6,9 +6,9 @@ use stored_answers::fields::is_number;
 use stored_answers::fields::is_size;
 use stored_answers::fields::is_text;
 use zulmyren::answers::Cut;
-use zulmyren::answers::Listed;
 use zulmyren::answers::Offsets;
 use zulmyren::answers::Slice;
+use zulmyren::answers::Written;
 ghost use mathlib.Core.Path.{_≡_};
 ghost use Prim.Native.Nat.{_<_, _+_};
 ghost use Rattle.replayed_pieces.specs.Stored.{pairsStored, piecesStored, sliceStored, splitsStored};
@@ -31,7 +31,7 @@ pub fn is_range(case: &[u8], index: usize, answer: Offsets) -> bool
 }
 
 // The refusal, the list's size, the list.
-pub fn is_list(case: &[u8], index: usize, answer: Listed, list: &[u8]) -> bool
+pub fn is_list(case: &[u8], index: usize, answer: Written, list: &[u8]) -> bool
     requires { ⌜ index < 100 ⌝ }
     ensures { λ r. ⌜ r ≡ (isNumber (fieldOf index (now (case .entry))) (answer .refusal)
         && isNumber (fieldOf (index + 1) (now (case .entry))) (answer .len))
@@ -107,8 +107,8 @@ pub fn are_pieces(
         (now (starts .entry)) (now (ends .entry)) (now (shifts .entry)) (now (lengths .entry)) ⌝ }
 {
     is_number(case, index, answer.refusal)
-        & is_size(case, index + 1, answer.pieces)
-        & is_size(case, index + 2, answer.alignments)
+        & is_size(case, index + 1, answer.len)
+        & is_size(case, index + 2, answer.alignments_len)
         & are_offsets(case, index + 3, starts)
         & are_offsets(case, index + 4, ends)
         & are_numbers(case, index + 5, shifts)
@@ -116,7 +116,7 @@ pub fn are_pieces(
 }
 
 // The refusal, how many there are, their starts and ends.
-pub fn are_splits(case: &[u8], index: usize, answer: Listed, starts: &[u32], ends: &[u32]) -> bool
+pub fn are_splits(case: &[u8], index: usize, answer: Written, starts: &[u32], ends: &[u32]) -> bool
     requires { ⌜ index < 100 ⌝ }
     ensures { λ r. ⌜ r ≡ splitsStored (now (case .entry)) index answer
         (now (starts .entry)) (now (ends .entry)) ⌝ }

@@ -5,7 +5,7 @@ use Rattle.replayed_edits.proofs.told.is_cleared.Statement.{statement}
 use Rattle.replayed_edits.proofs.told.is_cleared.Tie as tie
 
 returns : tie.Need-returns
-returns c = both (both (both (c .before .before .before .is-number .ensures) (c .before .before .is-number2 .ensures)) (c .before .is-number3 .ensures)) (c .are-published .ensures)
+returns c = both (both (both (c .before .before .before .is-number .ensures) (c .before .before .is-size .ensures)) (c .before .is-size2 .ensures)) (c .are-published .ensures)
 
 pub is-cleared-spec : {M : Type 1} → statement M
 is-cleared-spec =

@@ -5,7 +5,7 @@ use Rattle.replayed_edits.proofs.told.is_published.Statement.{statement
 use Rattle.replayed_edits.proofs.told.is_published.Tie as tie
 
 returns : tie.Need-returns
-returns c = both (both (c .before .before .is-number .ensures) (c .before .is-number2 .ensures)) (c .are-published .ensures)
+returns c = both (both (c .before .before .is-number .ensures) (c .before .is-size .ensures)) (c .are-published .ensures)
 
 pub is-published-spec : {M : Type 1} → statement M
 is-published-spec =
