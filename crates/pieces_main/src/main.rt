@@ -1,5 +1,7 @@
 // pieces < INPUT (RULES 14.4 to 14.6): the pieces that a literal and a behaviour cut a note into, to standard output.
 // What is printed comes from `piece_lines`; here the input is read to its end, and that is written.
+use libc::STDERR_FILENO;
+use libc::STDIN_FILENO;
 use libc::STDOUT_FILENO;
 use piece_lines::KEPT;
 use piece_lines::answer;
@@ -35,7 +37,7 @@ fn read_on(seen: Seen) -> Reading
     ensures { λ r. ⌜ ReadOn seen r ⌝ }
 {
     let mut chunk = io::large_buffer();
-    match fill(&mut chunk) {
+    match fill(STDIN_FILENO, &mut chunk) {
         Input::Bytes(n) => {
             let next = scan(seen, &chunk[..n]);
             if n < chunk.len() {
@@ -64,7 +66,12 @@ fn read_to_end(seen: Seen) -> Reading
     Reading::More(so_far)
 }
 
-// What is printed of the input of which this is kept.
+fn say(words: &[u8]) {
+    io::write_all(STDERR_FILENO, words);
+}
+
+// What is printed of the input of which this is kept. Where all of it could be written, a line on standard error says
+// whether that was a refusal, `refused N`, or pieces: the script `pieces` reads its status there.
 fn print(head: &[u8], seen: Seen)
     requires { ⌜ Keeps (now head) seen ⌝ }
 {
@@ -72,12 +79,18 @@ fn print(head: &[u8], seen: Seen)
     let size = answer(head, seen, &mut out);
     if !io::write_all(STDOUT_FILENO, &out[..size]) {
         os::fail(b"pieces: standard output");
+        return;
     }
+    if out[0] == b'r' {
+        say(b"refused\n");
+        return;
+    }
+    say(b"answered\n");
 }
 
 fn main() {
     let mut head = head_buffer();
-    match fill(&mut head) {
+    match fill(STDIN_FILENO, &mut head) {
         Input::Bytes(n) => {
             let seen = scan(Seen::Literal(0), &head[..n]);
             if n < KEPT {

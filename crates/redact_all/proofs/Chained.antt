@@ -29,7 +29,8 @@ use Rattle.word_pairs.specs.Words.{wordsOf, inPairs, pairsOf, allFormed}
 use Rattle.redact_all.specs.declared.Report.{Report}
 use Rattle.redact_all.specs.declared.Redactions.the-variants.{Published, Refused}
 use Rattle.redact_all.specs.Steps.{publishedBy, stepsFit}
-use Rattle.redact_all.specs.RedactAll.{AllBuffers, AllRedacted, ChainedCall, allInputFaults, resultFaults, reportOf}
+use Rattle.redact_all.specs.RedactAll.{AllBuffers, AllRedacted, ChainedCall, allInputFaults, resultFaults, allFaults, reportOf}
+use Rattle.redact_all.specs.Stepping.{Checked}
 use Rattle.redact_all.proofs.OneStep.{step-replaces, next-accepted}
 use Rattle.redact_all.proofs.Entry.{inputs-checked}
 
@@ -77,11 +78,11 @@ module _ (d : List ℕ) (long : length d ≡ limit) (n : Note) (p : Pair) (noted
       }
 
 -- all steps: the chain, and that what it leaves can be judged, with the transcript and the shift of the note
-record Chained (n : Note) (ps : List Pair) : Type 0 where
-  chain : Chain limit n (stepsOf ps n) (publishedBy ps n)
-  accepted : verdict (noteFaults limit (publishedBy ps n)) ≡ Accepted
-  same-original : publishedBy ps n .original ≡ n .original
-  same-shift : publishedBy ps n .original-shift ≡ n .original-shift
+pub record Chained (n : Note) (ps : List Pair) : Type 0 where
+  pub chain : Chain limit n (stepsOf ps n) (publishedBy ps n)
+  pub accepted : verdict (noteFaults limit (publishedBy ps n)) ≡ Accepted
+  pub same-original : publishedBy ps n .original ≡ n .original
+  pub same-shift : publishedBy ps n .original-shift ≡ n .original-shift
 
 all-chained : (d : List ℕ) → length d ≡ limit → (ps : List Pair) (n : Note) → verdict (noteFaults limit n) ≡ Accepted → formedPairs ps ≡ true → stepsFit limit ps n ≡ true → Chained n ps
 unfolding Chain stepsOf publishedBy formedPairs stepsFit
@@ -104,14 +105,27 @@ says-report (Rejected j) report told e = let z : _≡_ {A = ℕ} 0 1 = cc in abs
 front-of : (says : Verdict) (m : ℕ) (x d o : List ℕ) → says ≡ Accepted → m ≡ length x → o ≡ after says x d → take m o ≡ x
 front-of says m x d o ok size is = rw (is, ok, size) (take-overlay x d)
 
+-- its inputs were accepted, and so was each step
+module _ (n : Note) (bytes sizes : List ℕ) (b₀ : AllBuffers) (report : Report) (b : AllBuffers) (call : AllRedacted limit n bytes sizes b₀ (Published report) b) where
+  all-accepted : verdict (allFaults limit n bytes sizes b₀) ≡ Accepted
+  all-accepted = sym (call .says-is) ∙ says-report (call .says) report (reportOf n (pairsOf bytes sizes)) (call .answer) .0
+
+  pub call-checked : Checked n bytes sizes
+  call-checked = inputs-checked n bytes sizes {v = Accepted} (sym (accepted-first (allInputFaults limit n bytes sizes) (resultFaults limit n (pairsOf bytes sizes) _ _) all-accepted)) refl
+
+  steps-fit : stepsFit limit (pairsOf bytes sizes) n ≡ true
+  steps-fit =
+      let step = meets NoRoom (not (stepsFit limit (pairsOf bytes sizes) n)) none in
+      not-false (stepsFit limit (pairsOf bytes sizes) n)
+      (accepted-meets step (accepted-first step _ (accepted-second (allInputFaults limit n bytes sizes) (resultFaults limit n (pairsOf bytes sizes) _ _) all-accepted)) NoRoom)
+
+  pub call-chained : Chained n (pairsOf bytes sizes)
+  call-chained = all-chained (replicate limit 0) (length-replicate {A = ℕ} limit 0) (pairsOf bytes sizes) n (call-checked .noted) (pairs-formed (wordsOf bytes sizes) (call-checked .formed)) steps-fit
+
 pub chained-call : ChainedCall
 chained-call n bytes sizes b₀ report b call =
     let said = says-report (call .says) report (reportOf n (pairsOf bytes sizes)) (call .answer) in
-    let ok = sym (call .says-is) ∙ said .0 in
-    let inputs = accepted-first (allInputFaults limit n bytes sizes) (resultFaults limit n (pairsOf bytes sizes) _ _) ok in
-    let checked = inputs-checked n bytes sizes {v = Accepted} (sym inputs) refl in
-    let fit = not-false (stepsFit limit (pairsOf bytes sizes) n) (accepted-meets (meets NoRoom (not (stepsFit limit (pairsOf bytes sizes) n)) none) (accepted-first (meets NoRoom (not (stepsFit limit (pairsOf bytes sizes) n)) none) _ (accepted-second (allInputFaults limit n bytes sizes) (resultFaults limit n (pairsOf bytes sizes) _ _) ok)) NoRoom) in
-    let all = all-chained (replicate limit 0) (length-replicate {A = ℕ} limit 0) (pairsOf bytes sizes) n (checked .noted) (pairs-formed (wordsOf bytes sizes) (checked .formed)) fit in
+    let all = call-chained n bytes sizes b₀ report b call in
     let left : Note = publishedBy (pairsOf bytes sizes) n in
     let sound = accepted-sound limit left (all .accepted) .0 in
     let size : report .len ≡ length (left .normalized) = ap (λ (x : Report). x .len) (said .1) in

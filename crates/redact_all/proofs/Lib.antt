@@ -5,3 +5,4 @@ pub mod Telling
 pub mod Entry
 pub mod Chained
 pub mod Unreadable
+pub mod Reported

@@ -50,7 +50,7 @@ pub enum Steps {
 }
 
 // Room for a count for each pair.
-fn counts_buffer() -> [u32; LIMIT]
+pub fn counts_buffer() -> [u32; LIMIT]
     ensures { λ r. ⌜ limit ≡ length r ⌝ }
 {
     [0; LIMIT]

@@ -1,5 +1,5 @@
-// Standard input, read into a lent buffer. Which bytes come is the system's; how many at most, and that reading ends,
-// is proved.
+// A file that is open, as standard input, read into a passed buffer. Which bytes come is the system's; how many at most,
+// and that reading ends, is proved.
 ghost use Rattle.standard_input.specs.Counting.{Within};
 
 // What reading answers: how many bytes there are, or that they cannot be read.
@@ -8,13 +8,14 @@ pub enum Input {
     Unread,
 }
 
-// The input from where it was left, from the start of `buf` on: up to its end, or until the buffer is full.
-pub fn fill(buf: &mut [u8]) -> Input
+// The file with descriptor `fd` from where it was left, from the start of `buf` on: up to its end, or until the buffer
+// is full.
+pub fn fill(fd: i32, buf: &mut [u8]) -> Input
     ensures { λ r. ⌜ Within r (now (buf .entry)) (now (buf .exit)) ⌝ }
 {
     let mut done = 0;
     while done < buf.len() {
-        let got = libc::read(libc::STDIN_FILENO, &mut buf[done..]);
+        let got = libc::read(fd, &mut buf[done..]);
         if got < 0 {
             return Input::Unread;
         }

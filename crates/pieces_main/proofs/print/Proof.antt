@@ -13,5 +13,6 @@ print-spec =
     (λ c κs. search needs) (λ c. search needs) (λ c κs. search needs)
     (λ c. printed-within (c .before .answer .ensures _ (c .before .before .before .before .before .pre .is-kept)))
     (λ c. sym (length-take-le _ _ (printed-within (c .before .before .answer .ensures _ (c .before .before .before .before .before .before .pre .is-kept)))))
-    (λ c κs. search needs) (λ c. search needs) (λ c κs. search needs) (λ c. search needs)
+    (λ c κs. search needs) (λ c. search needs) (λ c κs. search needs) (λ c. search needs) (λ c. search needs)
+    (λ c. search needs) (λ c κs. search needs) (λ c. search needs) (λ c. search needs) (λ c κs. search needs)
     (λ c. search needs))

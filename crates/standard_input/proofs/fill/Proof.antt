@@ -7,10 +7,10 @@ use Rattle.standard_input.proofs.fill.Statement.{statement}
 use Rattle.standard_input.proofs.fill.Tie as tie
 
 abbrev Inv-loop : tie.InvT-loop
-Inv-loop buf₀ done₀ buf done = (done ≤ length buf) × (length buf ≡ length buf₀)
+Inv-loop fd buf₀ done₀ buf done = (done ≤ length buf) × (length buf ≡ length buf₀)
 
 abbrev μ-loop : tie.MeasureT-loop
-μ-loop buf₀ done₀ buf done = length buf - done
+μ-loop fd buf₀ done₀ buf done = length buf - done
 
 pub fill-spec : {M : Type 1} → statement M
 fill-spec =
