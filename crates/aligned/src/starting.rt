@@ -64,6 +64,8 @@ fn is_char_aligned(text: &[u8], starts: &[Offset], ends: &[Offset]) -> bool
 
 // Whether the columns are those of the starting note of a text (RULES 1.6): of an ASCII text, in which each byte is a
 // character, by its index alone. Whether it is one was told before.
+// An inner function: the text is within the limit and has one start and one end for each byte, and `plain` was told of
+// it.
 pub fn is_starting(text: &[u8], starts: &[Offset], ends: &[Offset], plain: bool) -> bool
     requires { ⌜ plain ≡ ascii (now text) ⌝ }
     requires { ⌜ length (now text) ≤ limit ⌝ }

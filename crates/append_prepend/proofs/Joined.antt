@@ -1,4 +1,4 @@
--- What `append` and `prepend` answer by the checks that were made, and two runs laid one behind the other.
+-- What `append` and `prepend` answer by the checks that were made, and two runs laid one after the other.
 use Prim.Native.Nat.{ℕ, _+_, _-_, _≤_, _<_, min}
 use mathlib.Core.Path.{_≡_, _∙_, ap, refl, sym}
 use mathlib.Core.Bool.{Bool, true, false, not}
@@ -46,7 +46,7 @@ left-over kept more room h =
     (λ k. le-leb more (room - kept) (omega arith) ∙ sym (le-leb (kept + more) room k))
     (λ k. lt-leb more (room - kept) (omega arith) ∙ sym (lt-leb (kept + more) room k))
 
--- two runs, one behind the other
+-- two runs, one after the other
 pub pair-laid : (p q d₀ : List ℕ) {d₁ d₂ : List ℕ} {m : ℕ} → m ≡ length p → d₁ ≡ splice d₀ 0 p → d₂ ≡ splice d₁ m q → d₂ ≡ overlay (p ++ q) d₀
 pair-laid p q d₀ is first second =
     let near : 0 + length p ≡ length p = omega arith in
@@ -68,7 +68,7 @@ append-laid {s} {starts} {ends} {string} {out₀} {starts₀} {ends₀} r k o x 
       ends-are = pair-laid ends _ ends₀ (sym (r .one-end)) (rw (whole-part ends (r .one-end)) at (k .ends-are)) (rw y at en);
     }
 
--- what the first character carries, a column behind it, and both texts
+-- what the first character carries, a column after it, and both texts
 pub front-none : (string xs : List ℕ) → length string ≡ 0 → 0 ≡ frontOf string xs
 unfolding frontOf
 front-none string xs z = rw (eq-eqb (length string) 0 z)

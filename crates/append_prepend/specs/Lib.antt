@@ -1,3 +1,3 @@
--- A string behind a text and before it (RULES 8).
+-- A string after a text and before it (RULES 8).
 pub mod Joining
 pub mod Laying

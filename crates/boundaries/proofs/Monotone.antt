@@ -138,7 +138,7 @@ module _ (n : Note) where
       (every-all m (shared n) (λ i h. monotone-shared i (every-at m st s i h))))
       (every-all m (forward n) (λ i h. monotone-forward i (every-at m st s i h))))
 
--- by what the code tests of a lent note; the shift has no part in it
+-- by what the code tests of a passed note; the shift has no part in it
 module _ (o m s e : List ℕ) where
   pub not-monotone : {r : Bool} → r ≡ monotone m s e (length o) (length m) → not r ≡ true → false ≡ aligned (lent o m s e 0)
   not-monotone {r} is f = sym (aligned-forms (lent o m s e 0) ∙ and-false-l (monotone m s e (length o) (length m)) _ (sym is ∙ not-true r f))

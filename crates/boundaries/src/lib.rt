@@ -142,6 +142,8 @@ fn uncut_blocks(original: &[u8], starts: &[Offset], ends: &[Offset]) -> bool
 }
 
 // Whether no alignment cuts a character of the transcript: in blocks where the last start, and so each, is inside it.
+// An inner function: the transcript is well-formed, there is a start and an end for each cleaned byte, and the columns
+// were found in order.
 pub fn uncut_all(original: &[u8], normalized: &[u8], starts: &[Offset], ends: &[Offset]) -> bool
     requires { ⌜ (wellFormed (now original) ≡ true) × (length (now starts) ≡ length (now normalized)) ⌝ }
     requires { ⌜ (length (now ends) ≡ length (now normalized)) × (monotone (now normalized) (now starts) (now ends)

@@ -1,4 +1,4 @@
--- Laws of `column` and of `Filled`: numbers that are being written into a lent buffer, from either end: none yet, one
+-- Laws of `column` and of `Filled`: numbers that are being written into a passed buffer, from either end: none yet, one
 -- more, a stretch more, all of a column; and three columns written together.
 use Prim.Native.Nat.{ℕ, zero, suc, _+_, _-_, _≤_, _<_}
 use mathlib.Core.Path.{_≡_, _∙_, refl, sym}
@@ -41,7 +41,7 @@ filled-up f d₀ a i d x w h is =
       beyond = λ k from. getD-set-other d i k x 0 (λ e. absurd (omega arith)) ∙ w .beyond k (omega arith);
     }
 
--- one more that stands there already
+-- one more that is there already
 pub filled-kept : (f : ℕ → ℕ) (d₀ : List ℕ) (a i : ℕ) (d : List ℕ) → Filled f d₀ a i d → getD d₀ i 0 ≡ f i → Filled f d₀ a (i + 1) d
 filled-kept f d₀ a i d w is =
     record {

@@ -10,7 +10,7 @@ use Rattle.buffers.specs.Splice.{part, splice, overlay}
 use Rattle.buffers.specs.Over.{Over, Source, Reaching}
 use Rattle.buffers.proofs.Splice.{length-splice, length-part, length-front, part-append, part-front, replicate-front, splice-whole}
 
--- what a splice has behind its run
+-- what a splice has after its run
 drop-splice : (d r : List ℕ) (at k : ℕ) → at ≤ length d → at + length r ≤ k → drop k (splice d at r) ≡ drop k d
 unfolding splice
 drop-splice d r at k h far =
@@ -33,7 +33,7 @@ over-exact r d at until room is =
       same = ap length is ∙ length-splice d at r room;
     }
 
--- one run behind another; and the front of a longer run
+-- one run after another; and the front of a longer run
 pub over-after : {p q d₀ d₁ d₂ : List ℕ} {at until : ℕ} → Over p d₀ at until d₁ → Over q d₁ (at + length p) until d₂ → Over (p ++ q) d₀ at until d₂
 over-after {p = p} {q = q} {d₀ = d₀} {at = at} o l =
     let far : at + length (p ++ q) ≡ at + length p + length q = omega (arith, length-append p q) in
@@ -68,7 +68,7 @@ pub source-exact : {src : List ℕ} {from to : ℕ} {d : List ℕ} {at until : �
 source-exact {src} {from} {to} {d} {at} {until} s is =
     over-exact (part src from to) d at until (omega (arith, s .room, length-part src from to (s .inside))) is
 
--- of a run of src, from `from` up to `to`, as much stands in d as blocks have laid up to i
+-- of a run of src, from `from` up to `to`, as much is in d as blocks have laid up to i
 pub record Blocks (src : List ℕ) (from to : ℕ) (d₀ : List ℕ) (at until : ℕ) (d : List ℕ) (i : ℕ) : Type 0 where
   pub begun : from ≤ i
   pub most : i < to + 64

@@ -1,4 +1,4 @@
--- Laws of `part`, `splice` and `overlay`: lengths, elements, one run behind another; and a buffer that is being written,
+-- Laws of `part`, `splice` and `overlay`: lengths, elements, one run after another; and a buffer that is being written,
 -- element by element (`Written`) or piece by piece (`Laying`): none yet, one more, all of it.
 use Prim.Native.Nat.{ℕ, zero, suc, _+_, _-_, _≤_, _<_}
 use mathlib.Core.Path.{_≡_, _∙_, ap, refl, sym}
@@ -140,7 +140,7 @@ pub overlay-overlay : (r p d : List ℕ) → length r ≡ length p → overlay r
 unfolding overlay
 overlay-overlay r p d e = rw e (ap (_++_ r) (drop-append-seam p (drop (length p) d)))
 
--- a run that is laid, and one behind it
+-- a run that is laid, and one after it
 pub laid-length : {r d₀ d : List ℕ} {at end : ℕ} → Laid r d₀ at end d → at + length r ≤ length d₀ → length d ≡ length d₀
 laid-length {r = r} {d₀ = d₀} {at = at} l h = ap length (l .holds) ∙ length-splice d₀ at r h
 
@@ -182,7 +182,7 @@ one-same n v {j = j} w room more =
 pub all-same : (n v : ℕ) {d₀ d : List ℕ} {at j : ℕ} → Written (replicate n v) d₀ at d j → n ≤ j → d ≡ splice d₀ at (replicate n v)
 all-same n v w done = all-written w (simp length-replicate done)
 
--- of `whole`, all but `rest` stands in d up to `at`; from there on d is d₀
+-- of `whole`, all but `rest` is in d up to `at`; from there on d is d₀
 pub record Laying (whole rest d₀ : List ℕ) (at : ℕ) (d : List ℕ) : Type 0 where
   pub so-far : take at d ++ rest ≡ whole
   pub beyond : drop at d ≡ drop at d₀

@@ -1,4 +1,4 @@
--- Lists by index: a column of numbers, and a lent buffer that has some of them.
+-- Lists by index: a column of numbers, and a passed buffer that has some of them.
 use Prim.Native.Nat.{ℕ, zero, suc, _≤_, _<_}
 use mathlib.Core.Path.{_≡_}
 use mathlib.Core.List.{List, [], _∷_, _++_}

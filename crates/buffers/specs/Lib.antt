@@ -1,4 +1,4 @@
--- What the contracts of `buffers`, and of every crate that writes a lent buffer, are said with.
+-- What the contracts of `buffers`, and of every crate that writes a passed buffer, are said with.
 pub mod Splice
 pub mod Over
 pub mod Every

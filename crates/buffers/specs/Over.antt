@@ -1,10 +1,10 @@
--- A run that is laid in blocks: what stands behind it is told only from a bound on.
+-- A run that is laid in blocks: what is after it is told only from a bound on.
 use Prim.Native.Nat.{ℕ, _+_, _-_, _≤_}
 use mathlib.Core.Path.{_≡_}
 use mathlib.Core.List.{List, _++_}
 use lib.ListN.{length, take, drop}
 
--- d is d₀ with r laid into it from `at` on; behind r, and from `until` on, it is d₀
+-- d is d₀ with r laid into it from `at` on; after r, and from `until` on, it is d₀
 pub record Over (r d₀ : List ℕ) (at until : ℕ) (d : List ℕ) : Type 0 where
   pub front : take (at + length r) d ≡ take at d₀ ++ r
   pub beyond : (k : ℕ) → at + length r ≤ k → until ≤ k → drop k d ≡ drop k d₀
@@ -17,7 +17,7 @@ pub record Source (src : List ℕ) (from to : ℕ) (d : List ℕ) (at until : �
   pub room : at + (to - from) ≤ length d
   pub until-room : until ≤ length d
 
--- a result that is laid run by run: all but `rest` stands in d up to `at`; behind the whole of it d is d₀
+-- a result that is laid run by run: all but `rest` is in d up to `at`; after the whole of it d is d₀
 pub record Reaching (whole rest d₀ : List ℕ) (at : ℕ) (d : List ℕ) : Type 0 where
   pub so-far : take at d ++ rest ≡ whole
   pub beyond : drop (length whole) d ≡ drop (length whole) d₀

@@ -1,10 +1,10 @@
--- Parts of a list, and a list that stands in another one's place.
+-- Parts of a list, and a list that is in another one's place.
 use Prim.Native.Nat.{ℕ, _+_, _-_}
 use mathlib.Core.Path.{_≡_}
 use mathlib.Core.List.{List, _++_}
 use lib.ListN.{length, take, drop}
 
--- what stands from a up to e, as `&s[a..e]` has it
+-- what is from a up to e, as `&s[a..e]` has it
 abbrev pub part : List ℕ → ℕ → ℕ → List ℕ
 part s a e = take (e - a) (drop a s)
 
@@ -12,7 +12,7 @@ part s a e = take (e - a) (drop a s)
 unfoldable pub splice : List ℕ → ℕ → List ℕ → List ℕ
 splice d at r = take at d ++ r ++ drop (at + length r) d
 
--- d with r in the place of its first elements: what a lent buffer holds after a result of r
+-- d with r in the place of its first elements: what a passed buffer holds after a result of r
 unfoldable pub overlay : List ℕ → List ℕ → List ℕ
 overlay r d = r ++ drop (length r) d
 

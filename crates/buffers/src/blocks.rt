@@ -31,7 +31,7 @@ pub fn copy_offsets_block(src: &[Offset], i: usize, dst: &mut [Offset], at: usiz
     copy_offsets(&block, dst, at);
 }
 
-// What `src` has from `from` up to `to` stands in `dst` from `at` on.
+// What `src` has from `from` up to `to` is in `dst` from `at` on.
 pub fn copy_bytes_over(src: &[u8], from: usize, to: usize, dst: &mut [u8], at: usize, until: usize)
     requires { ⌜ Source (now src) from to (now dst) at until ⌝ }
     ensures { λ _. ⌜ Over (part (now (src .entry)) from to) (now (dst .entry)) at until (now (dst .exit)) ⌝ }
@@ -95,7 +95,7 @@ pub fn copy_front_over(src: &[u8], count: usize, dst: &mut [u8], at: usize, unti
     copy_bytes_over(src, 0, count, dst, at, until);
 }
 
-// `count` times `value` stands in `dst` from `at` on.
+// `count` times `value` is in `dst` from `at` on.
 pub fn fill_offsets_over(value: Offset, count: usize, dst: &mut [Offset], at: usize, until: usize)
     requires { ⌜ (at + count ≤ length (now dst)) × (until ≤ length (now dst)) ⌝ }
     ensures { λ _. ⌜ Over (replicate count value) (now (dst .entry)) at until (now (dst .exit)) ⌝ }

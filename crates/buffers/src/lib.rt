@@ -1,4 +1,4 @@
-// Runs of bytes and of 16-bit numbers, copied or filled into lent buffers.
+// Runs of bytes and of 16-bit numbers, copied or filled into passed buffers.
 // Each function here is an inner one: its callers have measured the room before.
 pub mod blocks;
 pub mod equality;
@@ -13,7 +13,7 @@ ghost use Rattle.buffers.specs.Splice.{splice};
 // A position in a text, as a column of alignments holds it.
 pub type Offset = u16;
 
-// `src` stands in `dst` from `at` on; all else is as it was.
+// `src` is in `dst` from `at` on; all else is as it was.
 pub fn copy_bytes(src: &[u8], dst: &mut [u8], at: usize)
     requires { ⌜ at + length (now src) ≤ length (now dst) ⌝ }
     ensures { λ _. ⌜ now (dst .exit) ≡ splice (now (dst .entry)) at (now (src .entry)) ⌝ }
@@ -36,7 +36,7 @@ pub fn copy_offsets(src: &[Offset], dst: &mut [Offset], at: usize)
     }
 }
 
-// `count` times `value` stands in `dst` from `at` on; all else is as it was.
+// `count` times `value` is in `dst` from `at` on; all else is as it was.
 pub fn fill_bytes(value: u8, count: usize, dst: &mut [u8], at: usize)
     requires { ⌜ at + count ≤ length (now dst) ⌝ }
     ensures { λ _. ⌜ now (dst .exit) ≡ splice (now (dst .entry)) at (replicate count value) ⌝ }

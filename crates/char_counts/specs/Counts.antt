@@ -9,7 +9,7 @@ use Rattle.utf8.specs.Chars.{leads}
 unfoldable pub begunAfterFirst : List ℕ → ℕ → ℕ
 begunAfterFirst s b = leads (take b (drop 1 s))
 
--- the count at every 128th byte stands in front
+-- the count at every 128th byte is in front
 pub record Marked (s marks : List ℕ) : Type 0 where
   pub enough : length s ≤ 128 * length marks
   pub marked : (k : ℕ) → 128 * k < length s → getD marks k 0 ≡ begunAfterFirst s (128 * k)

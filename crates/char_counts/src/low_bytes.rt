@@ -35,7 +35,7 @@ fn write_sixteens(fours: &[u8], sixteens: &mut [u8])
     }
 }
 
-// The 128 low bytes behind the first i + 16.
+// The 128 low bytes after the first i + 16.
 fn low_block(text: &[u8], i: usize, lows: &mut [u8])
     requires { ⌜ BlockReady (now text) i (now lows) ⌝ }
     ensures { λ _. ⌜ LowsTo (now (text .entry)) (now (lows .entry)) (i + 144) (now (lows .exit)) ⌝ }
@@ -64,6 +64,7 @@ fn low_each(text: &[u8], from: usize, to: usize, lows: &mut [u8])
 }
 
 // The low byte at each byte of a text, in front of `lows`.
+// An inner function: `lows` has room for the text, and at least one element.
 pub fn write_lows(text: &[u8], lows: &mut [u8])
     requires { ⌜ (1 ≤ length (now lows)) × (length (now text) ≤ length (now lows)) ⌝ }
     ensures { λ _. ⌜ LowsTo (now (text .entry)) (now (lows .entry)) (length (now (text .entry)))

@@ -60,7 +60,7 @@ abbrev pub pairAt : List ℕ → List ℕ → List ℕ → ℕ → CharOffsets
 pairAt s starts ends i = pairOf s (getD starts i 0) (getD ends i 0)
 
 -- the text's refusals, beside them a list that has not as many ends as starts; then the room for one answer a pair
--- the text, the pairs, the lent columns before, the answer, the lent columns after
+-- the text, the pairs, the passed columns before, the answer, the passed columns after
 pub record CharOffsetsList (most : ℕ) (s starts ends n₀ a₀ e₀ : List ℕ) (r : Verdict) (n₁ a₁ e₁ : List ℕ) : Type 0 where
   pub answer : r ≡ verdict (also (also (textFaults most s) (lengthFaults starts ends))
       (roomFaults (length starts) (least (length n₀) (length a₀) (length e₀))))

@@ -81,7 +81,7 @@ pub struct Pair {
     pub end: u32,
 }
 
-// One pair of a text whose counts are lent.
+// One pair of a text whose counts are passed.
 fn convert_pair(
     text: &[u8],
     marks: &[Offset],

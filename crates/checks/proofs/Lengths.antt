@@ -1,4 +1,4 @@
--- Laws of the working forms by lengths, and what each test of a lent note says of the verdict.
+-- Laws of the working forms by lengths, and what each test of a passed note says of the verdict.
 use Prim.Native.Nat.{ℕ, _+_, _-_, _≤_, _<_}
 use mathlib.Core.Path.{_≡_, _∙_, sym}
 use mathlib.Core.Bool.{Bool, true, false, cond, _&&_, not}

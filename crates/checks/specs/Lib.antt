@@ -1,2 +1,2 @@
--- Working forms of the conditions of a lent note; the conditions themselves are defined in `note`.
+-- Working forms of the conditions of a passed note; the conditions themselves are defined in `note`.
 pub mod Lengths

@@ -1,4 +1,4 @@
-// What every call on a lent note, a lent text or lent buffers judges first (RULES 2).
+// What every call on a passed note, a passed text or passed buffers judges first (RULES 2).
 use aligned::aligned;
 use buffers::Offset;
 use buffers::equality::same_bytes;
@@ -65,7 +65,7 @@ fn texts_formed(original: &[u8], normalized: &[u8], plain: bool, same: bool) -> 
     well_formed(normalized)
 }
 
-// Whether a lent note is refused.
+// Whether a passed note is refused.
 pub fn check_note(
     original: &[u8],
     normalized: &[u8],
@@ -94,7 +94,7 @@ pub fn check_note(
     )
 }
 
-// Whether a text that is lent alone is refused.
+// Whether a text that is passed alone is refused.
 pub fn check_text(text: &[u8]) -> Verdict
     ensures { λ r. ⌜ r ≡ verdict (textFaults limit (now (text .entry))) ⌝ }
 {
@@ -111,7 +111,7 @@ pub fn check_string(string: &[u8]) -> Verdict
     refused_if(!well_formed(string), Refusal::IllFormed)
 }
 
-// The room that two lent buffers have for one size.
+// The room that two passed buffers have for one size.
 pub fn least_of_two(a: usize, b: usize) -> usize
     ensures { λ r. ⌜ r ≡ min a b ⌝ }
 {
@@ -121,7 +121,7 @@ pub fn least_of_two(a: usize, b: usize) -> usize
     a
 }
 
-// The room that three lent buffers have for one size.
+// The room that three passed buffers have for one size.
 pub fn least_room(a: usize, b: usize, c: usize) -> usize
     ensures { λ r. ⌜ r ≡ least a b c ⌝ }
 {

@@ -31,7 +31,7 @@ unfolding textOf lenUtf8
 length-text [] = omega arith
 length-text (c ∷ cs) = omega (arith, length-append (bytesOf c) (textOf cs), size-most c, length-text cs)
 
--- the code point at i, and those behind it
+-- the code point at i, and those after it
 module _ (cs : List ℕ) (i : ℕ) (h : i < length cs) where
   pub text-cons : textOf (drop i cs) ≡ bytesOf (getD cs i 0) ++ textOf (drop (i + 1) cs)
   unfolding textOf

@@ -1,10 +1,10 @@
--- Code points, one behind the other: their bytes, and whether they are any.
+-- Code points, one after the other: their bytes, and whether they are any.
 use Prim.Native.Nat.{ℕ}
 use mathlib.Core.Bool.{Bool, true, _&&_}
 use mathlib.Core.List.{List, [], _∷_, _++_}
 use Rattle.utf8.specs.Scalar.{scalar, bytesOf}
 
--- the bytes of code points, one behind the other
+-- the bytes of code points, one after the other
 unfoldable pub textOf : List ℕ → List ℕ
 textOf [] = []
 textOf (c ∷ cs) = bytesOf c ++ textOf cs

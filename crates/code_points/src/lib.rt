@@ -23,6 +23,7 @@ pub struct Judged {
 }
 
 // Both of no more numbers than a 32-bit sum has room for: the loop has no way out inside, so that it is vectorised.
+// An inner function: its caller cuts the code points into blocks of at most 65,536.
 pub fn judge_block(codes: &[u32]) -> Judged
     requires { ⌜ length (now codes) ≤ 0x10000 ⌝ }
     ensures { λ r. ⌜ JudgedAs (now (codes .entry)) r ⌝ }
@@ -61,8 +62,9 @@ pub fn judge(codes: &[u32]) -> Judged
     }
 }
 
-// A character's bytes, laid from `at` on, and what stands behind them in four where that stays below `until`; how many
+// A character's bytes, laid from `at` on, and what is after them in four where that stays below `until`; how many
 // they are.
+// An inner function: its caller has measured the room for the character, and `until` lies within the buffer.
 pub fn put_character(character: u32, out: &mut [u8], at: usize, until: usize) -> usize
     requires { ⌜ (at + lenUtf8 character ≤ length (now out)) × (until ≤ length (now out)) ⌝ }
     ensures { λ r. ⌜ (r ≡ lenUtf8 character)
@@ -110,6 +112,7 @@ fn lay_block(codes: &[u32], out: &mut [u8], at: usize, until: usize) -> usize
 }
 
 // The bytes of scalar values, laid from `from` on; how far they reach.
+// An inner function: its caller has found all numbers to be scalar values, and has measured the room.
 pub fn lay_text(codes: &[u32], out: &mut [u8], from: usize, until: usize) -> usize
     requires { ⌜ TextRoom (now codes) (now out) from until × (allScalar (now codes) ≡ true) ⌝ }
     ensures { λ r. ⌜ TextLaid (now (codes .entry)) (now (out .entry)) from until r (now (out .exit)) ⌝ }

@@ -53,7 +53,7 @@ fn count_ahead(a: &[u8], b: &[u8], low: u8, steps: &mut [u8])
     }
 }
 
-// Each step behind the base, in `out` from `at` on.
+// Each step, added to the base, in `out` from `at` on.
 fn add_base(base: Offset, steps: &[u8], out: &mut [Offset], at: usize)
     requires { ⌜ (length (now steps) ≡ 64) × (at + 64 ≤ length (now out)) ⌝ }
     requires { ⌜ ((k : ℕ) → base + getD (now steps) k 0 ≤ limit) ⌝ }
@@ -68,6 +68,8 @@ fn add_base(base: Offset, steps: &[u8], out: &mut [Offset], at: usize)
 }
 
 // The starts of the 64 bytes from `i` on, in `starts` from `at` on.
+// An inner function: the text is well-formed, within the limit and without a character of four bytes; two bytes of it
+// come before the block and three after it, and `starts` has room for the block.
 pub fn starts_block(text: &[u8], i: usize, starts: &mut [Offset], at: usize)
     requires { ⌜ (wellFormed (now text) ≡ true) × (length (now text) ≤ limit) × (largest (now text) < 0xF0) ⌝ }
     requires { ⌜ (2 ≤ i) × ((i + 67 ≤ length (now text)) × (at + 64 ≤ length (now starts))) ⌝ }
@@ -86,6 +88,8 @@ pub fn starts_block(text: &[u8], i: usize, starts: &mut [Offset], at: usize)
 }
 
 // The ends of the 64 bytes from `i` on, in `ends` from `at` on.
+// An inner function: the text is well-formed, within the limit and without a character of four bytes; two bytes of it
+// come before the block and three after it, and `ends` has room for the block.
 pub fn ends_block(text: &[u8], i: usize, ends: &mut [Offset], at: usize)
     requires { ⌜ (wellFormed (now text) ≡ true) × (length (now text) ≤ limit) × (largest (now text) < 0xF0) ⌝ }
     requires { ⌜ (2 ≤ i) × ((i + 67 ≤ length (now text)) × (at + 64 ≤ length (now ends))) ⌝ }

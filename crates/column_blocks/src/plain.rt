@@ -6,6 +6,7 @@ ghost use Rattle.buffers.specs.Columns.{Filled};
 ghost use Rattle.note.specs.Notes.{limit};
 
 // 64 numbers from `first` on.
+// An inner function: `out` has room for the block, and its last number is within the limit.
 pub fn count_up(first: Offset, out: &mut [Offset], at: usize)
     requires { ⌜ (at + 64 ≤ length (now out)) × (first + 63 ≤ limit) ⌝ }
     ensures { λ _. ⌜ Filled (λ k. first + (k - at)) (now (out .entry)) at (at + 64) (now (out .exit)) ⌝ }

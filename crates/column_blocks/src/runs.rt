@@ -64,6 +64,8 @@ fn step_ahead(i: usize, counts: &[u8], ends: &mut [Offset], at: usize)
 }
 
 // The starts of the 64 bytes from `i` on, in `starts` from `at` on.
+// An inner function: the text is well-formed and within the limit; three bytes of it come before the block, and
+// `starts` has room for the block.
 pub fn starts_block(text: &[u8], i: usize, starts: &mut [Offset], at: usize)
     requires { ⌜ (wellFormed (now text) ≡ true) × (length (now text) ≤ limit) ⌝ }
     requires { ⌜ (3 ≤ i) × ((i + 64 ≤ length (now text)) × (at + 64 ≤ length (now starts))) ⌝ }
@@ -76,6 +78,8 @@ pub fn starts_block(text: &[u8], i: usize, starts: &mut [Offset], at: usize)
 }
 
 // The ends of the 64 bytes from `i` on, in `ends` from `at` on.
+// An inner function: the text is well-formed and within the limit; three bytes of it come after the block, and `ends`
+// has room for the block.
 pub fn ends_block(text: &[u8], i: usize, ends: &mut [Offset], at: usize)
     requires { ⌜ (wellFormed (now text) ≡ true) × (length (now text) ≤ limit) ⌝ }
     requires { ⌜ (i + 67 ≤ length (now text)) × (at + 64 ≤ length (now ends)) ⌝ }

@@ -1,4 +1,4 @@
--- Laws of `answered`: what a call on a lent note answers, by what the check of the note says; and what an accepted note's columns are.
+-- Laws of `answered`: what a call on a passed note answers, by what the check of the note says; and what an accepted note's columns are.
 use Prim.Native.Nat.{ℕ, _+_, _≤_}
 use mathlib.Core.Path.{_≡_, _∙_, ap, refl}
 use mathlib.Core.Bool.{Bool, true, false, cond}

@@ -116,7 +116,7 @@ unfoldable pub asOriginal : List ℕ → List ℕ → Range → Converted
 asOriginal starts ends (Original a b) = Found (Original a b)
 asOriginal starts ends (Normalized a b) = converted starts ends (Normalized a b)
 
--- RULES 4.1: what a call says that is lent a note and answers a range: the note's refusals, then `Missing`
+-- RULES 4.1: what a call says that is passed a note and answers a range: the note's refusals, then `Missing`
 abbrev pub missing : Converted → Bool
 missing (Found range) = false
 missing (Refused k) = true

@@ -226,6 +226,7 @@ fn to_normalized(
 }
 
 // `convert_offsets` for proved callers that have had the note checked: it asks for the columns that a check leaves.
+// An inner function: the note was checked, so its columns are within the limit and never go back.
 pub fn convert_checked(starts: &[Offset], ends: &[Offset], range: Range) -> Converted
     requires { ⌜ OrderedColumns limit (now starts) (now ends) ⌝ }
     ensures { λ r. ⌜ r ≡ converted (now (starts .entry)) (now (ends .entry)) range ⌝ }
@@ -248,6 +249,7 @@ pub fn as_normalized(starts: &[Offset], ends: &[Offset], range: Range) -> Conver
     }
 }
 
+// A range in the transcript: one of the cleaned text is converted. An inner function: the note was checked.
 pub fn as_original(starts: &[Offset], ends: &[Offset], range: Range) -> Converted
     requires { ⌜ OrderedColumns limit (now starts) (now ends) ⌝ }
     ensures { λ r. ⌜ r ≡ asOriginal (now (starts .entry)) (now (ends .entry)) range ⌝ }

@@ -18,7 +18,7 @@ unfoldable pub answerAt : (Range → Converted) → OffsetReferential → List �
 answerAt answer side from to i = answer (rangeOf side (getD from i 0) (getD to i 0))
 
 -- the note's refusals, beside them a list that has not as many ends as starts; then the room for one answer a range
--- the note, the ranges, the lent columns before, the answer, the lent columns after
+-- the note, the ranges, the passed columns before, the answer, the passed columns after
 pub record ConvertedList (most : ℕ) (n : Note) (side : OffsetReferential) (from to numbers₀ starts₀ ends₀ : List ℕ)
     (r : Verdict) (numbers starts ends : List ℕ) : Type 0 where
   pub answer : r ≡ verdict (also (also (noteFaults most n) (lengthFaults from to))

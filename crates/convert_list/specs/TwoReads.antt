@@ -60,7 +60,7 @@ pub record AnsweredBetween (answers : ℕ → Converted) (at past : ℕ) (number
   pub starts-are : Filled (λ k. startIn (answers k)) starts₀ at past starts
   pub ends-are : Filled (λ k. endIn (answers k)) ends₀ at past ends
 
--- the three lent columns, before and after n answers are written
+-- the three passed columns, before and after n answers are written
 pub record AnswersWritten (answers : ℕ → Converted) (n : ℕ) (numbers₀ starts₀ ends₀ numbers starts ends : List ℕ)
     : Type 0 where
   pub numbers-are : numbers ≡ overlay (column n (λ i. numberIn (answers i))) numbers₀

@@ -59,7 +59,7 @@ module _ (piece : ℕ → Command → List ℕ) (wide : (p : ℕ) (c : Command) 
   length-relaid a p cs xs h =
       length-append (take a xs) _ ∙ rw (length-take-le a xs h, length-append, length-given p cs, length-drop b xs) (omega arith)
 
--- no command starves: not the first one, and none behind it
+-- no command starves: not the first one, and none after it
 module _ (s : List ℕ) (b p : ℕ) (c : Command) (cs : List Command) (e : starved s b p (c ∷ cs) ≡ false) where
   first-fed : starves b p c ≡ false
   unfolding starved
@@ -200,7 +200,7 @@ module _ {s starts ends : List ℕ} {b p : ℕ} {all : List Command} {table out�
           ends-are = column-done (carriedValues ends) (carried-wide ends) s b p all at g rest (k .ends-laid) none (omega (arith, r .ends-room)) .1;
         }
 
--- a list in three pieces: what stands before the range, what the commands give, what stands behind
+-- a list in three pieces: what is before the range, what the commands give, what is after
 module _ (piece : ℕ → Command → List ℕ) (wide : (p : ℕ) (c : Command) → length (piece p c) ≡ lenUtf8 (c .character)) (s xs : List ℕ) (a b p m : ℕ) (cs : List Command) (d₀ : List ℕ) (long : length xs ≡ m) (forward : a ≤ b) (inside : b ≤ m) where
   front : part xs 0 a ≡ take a xs
   front = let none : a - 0 ≡ a = omega arith in rw none

@@ -84,7 +84,7 @@ standing-moved {s} {b} {p} c at =
     (λ t. rw (moved-added s b p c t) (at, omega arith))
     (λ u. rw (moved-replacing s b p c u) (standing-skipped (suc (c .removed)) at))
 
--- the loop that skips: k of `count` characters lie behind
+-- the loop that skips: k of `count` characters are passed
 pub record Skipping (s : List ℕ) (b count from k p : ℕ) : Type 0 where
   pub same : skipped s b count from ≡ skipped s b (count - k) p
   pub standing : Standing s b p

@@ -17,7 +17,7 @@ unfoldable pub skipped : List ℕ → ℕ → ℕ → ℕ → ℕ
 skipped s b zero p = p
 skipped s b (suc k) p = cond (ltb p b) (skipped s b k (p + announced (getD s p 0))) p
 
--- a replacing command finds no character left before b
+-- a replacing command comes where no character is left before b
 unfoldable pub starves : ℕ → ℕ → Command → Bool
 starves b p c = not (c .added) && leb b p
 
@@ -43,7 +43,7 @@ characters p c = bytesOf (c .character)
 abbrev pub carriedValues : List ℕ → ℕ → Command → List ℕ
 carriedValues xs p c = replicate (lenUtf8 (c .character)) (carriedValue xs p c)
 
--- what all commands give, one behind the other, from position p on
+-- what all commands give, one after the other, from position p on
 unfoldable pub produced : (ℕ → Command → List ℕ) → List ℕ → ℕ → ℕ → List Command → List ℕ
 produced piece s b p [] = []
 produced piece s b p (c ∷ cs) = piece p c ++ produced piece s b (moved s b p c) cs
@@ -59,7 +59,7 @@ pub record Edit : Type 0 where
 abbrev pub edit : ℕ → ℕ → ℕ → List Command → Edit
 edit from to skip cs = record { from = from; to = to; skip = skip; commands = cs }
 
--- where the first command stands
+-- where the first command is
 unfoldable pub firstPosition : List ℕ → Edit → ℕ
 firstPosition s e = skipped s (e .to) (e .skip) (e .from)
 

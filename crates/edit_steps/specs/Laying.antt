@@ -82,7 +82,7 @@ pub record EditRoom (s starts ends : List ℕ) (a b p : ℕ) (cs : List Command)
   pub starts-room : a + commandsSize cs + (length s - b) ≤ length starts₀
   pub ends-room : a + commandsSize cs + (length s - b) ≤ length ends₀
 
--- the whole result stands in front
+-- the whole result is in front
 pub record EditLaid (s starts ends : List ℕ) (a b p : ℕ) (cs : List Command) (out₀ starts₀ ends₀ : List ℕ) (r : ℕ)
     (out starts₁ ends₁ : List ℕ) : Type 0 where
   pub reached : r ≡ length (relaid characters s a b p cs s)

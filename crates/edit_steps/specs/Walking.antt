@@ -1,5 +1,5 @@
 -- What the inner functions are told and say: a position in the range, the record that goes through a script, the script
--- measured, and what has been laid into the lent buffers.
+-- measured, and what has been laid into the passed buffers.
 use Prim.Native.Nat.{ℕ, _+_, _^_, _≤_, _<_}
 use mathlib.Core.Path.{_≡_}
 use mathlib.Core.Bool.{true, false, cond}

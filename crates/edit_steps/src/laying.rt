@@ -1,4 +1,4 @@
-// The result of an edit, laid into the lent buffers.
+// The result of an edit, laid into the passed buffers.
 // Each function here is an inner one: no command of the script starves, and there is room for the result.
 use crate::walking::Progress;
 use crate::walking::advanced;

@@ -187,7 +187,7 @@ module _ (t : List ℕ) (w : wellFormed t ≡ true) (some : 0 < length t) where
       let is = announced-one a low in
       rw is (bytesOf-scalar a (scalar-low a (omega arith)) ∙ encoded-one a low ∙ sym (front-one t (omega arith))))
 
--- what stands at p is the front of what stands from p on
+-- what is at p is the front of what is from p on
 code-drop : (s : List ℕ) (p : ℕ) → codeAt (drop p s) 0 ≡ codeAt s p
 unfolding codeAt
 code-drop s p =

@@ -175,7 +175,7 @@ module _ (n : Note) (sound : Sound n) where
       }
 
   -- what the whole transcript converts to: nothing where there is no cleaned text; its beginning where there is no
-  -- transcript; else all behind the head
+  -- transcript; else all after the head
   whole-converted : (P : Converted → Type 0) → P (Found (inNormalized H N)) → (H ≡ N → P (Found (inNormalized 0 0))) → (N ≡ 0 → P (Refused Missing)) → P (converted (n .starts) (n .ends) (inOriginal 0 (length (n .original))))
   unfolding converted toNormalized
   whole-converted P behind start nothing =

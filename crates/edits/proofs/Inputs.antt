@@ -1,4 +1,4 @@
--- Laws of the refusals before an edit: the note's, then those of what is lent beside it.
+-- Laws of the refusals before an edit: the note's, then those of what is passed beside it.
 use Prim.Native.Nat.{ℕ, _≤_}
 use mathlib.Core.Path.{_≡_, _∙_, refl, sym}
 use mathlib.Core.Bool.{Bool, true, false, not}

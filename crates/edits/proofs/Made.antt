@@ -1,4 +1,4 @@
--- An edit behind inputs that are accepted: what it is refused for, by the note that it makes.
+-- An edit after inputs that are accepted: what it is refused for, by the note that it makes.
 use Prim.Native.Nat.{ℕ, _≤_, _<_, min}
 use mathlib.Core.Path.{_≡_, _∙_, ap, refl}
 use mathlib.Core.Bool.{Bool, true}

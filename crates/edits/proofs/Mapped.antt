@@ -54,7 +54,7 @@ first-head (s ∷ starts) [] even some = absurd (omega arith)
 first-head (s ∷ starts) (e ∷ ends) even some =
     true-or-false (eqb s e) (λ t. rw t (sym (lt-ltb 0 (suc (widthless starts ends)) (omega arith)))) (λ u. rw u)
 
--- the call, behind the note's check and the code points'
+-- the call, after the note's check and the code points'
 module _ (most : ℕ) (n : Note) (codes out₀ starts₀ ends₀ : List ℕ) {v : Verdict} (noted : v ≡ verdict (noteFaults most n)) (ok : v ≡ Accepted) {j : Judged} (judged : JudgedAs codes j) (scalars : not (j .scalar) ≡ false) {m : ℕ} (counted : m ≡ leads (n .normalized)) (each : length codes ≡ m) where
   abbrev Mapped : Editing → List ℕ → List ℕ → List ℕ → Type 0
   Mapped r out starts ends =

@@ -104,7 +104,7 @@ module _ (s : List ℕ) where
   abbrev end : ℕ
   end = length s
 
-  -- where the next command stands
+  -- where the next command is
   abbrev next : List ℕ → ℕ → ℕ
   next ks p = skipped s (length s) (droppedAhead ks) p
 

@@ -29,7 +29,7 @@ use Rattle.edits.specs.Characters.{codeAt, codesOf}
 abbrev pub wholeRange : Note → Range
 wholeRange n = wholeOriginal (n .original)
 
--- a character that replaces one, with so many removed behind it, and one that is added
+-- a character that replaces one, with so many removed after it, and one that is added
 abbrev pub replacing : ℕ → ℕ → Command
 replacing removed c = record { character = c; added = false; removed = removed }
 
@@ -103,7 +103,7 @@ AppendCall n string = NoteCall n (stringFaults string) (appendEdit n string)
 abbrev pub PrependCall : Note → List ℕ → OnThree Editing
 PrependCall n string = NoteCall n (stringFaults string) (prependEdit n string)
 
--- FILTER: a flag for each character, 0 drops it; a kept one removes the dropped ones behind it, and what is dropped
+-- FILTER: a flag for each character, 0 drops it; a kept one removes the dropped ones after it, and what is dropped
 -- before the first kept one is skipped
 unfoldable pub droppedAhead : List ℕ → ℕ
 droppedAhead [] = 0

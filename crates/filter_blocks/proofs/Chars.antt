@@ -30,7 +30,7 @@ use Rattle.filter_blocks.specs.Chosen.{chosen, FlagEach, KeptColumnRoom,
 use Rattle.filter_blocks.specs.Counting.{keptCount, keptLen, BeforeFour, KeptSoFar, KeptBetween, KeptCharsRoom, CharsKept}
 use Rattle.filter_blocks.proofs.Chosen.{chosen-long, chosen-most, char-chosen, none-kept, rest-past, rest-first}
 
--- the flag at i, and those behind it
+-- the flag at i, and those after it
 kept-drop : (flags : List ℕ) (i : ℕ) → i < length flags → keptCount (drop i flags) ≡ cond (eqb (getD flags i 0) 0) 0 1 + keptCount (drop (i + 1) flags)
 unfolding keptCount
 kept-drop flags i h = rw (drop-cons flags i 0 h, add-one i)

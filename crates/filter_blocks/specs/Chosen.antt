@@ -23,7 +23,7 @@ pub record FlagEach (s flags : List ℕ) : Type 0 where
   pub formed : wellFormed s ≡ true
   pub counted : length flags ≡ chars s
 
--- the last kept character ends at e: nothing is kept behind it, and the byte before it is
+-- the last kept character ends at e: nothing is kept after it, and the byte before it is
 pub record KeptEnd (s flags : List ℕ) (e : ℕ) : Type 0 where
   pub most : e ≤ length s
   pub behind : (xs : List ℕ) → length xs ≡ length s → chosen flags (leads (take e s)) (drop e s) (drop e xs) ≡ []

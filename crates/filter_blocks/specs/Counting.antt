@@ -20,12 +20,12 @@ keptCount (k ∷ ks) = cond (eqb k 0) 0 1 + keptCount ks
 unfoldable pub keptLen : ℕ → ℕ → ℕ
 keptLen flag size = cond (eqb flag 0) 0 size
 
--- behind the first r flags four characters are kept, if there are any before
+-- after the first r flags four characters are kept, if there are any before
 pub record BeforeFour (flags : List ℕ) (r : ℕ) : Type 0 where
   pub most : r ≤ length flags
   pub many : 0 < r → 4 ≤ keptCount (drop r flags)
 
--- the kept bytes before q stand in the three buffers, which are what they were behind the result
+-- the kept bytes before q stand in the three buffers, which are what they were after the result
 pub record KeptBefore (s starts ends flags out₀ starts₀ ends₀ : List ℕ) (q i at : ℕ) (out starts₁ ends₁ : List ℕ)
     : Type 0 where
   pub counted : Counted s i q

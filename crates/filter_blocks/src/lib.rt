@@ -105,7 +105,7 @@ fn copy_four_offsets(src: &[Offset], i: usize, dst: &mut [Offset], at: usize)
 }
 
 // The kept characters of the first `stop` flags: four bytes of each character are laid, and the next one over what is
-// too much or not kept. Four more characters are kept behind these, so that nothing is laid past the result.
+// too much or not kept. Four more characters are kept after these, so that nothing is laid past the result.
 fn lay_chars(
     text: &[u8],
     starts: &[Offset],

@@ -33,7 +33,7 @@ unfolding keptCommands
 no-flags [] = refl
 no-flags (c ∷ cs) = refl
 
--- so the first command may stand behind all that is dropped before it
+-- so the first command may stand after all that is dropped before it
 module _ (s : List ℕ) (b from : ℕ) (flags : List ℕ) where
   begun-kept : anyKept flags ≡ true → firstKept s b from flags ≡ skipped s b (droppedAhead flags) from
   unfolding firstKept skips
@@ -113,7 +113,7 @@ module _ {s : List ℕ} {b : ℕ} {flags : List ℕ} {q p i : ℕ} (k : Beside s
         standing = rw is (standing-skipped 1 (k .standing) .0);
       }
 
-  -- a flag that drops: the commands are the same, and so is where the next one stands
+  -- a flag that drops: the commands are the same, and so is where the next one is
   module _ (drops : eqb (getD flags i 0) 0 ≡ true) where
     pub dropped-rest : restAt s flags q i ≡ restAt s flags (q + announced (getD s q 0)) (i + 1)
     unfolding keptCommands
@@ -123,7 +123,7 @@ module _ {s : List ℕ} {b : ℕ} {flags : List ℕ} {q p i : ℕ} (k : Beside s
     unfolding droppedAhead
     dropped-ahead = rw (flags-cons, drops) (skipped-suc s b (droppedAhead (drop (i + 1) flags)) p)
 
-  -- a flag that keeps: a command more, which stands at the position
+  -- a flag that keeps: a command more, which is at the position
   module _ (keeps : eqb (getD flags i 0) 0 ≡ false) where
     pub kept-rest : restAt s flags q i ≡ replacing (droppedAhead (drop (i + 1) flags)) (codeAt s q) ∷ restAt s flags (q + announced (getD s q 0)) (i + 1)
     unfolding keptCommands

@@ -1,4 +1,4 @@
--- Laws of `firstFrom` and `firstMatch`: the first position at which a literal stands is the least one.
+-- Laws of `firstFrom` and `firstMatch`: the first position at which a literal occurs is the least one.
 use Prim.Native.Nat.{ℕ, zero, suc, _+_, _-_, _<_}
 use mathlib.Core.Path.{_≡_}
 use mathlib.Core.List.{List}

@@ -89,7 +89,7 @@ module _ {text literal : List ℕ} {count at p b : ℕ} (m : CountedPlaces text 
 pub one-counted : (text literal : List ℕ) {p : ℕ} → p ≡ firstMatch text literal → p ≡ length text → (1 ≡ length (foundPlaces text literal)) × (1 ≤ limit + limit + 1)
 one-counted text literal is none = (sym (ap length (found-whole text literal (sym is ∙ none))), omega arith)
 
--- what stands between two matches, laid
+-- what is between two matches, laid
 pub between-laid : {a e i r : ℕ} {d₀ d : List ℕ} {p : Place} → a < e → p ≡ placeFrom a e false → Laid (placeBytes p) d₀ i r d → Laid (encodedPlaces (between a e)) d₀ i r d
 between-laid {a} {e} h is laid = rw (between-some h, encoded-one (placeFrom a e false), ← is) laid
 

@@ -27,7 +27,7 @@ module _ (text literal : List ℕ) (some : 0 < length literal) where
       let inside : p + length literal ≤ length text = occurs-inside text literal p some (f .occurs h) in
       rw (within-enough n m (p + length literal) inside (omega (arith, f .from)) (omega (arith, f .from))))
 
-  -- what stands before the first match, the match, and all others from its end
+  -- what is before the first match, the match, and all others from its end
   matches-step : (at : ℕ) → at ≤ length text
       → matchesFrom text literal at
       ≡ between at (firstFrom text literal at) ++ cond (ltb (firstFrom text literal at) (length text))

@@ -1,4 +1,4 @@
--- Laws of `occursAt`: the literal's bytes stand there, inside the text; a well-formed literal stands on boundaries of a well-formed text.
+-- Laws of `occursAt`: the literal's bytes stand there, inside the text; a well-formed literal is on boundaries of a well-formed text.
 use Prim.Native.Nat.{ℕ, _+_, _-_, _≤_, _<_}
 use mathlib.Core.Path.{_≡_, _∙_, ap, sym}
 use mathlib.Core.Bool.{true, false}

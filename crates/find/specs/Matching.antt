@@ -1,4 +1,4 @@
--- RULES 9.4 and 9.5: the matches of a literal, leftmost and not overlapping, and what stands between them.
+-- RULES 9.4 and 9.5: the matches of a literal, leftmost and not overlapping, and what is between them.
 -- Rust: `Pattern for &str`.
 use Prim.Native.Nat.{ℕ, zero, suc, _+_, _-_, _≤_, _<_}
 use mathlib.Core.Path.{_≡_}
@@ -10,21 +10,21 @@ use Rattle.buffers.specs.Splice.{part}
 use Rattle.buffers.specs.Same.{same}
 use Rattle.pattern.specs.declared.Place.{Place}
 
--- the literal stands in the text at p
+-- the literal is in the text at p
 unfoldable pub occursAt : List ℕ → List ℕ → ℕ → Bool
 occursAt text literal p = same (part text p (p + length literal)) literal
 
--- the first of the n positions from `at` on at which it stands, or the text's length
+-- the first of the n positions from `at` on at which it is, or the text's length
 unfoldable pub firstOf : List ℕ → List ℕ → ℕ → ℕ → ℕ
 firstOf text literal zero at = length text
 firstOf text literal (suc n) at = cond (occursAt text literal at) at (firstOf text literal n (suc at))
 
--- leftmost: the first position from `at` on at which it stands; the text's length, at which no literal with a byte
--- does, says that there is none
+-- leftmost: the first position from `at` on at which it is; the text's length, at which no literal with a byte
+-- is, says that there is none
 unfoldable pub firstFrom : List ℕ → List ℕ → ℕ → ℕ
 firstFrom text literal at = firstOf text literal (length text - at) at
 
--- p is the least position from `at` on at which the literal stands, or there is none and p is the text's length
+-- p is the least position from `at` on at which the literal is, or there is none and p is the text's length
 pub record FirstMatch (text literal : List ℕ) (at p : ℕ) : Type 0 where
   pub from : at ≤ p
   pub most : p ≤ length text
@@ -40,11 +40,11 @@ FirstLeftmost = (text literal : List ℕ) (at : ℕ) → at ≤ length text
 abbrev pub placeFrom : ℕ → ℕ → Bool → Place
 placeFrom a e matched = record { start = record { 0 = a }; end = record { 0 = e }; matched = matched }
 
--- what stands between two matches, if anything does
+-- what is between two matches, if anything is
 unfoldable pub between : ℕ → ℕ → List Place
 between a e = cond (ltb a e) (placeFrom a e false ∷ []) []
 
--- not overlapping: up to n matches from `at` on are what stands before the first, the first, and the same from its end
+-- not overlapping: up to n matches from `at` on are what is before the first, the first, and the same from its end
 unfoldable pub matchesWithin : List ℕ → List ℕ → ℕ → ℕ → List Place
 matchesWithin text literal zero at = []
 matchesWithin text literal (suc n) at =

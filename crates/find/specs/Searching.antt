@@ -8,7 +8,7 @@ use lib.ListN.{length, getD}
 use Rattle.buffers.specs.Every.{everyBelow}
 use Rattle.find.specs.Matching.{occursAt, firstFrom}
 
--- `first` stands in a and `last` in b, at one index
+-- `first` is in a and `last` in b, at one index
 unfoldable pub together : List ℕ → List ℕ → ℕ → ℕ → ℕ → Bool
 together a b first last j = eqb (getD a j 0) first && eqb (getD b j 0) last
 
@@ -22,7 +22,7 @@ firstTogether a b first last zero j = j
 firstTogether a b first last (suc n) j =
     cond (together a b first last j) j (firstTogether a b first last n (suc j))
 
--- the literal stands at no position from `from` up to `to`, which is one of the text's
+-- the literal is at no position from `from` up to `to`, which is one of the text's
 pub record Absent (text literal : List ℕ) (from to : ℕ) : Type 0 where
   pub onward : from ≤ to
   pub most : to ≤ length text

@@ -45,7 +45,7 @@ fn place_from(start: usize, end: usize, matched: bool) -> Place
     }
 }
 
-// How many places what stands between two matches is.
+// How many places are between two matches: one, or none where the matches touch.
 fn count_between(from: usize, to: usize) -> usize
     ensures { λ r. ⌜ r ≡ length (between from to) ⌝ }
 {
@@ -89,7 +89,7 @@ pub fn list_fits(text: &[u8], literal: &[u8], first: usize, room: usize) -> bool
     room_for(count_places(text, literal, first)) <= room
 }
 
-// What stands between two matches, in the list from `i` on; where the list reaches then.
+// What is between two matches, in the list from `i` on; where the list reaches then.
 fn write_between(start: usize, end: usize, out: &mut [u8], i: usize) -> usize
     requires { ⌜ (end ≤ limit) × (i + length (encodedPlaces (between start end)) ≤ length (now out)) ⌝ }
     ensures { λ r. ⌜ Laid (encodedPlaces (between start end)) (now (out .entry)) i r (now (out .exit)) ⌝ }
@@ -123,7 +123,7 @@ pub fn write_list(text: &[u8], literal: &[u8], first: usize, out: &mut [u8]) -> 
     write_between(at, start, out, i)
 }
 
-// The literal's matches in the text, and what stands between them, as a match list in `out`.
+// The literal's matches in the text, and what is between them, as a match list in `out`.
 // It judges, in this order: `TooLong` (the text), `IllFormed` (text or literal), `NoRoom`.
 pub fn find_matches(text: &[u8], literal: &[u8], out: &mut [u8]) -> Matches
     ensures { λ r. ⌜ Finding limit (now (text .entry)) (now (literal .entry)) (now (out .entry)) r (now (out .exit)) ⌝ }

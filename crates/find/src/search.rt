@@ -1,4 +1,4 @@
-// Where a literal stands next in a text. Of 64 positions at once the first is named at which its first byte and, as
+// Where a literal is next in a text. Of 64 positions at once the first is named at which its first byte and, as
 // far on as it is long, its last one stand together, and it is tried there; where there is none, blocks of 64 are
 // passed until there is one; fewer than 64 are tried one by one. The worst case is the text's length times the
 // literal's, where they nearly match everywhere: a literal a..aba..a in a text a..a.
@@ -12,7 +12,8 @@ ghost use lib.ListN.{length};
 ghost use Rattle.find.specs.Matching.{occursAt, firstFrom};
 ghost use Rattle.find.specs.Searching.{Absent, apartBelow, firstMatch, firstTogether};
 
-// Whether the literal stands in the text at `p`.
+// Whether the literal is in the text at `p`.
+// An inner function: the literal has a byte, and fits the text from `p` on.
 pub fn occurs_at(text: &[u8], literal: &[u8], p: usize) -> bool
     requires { ⌜ (0 < length (now literal)) × (p + length (now literal) ≤ length (now text)) ⌝ }
     ensures { λ r. ⌜ r ≡ occursAt (now (text .entry)) (now (literal .entry)) p ⌝ }
@@ -23,8 +24,9 @@ pub fn occurs_at(text: &[u8], literal: &[u8], p: usize) -> bool
     same_bytes(&text[p..p + literal.len()], literal)
 }
 
-// The first of 64 indices at which `first` stands in `a` and `last` in `b`, or 64.
+// The first of 64 indices at which `first` is in `a` and `last` in `b`, or 64.
 // No branch inside, so that the loop is vectorised; it is told by how many indices are left, since none is then 0.
+// An inner function: both parts have 64 bytes.
 pub fn first_candidate(a: &[u8], b: &[u8], first: u8, last: u8) -> usize
     requires { ⌜ (64 ≤ length (now a)) × (64 ≤ length (now b)) ⌝ }
     ensures { λ r. ⌜ r ≡ firstTogether (now (a .entry)) (now (b .entry)) first last 64 0 ⌝ }
@@ -42,7 +44,7 @@ pub fn first_candidate(a: &[u8], b: &[u8], first: u8, last: u8) -> usize
     64 - left as usize
 }
 
-// Whether `first` stands in `a` and `last` in `b` at one of 64 indices: less work than to name the first.
+// Whether `first` is in `a` and `last` in `b` at one of 64 indices: less work than to name the first.
 fn has_candidate(a: &[u8], b: &[u8], first: u8, last: u8) -> bool
     requires { ⌜ (64 ≤ length (now a)) × (64 ≤ length (now b)) ⌝ }
     ensures { λ r. ⌜ r ≡ not (apartBelow (now (a .entry)) (now (b .entry)) first last 64) ⌝ }
@@ -97,7 +99,7 @@ fn next_candidate(text: &[u8], literal: &[u8], from: usize) -> usize
     i
 }
 
-// The first position from `from` on at which the literal stands; the text's length where there is none.
+// The first position from `from` on at which the literal is; the text's length where there is none.
 // An inner function: the literal has a byte.
 pub fn next_match(text: &[u8], literal: &[u8], from: usize) -> usize
     requires { ⌜ (0 < length (now literal)) × (from ≤ length (now text)) ⌝ }

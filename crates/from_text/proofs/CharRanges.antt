@@ -63,7 +63,7 @@ module _ {s d₀ d : List ℕ} {end i : ℕ} (w : EndsFrom s d₀ d end i) (some
   pub end-goes-on : continues (getD s (i - 1) 0) ≡ true → EndsFrom s d₀ (set d (i - 1) end) end (i - 1)
   end-goes-on more = one-end end (λ again. w .carried some ∙ end-carried s (i - 1) more again)
 
--- a block that stands where its bytes do
+-- a block that is where its bytes are
 pub block-here : (f : ℕ → ℕ) (d₀ : List ℕ) (i n : ℕ) (d : List ℕ) → Filled (λ k. f (i + (k - i))) d₀ i n d → Filled f d₀ i n d
 block-here f d₀ i n d w =
     filled-as _ f d₀ i n d w (λ k from to. let here : i + (k - i) ≡ k = omega arith in ap f here)

@@ -1,4 +1,4 @@
--- RULES 15.2: the columns of a fresh text's note (RULES 1.6), written into two lent columns.
+-- RULES 15.2: the columns of a fresh text's note (RULES 1.6), written into two passed columns.
 use Prim.Native.Nat.{ℕ, min}
 use mathlib.Core.Path.{_≡_}
 use mathlib.Core.List.{List}

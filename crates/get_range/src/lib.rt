@@ -73,7 +73,7 @@ pub fn get_range_original(
     get(original, as_original(starts, ends, range))
 }
 
-// The text that a range names, of the two that are lent.
+// The text that a range names, of the two that are passed.
 fn text_of<'a>(original: &'a [u8], normalized: &'a [u8], range: Range) -> &'a [u8]
     ensures { λ r. ⌜ now r ≡ namedText (now (original .entry)) (now (normalized .entry)) range ⌝ }
 {

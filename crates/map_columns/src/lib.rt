@@ -35,7 +35,7 @@ fn same_leads(a: &[u8], b: &[u8]) -> bool
     ok
 }
 
-// `count` times `value`, at most four, stands in `dst` from `at` on: four at once where that stays below `until`.
+// `count` times `value`, at most four, is in `dst` from `at` on: four at once where that stays below `until`.
 fn fill_char(value: Offset, count: usize, dst: &mut [Offset], at: usize, until: usize)
     requires { ⌜ (at + count ≤ length (now dst)) × ((until ≤ length (now dst)) × (count ≤ 4)) ⌝ }
     ensures { λ _. ⌜ Over (replicate count value) (now (dst .entry)) at until (now (dst .exit)) ⌝ }

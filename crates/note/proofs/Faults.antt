@@ -1,4 +1,4 @@
--- Laws of the refusal conditions of a lent note and a lent text.
+-- Laws of the refusal conditions of a passed note and a passed text.
 use Prim.Native.Nat.{ℕ, _≤_, _<_}
 use mathlib.Core.Path.{_≡_}
 use mathlib.Core.Bool.{true}

@@ -1,4 +1,4 @@
--- RULES 2: which refusal conditions a lent note and a lent text meet, under a limit. Every call that is lent one has
+-- RULES 2: which refusal conditions a passed note and a passed text meet, under a limit. Every call that is passed one has
 -- them among its own.
 use Prim.Native.Nat.{ℕ}
 use mathlib.Core.Path.{_≡_}

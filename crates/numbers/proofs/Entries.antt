@@ -19,7 +19,7 @@ module _ {A : Type 0} (size : List ℕ → ℕ) (joined : List ℕ → A → A) 
   unfolding readFrom
   cons l i h = ap (readFrom size joined none 0) (drop-cons l i 0 h) ∙ rw (← drop-cons l i 0 h)
 
-  -- the entry at i has so many bytes, and the next one begins behind them
+  -- the entry at i has so many bytes, and the next one begins after them
   pub read-step : (l : List ℕ) {i w next : ℕ} → i < length l → size (drop i l) ≡ w → 1 ≤ w → next ≡ i + w
       → readFrom size joined none 0 (drop i l) ≡ joined (drop i l) (readFrom size joined none 0 (drop next l))
   read-step l {i} {w} {next} h is some ends =

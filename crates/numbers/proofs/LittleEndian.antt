@@ -34,7 +34,7 @@ unfolding littleEndian
 length-littleEndian zero n = refl
 length-littleEndian (suc width) n = ap suc (length-littleEndian width (n / 256))
 
--- the number that stands in a list, by its first byte, also where the list ends before; the one of two bytes, and the
+-- the number that is in a list, by its first byte, also where the list ends before; the one of two bytes, and the
 -- one of four, by its halves
 pub value-part : (width : ℕ) (bs : List ℕ) (at : ℕ) → valueOf (part bs at (at + suc width)) ≡ getD bs at 0 + valueOf (part bs (at + 1) (at + 1 + width)) * 256
 unfolding valueOf

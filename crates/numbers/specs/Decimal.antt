@@ -19,7 +19,7 @@ decimal n = digits (suc n) n
 unfoldable pub field : ℕ → ℕ → List ℕ
 field n after = decimal n ++ (after ∷ [])
 
--- the number that digits stand for behind those of n
+-- the number that digits stand for after those of n
 unfoldable pub digitsFrom : ℕ → List ℕ → ℕ
 digitsFrom n [] = n
 digitsFrom n (d ∷ ds) = digitsFrom (n * 10 + (d - 0x30)) ds

@@ -19,6 +19,7 @@ pub fn count_digits(number: usize) -> usize
 }
 
 // The digits of `number` stand in `out` from `at` on, laid from the last one back; where they end.
+// An inner function: its caller has measured the room for the digits.
 pub fn write_decimal(number: usize, out: &mut [u8], at: usize) -> usize
     requires { ⌜ at + length (decimal number) ≤ length (now out) ⌝ }
     ensures { λ r. ⌜ Laid (decimal number) (now (out .entry)) at r (now (out .exit)) ⌝ }
@@ -35,6 +36,7 @@ pub fn write_decimal(number: usize, out: &mut [u8], at: usize) -> usize
 }
 
 // The number and a byte after it, in `out` from `at` on; where they end.
+// An inner function: its caller has measured the room for the digits and the byte after them.
 pub fn write_field(number: usize, after: u8, out: &mut [u8], at: usize) -> usize
     requires { ⌜ at + length (field number after) ≤ length (now out) ⌝ }
     ensures { λ r. ⌜ Laid (field number after) (now (out .entry)) at r (now (out .exit)) ⌝ }

@@ -6,6 +6,7 @@ ghost use Rattle.buffers.specs.Splice.{part, splice};
 ghost use Rattle.numbers.specs.LittleEndian.{littleEndian, valueOf};
 
 // The number whose two bytes stand at `at`.
+// An inner function: two bytes are there.
 pub fn get_u16_le(bytes: &[u8], at: usize) -> u16
     requires { ⌜ at + 2 ≤ length (now bytes) ⌝ }
     ensures { λ r. ⌜ r ≡ valueOf (part (now (bytes .entry)) at (at + 2)) ⌝ }
@@ -14,6 +15,7 @@ pub fn get_u16_le(bytes: &[u8], at: usize) -> u16
 }
 
 // The number whose four bytes stand at `at`.
+// An inner function: four bytes are there.
 pub fn get_u32_le(bytes: &[u8], at: usize) -> u32
     requires { ⌜ at + 4 ≤ length (now bytes) ⌝ }
     ensures { λ r. ⌜ r ≡ valueOf (part (now (bytes .entry)) at (at + 4)) ⌝ }
@@ -22,6 +24,7 @@ pub fn get_u32_le(bytes: &[u8], at: usize) -> u32
 }
 
 // The two bytes of `value` stand in `out` from `at` on; all else is as it was.
+// An inner function: there is room for two bytes.
 pub fn put_u16_le(value: u16, out: &mut [u8], at: usize)
     requires { ⌜ at + 2 ≤ length (now out) ⌝ }
     ensures { λ _. ⌜ now (out .exit) ≡ splice (now (out .entry)) at (littleEndian 2 value) ⌝ }

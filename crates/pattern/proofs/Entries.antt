@@ -62,7 +62,7 @@ module _ (l : List ℕ) (i : ℕ) where
       (λ t. let z : At (placeAt l i) (i + 5) ≡ Broken = rw t at e in let y : _≡_ {A = ℕ} 0 1 = cc in absurd (omega arith))
       (λ f. f)
 
--- the entry at i is the first one of what stands from i on
+-- the entry at i is the first one of what is from i on
 position-drop : (l : List ℕ) (i k : ℕ) → positionAt (drop i l) k ≡ positionAt l (i + k)
 unfolding positionAt
 position-drop l i k =

@@ -29,7 +29,7 @@ use Rattle.pattern.proofs.Places.{fits-on, none-covered, next-covered}
 or-right : (a b : Bool) → a ≡ false → (a || b) ≡ true → b ≡ true
 or-right a b f e = rw f at e
 
--- what is said of a byte by where it stands in its place
+-- what is said of a byte by where it is in its place
 module _ (j before a b c d : ℕ) (e : placedAt j before a b c d ≡ true) where
   command-known : j % 5 ≡ 0 → (eqb a 11 || eqb a 12) ≡ true
   unfolding placedAt

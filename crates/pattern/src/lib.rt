@@ -22,7 +22,7 @@ pub struct Place {
     pub matched: bool,
 }
 
-// What stands at a byte of a list: a place, and where the next one begins; or an unknown command or a cut operand.
+// What is at a byte of a list: a place, and where the next one begins; or an unknown command or a cut operand.
 pub enum Entry {
     At(Place, usize),
     Broken,
@@ -39,7 +39,7 @@ fn position_at(list: &[u8], i: usize) -> NormalizedByte
     NormalizedByte(get_u16_le(list, i) as u32)
 }
 
-// What stands at byte `i` of the list.
+// What is at byte `i` of the list.
 pub fn entry_at(list: &[u8], i: usize) -> Entry
     ensures { λ r. ⌜ r ≡ entryAt (now (list .entry)) i ⌝ }
 {

@@ -26,7 +26,7 @@ first-run (b ∷ bs) =
     (λ t. record { first = []; others = runs bs; is = rw t })
     (λ f. rw f (in-front b (runs bs)))
 
--- an LF ends a run, and any other byte stands in front of one
+-- an LF ends a run, and any other byte is in front of one
 pub runs-end : (b : ℕ) (bs : List ℕ) → eqb b 0x0A ≡ true → runs (b ∷ bs) ≡ [] ∷ runs bs
 unfolding runs
 runs-end b bs t = rw t

@@ -48,6 +48,6 @@ pub record Keeps (head : List ℕ) (seen : Seen) : Type 0 where
   pub input : List ℕ
   pub is-kept : HeadKept input head seen
 
--- what is printed of any such input stands in front of d, which was d₀, and ends at r
+-- what is printed of any such input is in front of d, which was d₀, and ends at r
 abbrev pub HeadPrinted : List ℕ → Seen → List ℕ → ℕ → List ℕ → Type 0
 HeadPrinted head seen d₀ r d = (input : List ℕ) → HeadKept input head seen → Laid (printed input) d₀ 0 r d

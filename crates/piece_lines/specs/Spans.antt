@@ -21,7 +21,7 @@ spanLines text [] es = []
 spanLines text (s ∷ ss) [] = []
 spanLines text (s ∷ ss) (e ∷ es) = line s e (part text s e) ++ spanLines text ss es
 
--- `pieces `, which stands in front of their number
+-- `pieces `, which is in front of their number
 abbrev pub piecesWord : List ℕ
 piecesWord = 0x70 ∷ 0x69 ∷ 0x65 ∷ 0x63 ∷ 0x65 ∷ 0x73 ∷ 0x20 ∷ []
 

@@ -70,7 +70,7 @@ margin-share size literal contentLen {share} is some =
           (λ more. more));
     }
 
--- the literal stands nowhere: the starting note as it is
+-- the literal is nowhere: the starting note as it is
 module _ {text literal content : List ℕ} {first : ℕ} {out starts ends : List ℕ} (f : Fitting text literal content first out starts ends) (none : first ≡ length text) where
   found-one : placesSize (length content) (foundPlaces text literal) ≡ length text
   found-one = ap (placesSize (length content)) (found-whole text literal (sym (f .first-is) ∙ none)) ∙ sizes-unmatched (length content) 0 (length text) ∙ omega arith
@@ -103,7 +103,7 @@ module _ {text literal content : List ℕ} {first : ℕ} {out starts ends : List
 pub whole-laid : {text out starts ends : List ℕ} → WholeRoom text out starts ends → {out₁ starts₁ ends₁ : List ℕ} → out₁ ≡ splice out 0 text → starts₁ ≡ overlay (starting text .starts) starts → ends₁ ≡ overlay (starting text .ends) ends → WholeLaid text out starts ends out₁ starts₁ ends₁
 whole-laid r t s e = record { text-is = t ∙ splice-overlay _ _; starts-are = s; ends-are = e }
 
--- it stands somewhere
+-- it is somewhere
 module _ {text literal content : List ℕ} {first : ℕ} {out starts ends : List ℕ} (f : Fitting text literal content first out starts ends) (met : first ≡ length text → ⊥) where
   from-start : Searched text literal 0 first
   from-start = searched-first text literal (f .first-is) met

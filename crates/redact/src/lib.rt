@@ -209,13 +209,7 @@ fn blank_found(
 
 // How many matches gave way in a text that has `size` bytes since. Each of them made it longer or shorter by as much: no
 // match is looked for again, unless the content is as long as the literal.
-fn match_count(
-    text: &[u8],
-    literal: &[u8],
-    first: usize,
-    content_len: usize,
-    size: usize,
-) -> usize
+fn match_count(text: &[u8], literal: &[u8], first: usize, content_len: usize, size: usize) -> usize
     requires { ⌜ Resized (now text) (now literal) first «content_len» size ⌝ }
     ensures { λ r. ⌜ r ≡ matchCount (foundPlaces (now (text .entry)) (now (literal .entry))) ⌝ }
 {

@@ -28,7 +28,7 @@ pub struct Reached {
     pub at: usize,
 }
 
-// Whether the literal stands in the text at `p`.
+// Whether the literal is in the text at `p`.
 fn stands(text: &[u8], literal: &[u8], p: usize) -> bool
     requires { ⌜ (0 < length (now literal)) × (p ≤ length (now text)) ⌝ }
     ensures { λ r. ⌜ r ≡ occursAt (now (text .entry)) (now (literal .entry)) p ⌝ }
@@ -88,7 +88,7 @@ fn same_front(a: &[u8], b: &[u8], front_len: u8) -> bool
     ok
 }
 
-// Whether the literal stands in the text at `p`, told by its first bytes, which `front` has, and where there are more
+// Whether the literal is in the text at `p`, told by its first bytes, which `front` has, and where there are more
 // than 16 by all of them.
 fn begins(text: &[u8], literal: &[u8], front: &[u8], p: usize) -> bool
     requires { ⌜ FrontAt (now text) (now literal) (now front) p ⌝ }

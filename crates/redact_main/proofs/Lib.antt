@@ -1,3 +1,1 @@
--- Laws of what is shown and left.
-pub mod Seen
-pub mod Outcomes
+-- Laws of what the program gathers and tells.

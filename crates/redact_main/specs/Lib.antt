@@ -1,3 +1,3 @@
--- What the program shows, and what it has left to publish.
-pub mod Shown
-pub mod Outcomes
+-- What the program gathers and tells.
+pub mod Gathering
+pub mod Telling

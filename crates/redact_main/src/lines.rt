@@ -21,6 +21,7 @@ fn lines_buffer() -> [u8; LINES]
 }
 
 // Whether all of them could be written.
+// An inner function: there are as many starts as ends, and no more than the limit.
 pub fn write_alignments(starts: &[Offset], ends: &[Offset]) -> bool
     requires { ⌜ (length (now starts) ≡ length (now ends)) × (length (now starts) ≤ limit) ⌝ }
 {

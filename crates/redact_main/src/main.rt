@@ -1,177 +1,176 @@
-// redact LITERAL FILLER [LITERAL FILLER]... [alignments] < note (RULES 14.1 and 14.2): blanks every match of each
-// literal in a note, one literal after the other, and publishes the text, or the alignments, to standard output. A
-// refusal publishes nothing and says on standard error what to do.
+// redact OUTPUT MODE pairs LITERAL FILLER [LITERAL FILLER]... < NOTE, or redact OUTPUT MODE names FILE < NOTE, as the
+// script `redact` calls it (RULES 14.1 and 14.2): blanks the literals in a note, one after the other, and writes the
+// text, or the alignments, to standard output. What is blanked and counted comes from `redact_all`, the pairs of a names
+// file from `name_lines`; here the words are gathered, and the result is written, or not.
+mod gathering;
 mod lines;
 mod messages;
-mod shown;
+mod telling;
 
 use buffers::Offset;
-use buffers::copy_bytes;
 use buffers::equality::same_bytes;
 use from_text::from_text;
+use gathering::Gathered;
+use gathering::gather_arguments;
+use gathering::gather_file;
+use gathering::sizes_buffer;
+use gathering::words_buffer;
+use libc::STDIN_FILENO;
+use libc::STDOUT_FILENO;
 use lines::write_alignments;
-use messages::refuse_literal;
-use messages::refuse_long_content;
-use messages::refuse_long_literal;
 use messages::refuse_note;
-use messages::tell;
+use messages::refuse_pairs;
+use messages::say_kept_back;
+use messages::say_let_pass;
+use messages::say_written;
 use messages::usage;
 use note::Verdict;
+use redact_all::Redactions;
+use redact_all::counts_buffer;
+use redact_all::redact_all;
 use redact_in_place::column_buffer;
-use redact_in_place::redact_in_place;
 use redact_in_place::text_buffer;
-use redact_note::Redaction;
 use standard_input::Input;
 use standard_input::fill;
+use telling::is_clean;
+use telling::tell_counts;
+ghost use mathlib.Core.Path.{_≡_};
 ghost use Prim.Native.Nat.{_≤_};
-ghost use Rattle.redact_in_place.specs.InPlace.{Held};
-ghost use Rattle.redact_main.specs.Outcomes.{Left};
+ghost use lib.ListN.{length};
+ghost use Rattle.note.specs.Notes.{limit};
 
-// What became of the note: so many bytes are left to publish, or it was refused, and that was said.
-enum Outcome {
-    Left(usize),
-    Refused,
-}
-
-// The literal of argument `filler - 1` blanked by the filler of the next one, and how often said.
-fn blank_literal(
-    original: &[u8],
-    size: usize,
-    content_arg: usize,
-    text: &mut [u8],
-    starts: &mut [Offset],
-    ends: &mut [Offset],
-) -> Outcome
-    requires { ⌜ Held size (now text) (now starts) (now ends) × (1 ≤ «content_arg») ⌝ }
-    ensures { λ r. ⌜ Left r (now (text .exit)) (now (starts .exit)) (now (ends .exit)) ⌝ }
+// The text, or its alignments, to standard output.
+fn write(text: &[u8], starts: &[Offset], ends: &[Offset], alignments: bool) -> bool
+    requires { ⌜ (length (now starts) ≡ length (now ends)) × (length (now starts) ≤ limit) ⌝ }
 {
-    let number = content_arg / 2;
-    let mut literal = io::buffer();
-    let literal_size = os::arg(content_arg - 1, &mut literal);
-    if os::errno() != 0 {
-        refuse_long_literal(number);
-        return Outcome::Refused;
+    if alignments {
+        return write_alignments(starts, ends);
     }
-    let mut content = io::buffer();
-    let content_size = os::arg(content_arg, &mut content);
-    if os::errno() != 0 {
-        refuse_long_content(number);
-        return Outcome::Refused;
-    }
-    match redact_in_place(
-        original,
-        size,
-        &literal[..literal_size],
-        &content[..content_size],
-        text,
-        starts,
-        ends,
-    ) {
-        Redaction::Published(n, count) => {
-            tell(count, number, &literal[..literal_size]);
-            Outcome::Left(n)
-        }
-        Redaction::Refused(k) => {
-            refuse_literal(
-                k,
-                number,
-                &literal[..literal_size],
-                &content[..content_size],
-            );
-            Outcome::Refused
-        }
-    }
+    io::write_all(STDOUT_FILENO, text)
 }
 
-// Each literal in what the one before left, for a program that was started with `count` words.
-fn blank_all(
-    original: &[u8],
-    size: usize,
-    count: usize,
-    text: &mut [u8],
-    starts: &mut [Offset],
-    ends: &mut [Offset],
-) -> Outcome
-    requires { ⌜ Held size (now text) (now starts) (now ends) × (1 ≤ count) ⌝ }
-    ensures { λ r. ⌜ Left r (now (text .exit)) (now (starts .exit)) (now (ends .exit)) ⌝ }
+// What is published is written, unless something was found that keeps it back.
+fn finish(
+    clean: bool,
+    anyway: bool,
+    text: &[u8],
+    starts: &[Offset],
+    ends: &[Offset],
+    alignments: bool,
+)
+    requires { ⌜ (length (now starts) ≡ length (now ends)) × (length (now starts) ≤ limit) ⌝ }
 {
-    let mut size = size;
-    let mut at = 1;
-    while 2 <= count - at {
-        match blank_literal(original, size, at + 1, text, starts, ends) {
-            Outcome::Left(n) => size = n,
-            Outcome::Refused => return Outcome::Refused,
+    if !clean {
+        if !anyway {
+            say_kept_back();
+            return;
         }
-        at += 2;
+        say_let_pass();
     }
-    Outcome::Left(size)
-}
-
-fn judge_written(written: bool) {
-    if !written {
+    if !write(text, starts, ends, alignments) {
         os::fail(b"redact: standard output");
+        return;
     }
+    say_written(text.len());
 }
 
-// The note in `original`, blanked and published.
-fn publish(original: &[u8], count: usize, alignments: bool)
-    requires { ⌜ 1 ≤ count ⌝ }
-{
-    let mut text = text_buffer();
+// The note in `original`, with the literals of all pairs blanked.
+fn publish(original: &[u8], words: &[u8], sizes: &[u32], alignments: bool, anyway: bool) {
     let mut starts = column_buffer();
     let mut ends = column_buffer();
     if let Verdict::Refused(k) = from_text(original, &mut starts, &mut ends) {
         refuse_note(k);
         return;
     }
-    copy_bytes(original, &mut text, 0);
-    match blank_all(
+    let n = original.len();
+    let mut out = text_buffer();
+    let mut out_starts = column_buffer();
+    let mut out_ends = column_buffer();
+    let mut blanked = counts_buffer();
+    let mut left = counts_buffer();
+    let mut fillers = counts_buffer();
+    match redact_all(
         original,
-        original.len(),
-        count,
-        &mut text,
-        &mut starts,
-        &mut ends,
+        original,
+        &starts[..n],
+        &ends[..n],
+        0,
+        words,
+        sizes,
+        &mut out,
+        &mut out_starts,
+        &mut out_ends,
+        &mut blanked,
+        &mut left,
+        &mut fillers,
     ) {
-        Outcome::Left(n) => {
-            if alignments {
-                judge_written(write_alignments(&starts[..n], &ends[..n]));
-            } else {
-                judge_written(io::write_all(libc::STDOUT_FILENO, &text[..n]));
-            }
+        Redactions::Refused(k) => refuse_pairs(k),
+        Redactions::Published(report) => {
+            let pairs = sizes.len() / 2;
+            let len = report.len;
+            let clean = is_clean(report);
+            tell_counts(
+                words,
+                sizes,
+                &blanked[..pairs],
+                &left[..pairs],
+                &fillers[..pairs],
+            );
+            finish(
+                clean,
+                anyway,
+                &out[..len],
+                &out_starts[..len],
+                &out_ends[..len],
+                alignments,
+            );
         }
-        Outcome::Refused => return,
     }
 }
 
-fn run(count: usize, alignments: bool)
-    requires { ⌜ 1 ≤ count ⌝ }
-{
+// The note from standard input.
+fn read_note(words: &[u8], sizes: &[u32], alignments: bool, anyway: bool) {
     let mut text = io::large_buffer();
-    match fill(&mut text) {
-        Input::Bytes(n) => publish(&text[..n], count, alignments),
+    match fill(STDIN_FILENO, &mut text) {
+        Input::Bytes(n) => publish(&text[..n], words, sizes, alignments, anyway),
         Input::Unread => os::fail(b"redact: standard input"),
     }
 }
 
-// Whether the last argument is `alignments`.
-fn asks_alignments(last: usize) -> bool {
-    let mut word = io::buffer();
-    let n = os::arg(last, &mut word);
-    same_bytes(&word[..n], b"alignments")
+// Whether an argument is this word.
+fn argument_is(i: usize, word: &[u8]) -> bool {
+    let mut argument = io::buffer();
+    let n = os::arg(i, &mut argument);
+    same_bytes(&argument[..n], word)
 }
 
-// An argument that is left over where the others are taken two by two can only be `alignments`.
+// The pairs from the command line or from a file, and the note.
+fn run(count: usize, names: bool, alignments: bool, anyway: bool) {
+    let mut words = words_buffer();
+    let mut sizes = sizes_buffer();
+    let gathered = if names {
+        gather_file(&mut words, &mut sizes)
+    } else {
+        gather_arguments(count, &mut words, &mut sizes)
+    };
+    if let Gathered::Words(w, s) = gathered {
+        read_note(&words[..w], &sizes[..s], alignments, anyway);
+    }
+}
+
+// OUTPUT is `text` or `alignments`, MODE is `strict` or `anyway`.
 fn main() {
     let count = os::arg_count();
-    if count < 3 {
-        usage();
+    let alignments = argument_is(1, b"alignments");
+    let anyway = argument_is(2, b"anyway");
+    let names = argument_is(3, b"names") & (count == 5);
+    let pairs = argument_is(3, b"pairs") & (5 < count) & (count % 2 == 0);
+    if (alignments | argument_is(1, b"text"))
+        & (anyway | argument_is(2, b"strict"))
+        & (names | pairs)
+    {
+        run(count, names, alignments, anyway);
         return;
     }
-    let alignments = count % 2 == 0;
-    if alignments && !asks_alignments(count - 1) {
-        usage();
-        return;
-    }
-    run(count, alignments);
+    usage();
 }

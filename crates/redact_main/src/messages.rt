@@ -1,81 +1,102 @@
-// What the program says on standard error, line by line. The first word of a line says what became of the note, and the
-// script `redact` reads its status there: `blanked`, `stands nowhere`, `refused` or `redact:`, `usage:`. No byte of a
-// literal comes before it, and none that breaks a line is written.
-use crate::shown::shown;
+// What the program says on standard error, line by line. The first words of the last line say what became of the note, and
+// the script `redact` reads its status there: `written:`, `nothing written:`, `refused`, `redact:` or `usage:`. No literal
+// and no filler is ever spelt.
+use invisible::code_at;
+use invisible::first_invisible;
 use libc::STDERR_FILENO;
+use name_lines::LineFault;
 use note::Refusal;
-use validity::well_formed;
 
 pub fn say(words: &[u8]) {
     io::write_all(STDERR_FILENO, words);
 }
 
-pub fn usage() {
-    say(b"usage: redact LITERAL FILLER [LITERAL FILLER]... < NOTE             ");
-    say(b"the note, every LITERAL blanked by its FILLER\n");
-    say(b"usage: redact LITERAL FILLER [LITERAL FILLER]... alignments < NOTE  ");
-    say(b"its alignments: first byte, count, transcript start, transcript end\n");
+fn say_number(n: usize) {
+    io::print_decimal(STDERR_FILENO, n as u64);
+}
+
+fn say_times(count: u32) {
+    say_number(count as usize);
+    if count == 1 {
+        say(b" time");
+    } else {
+        say(b" times");
+    }
 }
 
 // The literals are numbered from 1 on, as they were given.
 fn say_literal(number: usize) {
     say(b"literal ");
-    io::print_decimal(STDERR_FILENO, number as u64);
+    say_number(number);
 }
 
-// A literal that was blanked is named by its number alone: what is blanked is to stand in no log.
-fn tell_blanked(count: usize, number: usize) {
+pub fn usage() {
+    say(b"usage: redact_main OUTPUT MODE pairs LITERAL FILLER [LITERAL FILLER]... < NOTE\n");
+    say(b"usage: redact_main OUTPUT MODE names FILE < NOTE\n");
+}
+
+pub fn say_blanked(number: usize, count: u32) {
     say(b"blanked ");
-    io::print_decimal(STDERR_FILENO, count as u64);
-    if count == 1 {
-        say(b" time: ");
-    } else {
-        say(b" times: ");
-    }
+    say_times(count);
+    say(b": ");
     say_literal(number);
     say(b"\n");
 }
 
-// One that stands nowhere is spelt out, since it may be misspelt.
-fn tell_nowhere(number: usize, literal: &[u8]) {
-    say(b"stands nowhere: ");
+// An invisible character in a literal that was not found is named.
+pub fn say_not_found(number: usize, literal: &[u8]) {
+    say(b"not found: ");
     say_literal(number);
     if literal.len() == 0 {
-        say(b", which is empty\n");
-        return;
+        say(b", which is empty");
     }
-    if !shown(literal) {
-        say(b", which has a character that is not seen, as a tab, a line break or an odd space\n");
-        return;
+    let first = first_invisible(literal);
+    if first < literal.len() {
+        say(b", which has the invisible character U+");
+        io::print_hex(STDERR_FILENO, code_at(literal, first) as u64, 4);
+        say(b" after ");
+        say_number(first);
+        say(b" bytes");
     }
-    say(b", ");
-    say(literal);
     say(b"\n");
 }
 
-// How often a literal was blanked.
-pub fn tell(count: usize, number: usize, literal: &[u8]) {
-    if count == 0 {
-        tell_nowhere(number, literal);
-        return;
-    }
-    tell_blanked(count, number);
+pub fn say_still_there(number: usize, count: u32) {
+    say(b"still there: ");
+    say_literal(number);
+    say(b", ");
+    say_times(count);
+    say(b"\n");
 }
 
-// The numbers and words of RULES 2.
+pub fn say_filler_found(number: usize, count: u32) {
+    say(b"filler in the note: ");
+    say_literal(number);
+    say(b", ");
+    say_times(count);
+    say(b"\n");
+}
+
+pub fn say_written(len: usize) {
+    say(b"written: ");
+    say_number(len);
+    say(b" bytes of text\n");
+}
+
+pub fn say_kept_back() {
+    say(b"nothing written: see above; --anyway writes all the same\n");
+}
+
+pub fn say_let_pass() {
+    say(b"let pass: see above\n");
+}
+
+// The numbers and words of RULES 2 that can come.
 fn say_refused(k: Refusal) {
     match k {
         Refusal::IllFormed => say(b"refused 1 torn: "),
         Refusal::TooLong => say(b"refused 2 overlong: "),
-        Refusal::LengthMismatch => say(b"refused 3 uneven: "),
-        Refusal::Misaligned => say(b"refused 4 stray: "),
-        Refusal::NotBoundary => say(b"refused 5 off place: "),
-        Refusal::BadScript => say(b"refused 6 bad script: "),
-        Refusal::Exhausted => say(b"refused 7 nothing left: "),
-        Refusal::BadMatches => say(b"refused 8 broken list: "),
-        Refusal::NoRoom => say(b"refused 9 no room: "),
-        Refusal::Missing => say(b"refused 10 nothing there: "),
-        Refusal::CountMismatch => say(b"refused 11 miscounted: "),
+        _ => say(b"refused 9 no room: "),
     }
 }
 
@@ -92,37 +113,51 @@ pub fn refuse_note(k: Refusal) {
     say(b"since a literal that is cut in two is not found\n");
 }
 
-// Why a literal cannot be blanked, and what to do: it or its filler is `IllFormed`, or there is `NoRoom`.
-pub fn refuse_literal(k: Refusal, number: usize, literal: &[u8], content: &[u8]) {
+// Why the literals cannot be blanked, and what to do: there are too many, or there is `NoRoom`.
+pub fn refuse_pairs(k: Refusal) {
     say_refused(k);
-    if !well_formed(literal) {
-        say_literal(number);
-        say(b" is not UTF-8; type it in a UTF-8 terminal\n");
+    if let Refusal::TooLong = k {
+        say(b"there are more than 65,535 literals; blank some of them first\n");
         return;
     }
-    if !well_formed(content) {
-        say(b"the filler of ");
-        say_literal(number);
-        say(b" is not UTF-8; type it in a UTF-8 terminal\n");
-        return;
-    }
-    say(b"with ");
-    say_literal(number);
-    say(b" blanked the text has more than 65,535 bytes; take a shorter filler, ");
+    say(b"with the literals blanked the text has more than 65,535 bytes; take shorter fillers, ");
     say(b"or split the note between two words that belong to no literal\n");
 }
 
-// The program takes no longer ones.
-pub fn refuse_long_literal(number: usize) {
-    say(b"redact: ");
-    say_literal(number);
+// The word at `k`, counted from 0: literals and fillers in turn.
+pub fn refuse_torn(k: usize) {
+    say(b"refused 1 torn: ");
+    if k % 2 != 0 {
+        say(b"the filler of ");
+    }
+    say_literal(k / 2 + 1);
+    say(b" is not UTF-8; type it in a UTF-8 terminal\n");
+}
+
+pub fn refuse_room() {
     say(
-        b" has more than 4,096 bytes; give all of it as several literals, cut between two words and inside none\n",
+        b"redact: the literals and fillers have more than 262,144 bytes together; blank some of them first\n",
     );
 }
 
-pub fn refuse_long_content(number: usize) {
-    say(b"redact: the filler of ");
-    say_literal(number);
-    say(b" has more than 4,096 bytes; take a shorter one\n");
+pub fn refuse_long_names() {
+    say(
+        b"redact: the names file has more than 262,143 bytes; blank the names of a part of it first\n",
+    );
+}
+
+pub fn refuse_no_names() {
+    say(b"redact: the names file is empty; it has a literal, a tab and a filler on each line\n");
+}
+
+// Why a line of the names file is not taken.
+pub fn refuse_fault(line: usize, fault: LineFault) {
+    say(b"refused line ");
+    say_number(line);
+    match fault {
+        LineFault::NotUtf8 => say(b": it is not UTF-8; save the names file as UTF-8\n"),
+        LineFault::NoTab => say(b": it has no tab between a literal and a filler\n"),
+        LineFault::TwoTabs => say(b": it has more than one tab\n"),
+        LineFault::NoLiteral => say(b": it has no literal before the tab\n"),
+    }
 }

@@ -24,7 +24,7 @@ use Rattle.replace.specs.Laying.{PlaceRoom, PlaceLaid, ColumnReady, Colu
 use Rattle.replace.proofs.Sizes.{size-matched, size-unmatched, length-piece, length-laid}
 use Rattle.replace.proofs.Laid.{piece-matched, piece-unmatched}
 
--- one place: its elements where it is unmatched, and what stands in its place where it is matched
+-- one place: its elements where it is unmatched, and what is in its place where it is matched
 module _ {column : List ℕ} {contentLen : ℕ} {p : Place} {until : ℕ} {d : List ℕ} {at : ℕ} (r : PlaceRoom column contentLen p until d at) where
   pub place-source : p .matched ≡ false → Source column (p .start .0) (p .end .0) d at until
   place-source u =
@@ -140,7 +140,7 @@ carried-wide k xs e = length-replicate k (beforeEnd xs e)
 pub padded-wide : (padded : List ℕ) (contentLen : ℕ) → contentLen ≤ length padded → (e : ℕ) → length (part padded 0 contentLen) ≡ contentLen
 padded-wide padded contentLen h e = omega (arith, length-part padded 0 contentLen h)
 
--- a content that stands in front of its padding, or alone
+-- a content that is in front of its padding, or alone
 pub content-padded : (content zeros : List ℕ) {padded : List ℕ} → padded ≡ splice zeros 0 content → part padded 0 (length content) ≡ content
 content-padded content zeros is =
     let all : length content - 0 ≡ length content = omega arith in

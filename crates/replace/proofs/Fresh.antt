@@ -1,5 +1,5 @@
 -- The blanking claim for fresh texts: where two texts agree in bytes, their starting notes agree in alignments. Each place ends on a boundary, so the
--- character of a byte outside stands outside up to that byte, with the same bytes in both texts.
+-- character of a byte outside is outside up to that byte, with the same bytes in both texts.
 use Prim.Native.Nat.{ℕ, zero, suc, _+_, _-_, _≤_, _<_}
 use mathlib.Core.Path.{_≡_, _∙_, ap, sym}
 use mathlib.Core.Bool.{true, false}

@@ -1,4 +1,4 @@
--- Laws of `laid`: two columns are laid alike exactly when they agree outside the matched places and on what stands in theirs.
+-- Laws of `laid`: two columns are laid alike exactly when they agree outside the matched places and on what is in theirs.
 use Prim.Native.Nat.{ℕ, _-_, _≤_, _<_}
 use mathlib.Core.Path.{_≡_, _∙_, ap, refl, sym}
 use mathlib.Core.Bool.{true, false}
@@ -45,7 +45,7 @@ place-from text at (p ∷ ps) c q m =
     (λ more. omega (arith, span .onward, place-from text (p .end .0) ps (covers-rest text at p ps c) q more))
     (List·Memᴰ·cases-cons m)
 
--- two columns agree from `at` on: outside, and on what stands in the place of the matched ones
+-- two columns agree from `at` on: outside, and on what is in the place of the matched ones
 pub record SameColumn (f g : ℕ → List ℕ) (at : ℕ) (ps : List Place) (xs ys : List ℕ) : Type 0 where
   pub outside : (p : ℕ) → at ≤ p → p < length xs → Outside ps p → getD xs p 0 ≡ getD ys p 0
   pub filled : (q : Place) → List·Memᴰ q ps → q .matched ≡ true → f (q .end .0) ≡ g (q .end .0)

@@ -19,7 +19,7 @@ pub record PlaceRoom (column : List ℕ) (contentLen : ℕ) (p : Place) (until :
   pub room : at + placeSize contentLen p ≤ length d
   pub until-room : until ≤ length d
 
--- what it gives stands in d from `at` on
+-- what it gives is in d from `at` on
 pub record PlaceLaid (fill : ℕ → List ℕ) (column : List ℕ) (contentLen : ℕ) (p : Place) (until : ℕ) (d₀ : List ℕ)
     (at r : ℕ) (d : List ℕ) : Type 0 where
   pub reached : r ≡ at + placeSize contentLen p
@@ -33,7 +33,7 @@ pub record ColumnReady (column list : List ℕ) (contentLen until : ℕ) (d : Li
   pub room : placesSize contentLen (placesOf list) ≤ length d
   pub below : until ≤ placesSize contentLen (placesOf list)
 
--- what the places give of a column stands in front of d
+-- what the places give of a column is in front of d
 pub record ColumnLaid (fill : ℕ → List ℕ) (column list d₀ : List ℕ) (r : ℕ) (d : List ℕ) : Type 0 where
   pub reached : r ≡ length (laid fill (placesOf list) column)
   pub holds : d ≡ overlay (laid fill (placesOf list) column) d₀
@@ -47,7 +47,7 @@ pub record Ready (text starts ends list content out starts₀ ends₀ : List ℕ
   pub starts-room : placesSize (length content) (placesOf list) ≤ length starts₀
   pub ends-room : placesSize (length content) (placesOf list) ≤ length ends₀
 
--- the whole result stands in front
+-- the whole result is in front
 pub record AllLaid (text starts ends list content out₀ starts₀ ends₀ : List ℕ) (r : ℕ)
     (out starts₁ ends₁ : List ℕ) : Type 0 where
   pub reached : r ≡ length (laid (λ end. content) (placesOf list) text)

@@ -1,4 +1,4 @@
--- A call that was lent what its case's fields hold, by its number; buffers that hold what their fields do.
+-- A call that was passed what its case's fields hold, by its number; buffers that hold what their fields do.
 use Prim.Native.Nat.{ℕ, _+_}
 use mathlib.Core.Path.{_≡_, _∙_, ap, refl, sym}
 use mathlib.Core.Bool.{Bool}

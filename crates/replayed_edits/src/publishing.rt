@@ -70,6 +70,7 @@ fn published(
     is_published(case, at + 3, answer, out, out_starts, out_ends)
 }
 
+// A call that publishes a note, by its number. An inner function: `at` is below 80, so that adding to it does not wrap.
 pub fn on_publishing(call: u8, case: &[u8], at: usize, starts: &[Offset], ends: &[Offset]) -> bool
     requires { ⌜ at < 80 ⌝ }
     ensures { λ r. ⌜ Published call (now (case .entry)) at (now (starts .entry)) (now (ends .entry))

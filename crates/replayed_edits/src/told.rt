@@ -12,6 +12,7 @@ ghost use Prim.Native.Nat.{_<_};
 ghost use Rattle.replayed_edits.specs.Replaying.{clearStored, editStored, publishedStored};
 
 // A text and its columns.
+// An inner function: `index` is below 100, so that adding to it does not wrap.
 pub fn are_published(
     case: &[u8],
     index: usize,
@@ -29,6 +30,7 @@ pub fn are_published(
 }
 
 // The refusal, a size, and a text with its columns.
+// An inner function: `index` is below 90, so that adding to it does not wrap.
 pub fn is_published(
     case: &[u8],
     index: usize,
@@ -47,6 +49,7 @@ pub fn is_published(
 }
 
 // The refusal, how long a text was and is, and it with its columns.
+// An inner function: `index` is below 90, so that adding to it does not wrap.
 pub fn is_cleared(
     case: &[u8],
     index: usize,

@@ -1,4 +1,4 @@
--- A call that was lent what its case's fields hold, and buffers that hold their fields' columns.
+-- A call that was passed what its case's fields hold, and buffers that hold their fields' columns.
 use Prim.Native.Nat.{ℕ}
 use mathlib.Core.Path.{_≡_, _∙_, ap}
 use mathlib.Core.Bool.{Bool, _&&_}
@@ -86,7 +86,7 @@ module _ {call : ℕ} {case starts ends from to n₀ s₀ e₀ : List ℕ} {a : 
   pub pairs-replayed : {index : ℕ} {r : Bool} → PairsTold call case starts ends from to n₀ s₀ e₀ a n s e → r ≡ pairsStored case index a n s e → PairsReplayed call case index starts ends from to n₀ s₀ e₀ r
   pairs-replayed met told = record { answer = a; numbers = n; out-starts = s; out-ends = e; met = met; says = told }
 
--- lent buffers by what they hold
+-- passed buffers by what they hold
 module _ {call : ℕ} {case : List ℕ} {index : ℕ} {starts ends : List ℕ} {r : Bool} where
   pub answers-lent : {from to n₀ s₀ e₀ n s e : List ℕ} → n₀ ≡ n → s₀ ≡ s → e₀ ≡ e → PairsReplayed call case index starts ends from to n₀ s₀ e₀ r → PairsReplayed call case index starts ends from to n s e r
   answers-lent {from} {to} o p q w = coe 0 1 (i. PairsReplayed call case index starts ends from to (o i) (p i) (q i) r) w

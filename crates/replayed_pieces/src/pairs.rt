@@ -1,4 +1,4 @@
-// The calls on a list of pairs, by their numbers: its starts and ends, the lent numbers, starts and ends, from fields
+// The calls on a list of pairs, by their numbers: its starts and ends, the passed numbers, starts and ends, from fields
 // `at` on; the refusal, the three buffers.
 use crate::told::are_pairs;
 use buffers::Offset;
@@ -81,7 +81,7 @@ fn listed(
     are_pairs(case, index, refusal, numbers, starts, ends)
 }
 
-// The lent numbers, starts and ends, beside the pairs.
+// The passed numbers, starts and ends, beside the pairs.
 fn listed_beside(
     call: u8,
     case: &[u8],
@@ -118,6 +118,7 @@ fn listed_beside(
 }
 
 // A call that takes no columns leaves those of the note.
+// An inner function: `at` is below 90, so that adding to it does not wrap.
 pub fn on_pairs(call: u8, case: &[u8], at: usize, starts: &[Offset], ends: &[Offset]) -> bool
     requires { ⌜ at < 90 ⌝ }
     ensures { λ r. ⌜ PairsReplayed call (now (case .entry)) (at + 5) (now (starts .entry)) (now (ends .entry))

@@ -53,7 +53,7 @@ fn cut(
         & are_offsets(case, 22, out_ends)
 }
 
-// The lent alignments, beside the columns of the pieces.
+// The passed alignments, beside the columns of the pieces.
 fn cut_beside(
     case: &[u8],
     starts: &[Offset],
@@ -85,7 +85,7 @@ fn cut_beside(
     )
 }
 
-// The lent shifts and lengths, beside the pieces' starts and ends.
+// The passed shifts and lengths, beside the pieces' starts and ends.
 fn cut_spans(
     case: &[u8],
     starts: &[Offset],
@@ -113,7 +113,7 @@ fn cut_spans(
     )
 }
 
-// 1 where empty pieces are dropped, the six lent columns; the refusal, how many pieces, how many alignments, the
+// 1 where empty pieces are dropped, the six passed columns; the refusal, how many pieces, how many alignments, the
 // columns.
 pub fn split(case: &[u8], starts: &[Offset], ends: &[Offset]) -> bool
     ensures { λ r. ⌜ SplitReplayed (now (case .entry)) (now (starts .entry)) (now (ends .entry))
@@ -160,7 +160,7 @@ fn listed(
     are_splits(case, 11, answer, out_starts, out_ends)
 }
 
-// 1 for the transcript, 1 for characters, the lent starts and ends; the refusal, how many there are, the two columns.
+// 1 for the transcript, 1 for characters, the passed starts and ends; the refusal, how many there are, the two columns.
 pub fn get_splits(case: &[u8], starts: &[Offset], ends: &[Offset]) -> bool
     ensures { λ r. ⌜ SplitsReplayed (now (case .entry)) (now (starts .entry)) (now (ends .entry))
         (numbersOf (fieldOf 9 (now (case .entry)))) (numbersOf (fieldOf 10 (now (case .entry)))) r ⌝ }

@@ -19,6 +19,7 @@ ghost use Rattle.stored_answers.specs.Framing.{fieldOf, isNumber};
 ghost use Rattle.stored_answers.specs.Differences.{offsetColumn};
 
 // The refusal, start, end.
+// An inner function: `index` is below 100, so that adding to it does not wrap.
 pub fn is_range(case: &[u8], index: usize, answer: Offsets) -> bool
     requires { ⌜ index < 100 ⌝ }
     ensures { λ r. ⌜ r ≡ (isNumber (fieldOf index (now (case .entry))) (answer .refusal)
@@ -31,6 +32,7 @@ pub fn is_range(case: &[u8], index: usize, answer: Offsets) -> bool
 }
 
 // The refusal, the list's size, the list.
+// An inner function: `index` is below 100, so that adding to it does not wrap.
 pub fn is_list(case: &[u8], index: usize, answer: Written, list: &[u8]) -> bool
     requires { ⌜ index < 100 ⌝ }
     ensures { λ r. ⌜ r ≡ (isNumber (fieldOf index (now (case .entry))) (answer .refusal)
@@ -43,6 +45,7 @@ pub fn is_list(case: &[u8], index: usize, answer: Written, list: &[u8]) -> bool
 }
 
 // The refusal, two columns.
+// An inner function: `index` is below 100, so that adding to it does not wrap.
 pub fn are_columns(
     case: &[u8],
     index: usize,
@@ -61,6 +64,7 @@ pub fn are_columns(
 }
 
 // The refusal, and a number, start and end for each pair of a list.
+// An inner function: `index` is below 100, so that adding to it does not wrap.
 pub fn are_pairs(
     case: &[u8],
     index: usize,
@@ -80,6 +84,7 @@ pub fn are_pairs(
 }
 
 // The refusal, the two ranges of a slice, its shift.
+// An inner function: `index` is below 100, so that adding to it does not wrap.
 pub fn is_slice(case: &[u8], index: usize, answer: Slice) -> bool
     requires { ⌜ index < 100 ⌝ }
     ensures { λ r. ⌜ r ≡ sliceStored (now (case .entry)) index answer ⌝ }
@@ -93,6 +98,7 @@ pub fn is_slice(case: &[u8], index: usize, answer: Slice) -> bool
 }
 
 // The refusal, how many pieces and alignments there are, the four columns of pieces.
+// An inner function: `index` is below 100, so that adding to it does not wrap.
 pub fn are_pieces(
     case: &[u8],
     index: usize,
@@ -116,6 +122,7 @@ pub fn are_pieces(
 }
 
 // The refusal, how many there are, their starts and ends.
+// An inner function: `index` is below 100, so that adding to it does not wrap.
 pub fn are_splits(case: &[u8], index: usize, answer: Written, starts: &[u32], ends: &[u32]) -> bool
     requires { ⌜ index < 100 ⌝ }
     ensures { λ r. ⌜ r ≡ splitsStored (now (case .entry)) index answer

@@ -144,7 +144,7 @@ module _ (l : List ℕ) (i : ℕ) where
     unfolding removalAt
     removal-some some = rw (ne-eqb (removedAt l i) 0 (λ z. some (count ∙ z)), count)
 
--- what an entry tells: the command's width, and the same command at the front of what stands from there on
+-- what an entry tells: the command's width, and the same command at the front of what is from there on
 part-drop : (l : List ℕ) (i a b : ℕ) → part (drop i l) a b ≡ part l (i + a) (i + b)
 part-drop l i a b =
     let wide : i + b - (i + a) ≡ b - a = omega arith in
@@ -171,7 +171,7 @@ before l cs = ofCommand [] (λ c next. c ∷ cs) (commandAt l 0)
 abbrev too : List ℕ → Bool → Bool
 too l rest = ofCommand false (λ c next. rest) (commandAt l 0)
 
--- the width of a command that stands at i, and that command at the front of what stands from i on
+-- the width of a command that is at i, and that command at the front of what is from i on
 record Told (l : List ℕ) (i : ℕ) (c : Command) (next : ℕ) : Type 0 where
   width : ℕ
   wide : 5 ≤ width

@@ -1,5 +1,5 @@
--- RULES 7: what stands at a byte of an edit script. A command is its number (1 replace, 2 add, 3 replace and remove)
--- and a code point in four little-endian bytes; 3 has in two more how many characters it removes behind the one it
+-- RULES 7: what is at a byte of an edit script. A command is its number (1 replace, 2 add, 3 replace and remove)
+-- and a code point in four little-endian bytes; 3 has in two more how many characters it removes after the one it
 -- replaces.
 use Prim.Native.Nat.{ℕ, _+_}
 use mathlib.Core.Bool.{Bool, true, false, cond, _&&_, _||_, not}

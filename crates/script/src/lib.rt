@@ -9,14 +9,14 @@ ghost use lib.ListN.{length};
 ghost use Rattle.script.specs.Scripts.{commandAt, removalAt, whole, commandSize};
 
 // A character of the new text, and what it does to the old one (Rust: `(char, isize)`): it is added, the Rust's 1;
-// or it replaces a character and removes so many behind it, the Rust's 0 and -1, -2 and so on.
+// or it replaces a character and removes so many after it, the Rust's 0 and -1, -2 and so on.
 pub struct Command {
     pub character: u32,
     pub added: bool,
     pub removed: u32,
 }
 
-// What stands at a byte of a script: a command, and where the next one begins; or none.
+// What is at a byte of a script: a command, and where the next one begins; or none.
 pub enum Entry {
     At(Command, usize),
     Broken,
@@ -57,7 +57,7 @@ fn removal_at(script: &[u8], i: usize, character: u32) -> Entry
     )
 }
 
-// What stands at byte `i` of the script.
+// What is at byte `i` of the script.
 pub fn entry_at(script: &[u8], i: usize) -> Entry
     ensures { λ r. ⌜ r ≡ commandAt (now (script .entry)) i ⌝ }
 {

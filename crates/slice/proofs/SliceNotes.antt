@@ -1,4 +1,4 @@
--- The slice as a note: it is sound, it stands in its note where its numbers say, and a slice of it is one of the note.
+-- The slice as a note: it is sound, it is in its note where its numbers say, and a slice of it is one of the note.
 use Prim.Native.Nat.{ℕ, suc, _+_, _-_, _≤_, _<_}
 use mathlib.Core.Path.{_≡_, _∙_, ap, refl, sym}
 use mathlib.Core.Bool.{true}

@@ -52,7 +52,7 @@ pub record Stands (m n : Note) (a c : ℕ) : Type 0 where
   pub end : (i : ℕ) → i < length (m .normalized) → endAt m i + a ≡ endAt n (c + i)
   pub shift : m .original-shift ≡ n .original-shift + a
 
--- CLAIM: where an accepted slice stands in its note. Its alignments and its shift lead to the same bytes of the
+-- CLAIM: where an accepted slice is in its note. Its alignments and its shift lead to the same bytes of the
 -- transcript as the note's.
 abbrev pub SliceStands : Type 0
 SliceStands =

@@ -43,7 +43,7 @@ normalizedStart s = s .«normalized_start» .0
 abbrev pub normalizedEnd : NoteSlice → ℕ
 normalizedEnd s = s .«normalized_end» .0
 
--- RULES 6.2: a range in each of the two texts, and the shift, which grows by what stands before it in the transcript
+-- RULES 6.2: a range in each of the two texts, and the shift, which grows by what is before it in the transcript
 unfoldable pub sliceOf : Converted → Converted → ℕ → NoteSlice
 sliceOf inOriginal inNormalized shift =
     record {
@@ -96,7 +96,7 @@ sliceFaults most n range room =
     (also (meets Missing (sliceMissing n range) none)
     (roomFaults (sliceSize (sliced n range)) room)))
 
--- THE CALL: limit, note and range, the lent columns before, the answer, the lent columns after
+-- THE CALL: limit, note and range, the passed columns before, the answer, the passed columns after
 pub record Slicing (most : ℕ) (n : Note) (range : Range) (starts₀ ends₀ : List ℕ) (r : Sliced)
     (starts ends : List ℕ) : Type 0 where
   pub says : Verdict

@@ -16,7 +16,7 @@ use Rattle.slice.specs.Slicing.{sliced, sliceFaults}
 pub record SliceJudged (most : ℕ) (n : Note) (range : Range) (room : ℕ) (r : Sliced) : Type 0 where
   pub answer : r ≡ unlessRefused Refused (verdict (sliceFaults most n range room)) (Cut (sliced n range))
 
--- a shift that can grow by what stands before a range
+-- a shift that can grow by what is before a range
 pub record Shiftable (most : ℕ) (inOriginal : Converted) (shift : ℕ) : Type 0 where
   pub near : startIn inOriginal ≤ most
   pub low : shift ≤ most

@@ -76,7 +76,7 @@ fn slice_of(in_original: Converted, in_normalized: Converted, shift: u32, size: 
     })
 }
 
-// What `slice` says of a note and a range beside the room that is lent.
+// What `slice` says of a note and a range beside the room that is passed.
 fn check_slice(
     original: &[u8],
     normalized: &[u8],

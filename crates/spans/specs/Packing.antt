@@ -36,7 +36,7 @@ pub record RunRoom (most : ℕ) (met : Bool) (run : Place) (spans : List ℕ) (a
   pub inside : run .end .0 ≤ most
   pub room : at + length (pieceIf met run) ≤ length spans
 
--- what a run gives stands in the column from `at` on
+-- what a run gives is in the column from `at` on
 pub record RunLaid (met : Bool) (run : Place) (spans₀ : List ℕ) (at r : ℕ) (spans : List ℕ) : Type 0 where
   pub reach : r ≡ at + length (pieceIf met run)
   pub spans-are : spans ≡ splice spans₀ at (packedOf (pieceIf met run))

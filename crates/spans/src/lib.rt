@@ -37,7 +37,7 @@ pub fn span_end(span: u32) -> u32
     span / BASE
 }
 
-// A piece's number at `at`, where there is one; where the next piece stands.
+// A piece's number at `at`, where there is one; where the next piece is.
 fn write_run(met: bool, run: Place, spans: &mut [u32], at: usize) -> usize
     requires { ⌜ RunRoom limit met run (now spans) at ⌝ }
     ensures { λ r. ⌜ RunLaid met run (now (spans .entry)) at r (now (spans .exit)) ⌝ }

@@ -1,4 +1,4 @@
--- Laws of `endToEnd`: what pieces give, one behind the other, and a column that is being written piece by piece.
+-- Laws of `endToEnd`: what pieces give, one after the other, and a column that is being written piece by piece.
 use Prim.Native.Nat.{ℕ, suc, _+_, _-_, _≤_, _<_}
 use mathlib.Core.Path.{_≡_, _∙_, ap, refl, sym}
 use mathlib.Core.List.{List, [], _∷_, _++_}
@@ -35,7 +35,7 @@ module _ (starts : List ℕ) (a b : ℕ) where
   unfolding toEnd
   end-read e = rw (ne-eqb a b e)
 
--- the next piece, and those behind it
+-- the next piece, and those after it
 pub joined-step : (f : ℕ → ℕ → List ℕ) (from to : List ℕ) (k : ℕ) → length from ≡ length to → k < length from → endToEnd f (drop k from) (drop k to) ≡ f (getD from k 0) (getD to k 0) ++ endToEnd f (drop (k + 1) from) (drop (k + 1) to)
 unfolding endToEnd
 joined-step f from to k e h = rw (drop-cons from k 0 h, drop-cons to k 0 (omega arith), add-one k)
@@ -44,7 +44,7 @@ pub joined-none : (f : ℕ → ℕ → List ℕ) (from to : List ℕ) (k : ℕ) 
 unfolding endToEnd
 joined-none f from to k h = rw (drop-of-length-le from h)
 
--- what the first k pieces give stands in front of a column, up to `at`
+-- what the first k pieces give is in front of a column, up to `at`
 pub record Going (f : ℕ → ℕ → List ℕ) (from to out₀ : List ℕ) (at k : ℕ) (out : List ℕ) : Type 0 where
   pub most : k ≤ length from
   pub laid : Reaching (endToEnd f from to) (endToEnd f (drop k from) (drop k to)) out₀ at out

@@ -45,7 +45,7 @@ use Rattle.split.specs.Writing.{fromStart, RangeInside, PieceSpans}
 use Rattle.split.proofs.Cuts.{in-original, sliced-as, spans-first, spans-rest}
 use Rattle.split.proofs.Judged.{cut-told, count-told, cut-sound, cut-covered, cut-spans}
 
--- each piece stands on boundaries of the text
+-- each piece is on boundaries of the text
 abbrev Standing : List ℕ → List Place → Type 0
 Standing text ps = (k : ℕ) → k < length ps → (boundary text (getD (startsOf ps) k 0) ≡ true) × (boundary text (getD (endsOf ps) k 0) ≡ true)
 
@@ -67,7 +67,7 @@ pieces-standing : (text : List ℕ) (b : SplitDelimiterBehavior) (e : EmptyPiece
 unfolding pieces
 pieces-standing text b e ps c z = remaining-standing text 0 e (splits b ps) (splits-cover text 0 b ps c) z
 
--- a cleaned range that stands on boundaries is sliced
+-- a cleaned range that is on boundaries is sliced
 module _ (most : ℕ) (n : Note) (noted : verdict (noteFaults most n) ≡ Accepted) (sound : Sound n) (a b : ℕ) (i : RangeInside (length (n .normalized)) a b) (low : boundary (n .normalized) a ≡ true) (high : boundary (n .normalized) b ≡ true) where
   valid-range : Accepted ≡ verdict (meets NotBoundary (not (validRange (n .original) (n .normalized) (inNormalized a b))) none)
   unfolding verdict validRange
@@ -118,7 +118,7 @@ module _ (n : Note) (sound : Sound n) where
       rw (sliced-as n sound (p .start .0) (p .end .0) i)
       (length-lowered (fromStart (n .starts) (p .start .0) (p .end .0)) (part column (p .start .0) (p .end .0)) ∙ length-part column (p .start .0) (p .end .0) (omega (arith, i .most)))
 
-  -- its stretch of the column, whatever stands behind all of them
+  -- its stretch of the column, whatever is after all of them
   stretch-at : (column : List ℕ) → length column ≡ length (n .normalized) → (ps : List Place) → PieceSpans (length (n .normalized)) (startsOf ps) (endsOf ps) → (d : List ℕ) (k : ℕ) → k < length ps
       → part (flatMap (λ p. slicedColumn (pieceOf n p) column) ps ++ d) (bytesBefore (startsOf ps) (endsOf ps) k) (bytesBefore (startsOf ps) (endsOf ps) (suc k)) ≡ slicedColumn (sliceAt ps k) column
   unfolding bytesBefore flatMap pieceOf

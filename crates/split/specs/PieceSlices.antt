@@ -27,7 +27,7 @@ abbrev pub stretchOf : PieceColumns → ℕ → List ℕ → List ℕ
 stretchOf c k column =
     part column (bytesBefore (c .starts) (c .ends) k) (bytesBefore (c .starts) (c .ends) (suc k))
 
--- the slice s, with these alignments in front of the columns that were lent for it, is the piece at k
+-- the slice s, with these alignments in front of the columns that were passed for it, is the piece at k
 pub record IsPiece (c : PieceColumns) (k : ℕ) (starts₀ ends₀ : List ℕ) (s : NoteSlice)
     (starts ends : List ℕ) : Type 0 where
   pub start-is : normalizedStart s ≡ getD (c .starts) k 0

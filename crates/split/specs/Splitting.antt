@@ -41,7 +41,7 @@ pub record PieceColumns : Type 0 where
   pub alignment-starts : List ℕ
   pub alignment-ends : List ℕ
 
--- six lent columns, by their numbers
+-- six passed columns, by their numbers
 abbrev pub columns : List ℕ → List ℕ → List ℕ → List ℕ → List ℕ → List ℕ → PieceColumns
 columns starts ends shifts lengths alignmentStarts alignmentEnds =
     record {
@@ -82,7 +82,7 @@ pieceRoom c = min (min (length (c .starts)) (length (c .ends))) (min (length (c 
 abbrev pub alignmentRoom : PieceColumns → ℕ
 alignmentRoom c = min (length (c .alignment-starts)) (length (c .alignment-ends))
 
--- THE CALL: limit, note, list, behaviour, what becomes of empty pieces, the lent columns before, the answer, the
+-- THE CALL: limit, note, list, behaviour, what becomes of empty pieces, the passed columns before, the answer, the
 -- columns after
 pub record Splitting (most : ℕ) (n : Note) (list : List ℕ) (behavior : SplitDelimiterBehavior) (empty : EmptyPieces)
     (c₀ : PieceColumns) (r : Pieces) (c : PieceColumns) : Type 0 where

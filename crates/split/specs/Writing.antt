@@ -32,7 +32,7 @@ lengthOf starts ends a b = (toEnd ends a b - fromStart starts a b) ∷ []
 unfoldable pub loweredColumn : List ℕ → List ℕ → ℕ → ℕ → List ℕ
 loweredColumn starts column a b = lowered (fromStart starts a b) (part column a b)
 
--- what all pieces give, one behind the other
+-- what all pieces give, one after the other
 unfoldable pub endToEnd : (ℕ → ℕ → List ℕ) → List ℕ → List ℕ → List ℕ
 endToEnd f [] to = []
 endToEnd f (a ∷ from) [] = []
@@ -68,7 +68,7 @@ pub record PieceColumnRoom (starts column from to : List ℕ) (until : ℕ) (out
   pub below : until ≤ length (endToEnd (loweredColumn starts column) from to)
   pub room : length (endToEnd (loweredColumn starts column) from to) ≤ length out
 
--- room for all that pieces give beside their starts and ends, and that stands there
+-- room for all that pieces give beside their starts and ends, and that is there
 pub record ColumnsRoom (most : ℕ) (starts ends from to : List ℕ) (shift until : ℕ)
     (shifts lengths outStarts outEnds : List ℕ) : Type 0 where
   pub shifts-room : ShiftsRoom most starts from to shift shifts

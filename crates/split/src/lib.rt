@@ -101,7 +101,7 @@ fn has_block(from: usize, to: usize, size: usize, at: usize, until: usize) -> bo
 }
 
 // The alignments of the piece from..to, each less `base`, stand in the two columns from `at` on. Those of a short piece
-// are laid as the front of a block, so that no loop's number of turns is its length; what the block has behind them
+// are laid as the front of a block, so that no loop's number of turns is its length; what the block has after them
 // stays below `until`.
 fn lower_piece(
     starts: &[Offset],
@@ -166,7 +166,7 @@ fn write_columns(
     }
 }
 
-// What `split` says of a note and a list beside the room that is lent for pieces and for their alignments.
+// What `split` says of a note and a list beside the room that is passed for pieces and for their alignments.
 fn check_split(
     original: &[u8],
     normalized: &[u8],

@@ -55,7 +55,7 @@ splits-original most n list behavior room e =
     (splits-cover (n .normalized) 0 behavior (placesOf list) (accepted-covers most n list behavior room e))) in
     (original-starts n sound 0 0 (splitPieces list behavior) order, original-ends n sound 0 0 (splitPieces list behavior) order)
 
--- IN THE CLEANED TEXT: where nothing is lost, each piece stands where the one before it ends
+-- IN THE CLEANED TEXT: where nothing is lost, each piece is where the one before it ends
 kept : List Place → Bool
 kept [] = true
 kept (p ∷ ps) = not (p .matched) && kept ps

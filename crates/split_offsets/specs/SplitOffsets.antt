@@ -63,7 +63,7 @@ splitsFaults most n list behavior room =
     (also (listFaults (n .normalized) list)
     (roomFaults (length (splitPieces list behavior)) room))
 
--- THE CALL: limit, note, list, behaviour, what is asked, the lent columns before, the answer, the lent columns after
+-- THE CALL: limit, note, list, behaviour, what is asked, the passed columns before, the answer, the passed columns after
 pub record GetSplits (most : ℕ) (n : Note) (list : List ℕ) (behavior : SplitDelimiterBehavior)
     (side : OffsetReferential) (unit : OffsetType) (starts₀ ends₀ : List ℕ) (r : Splits)
     (starts ends : List ℕ) : Type 0 where

@@ -63,7 +63,7 @@ module _ {width : ℕ} {s d₀ : List ℕ} {n : ℕ} {d : List ℕ} {last i : �
 pub filled : (width room : ℕ) (field : List ℕ) {d₀ d : List ℕ} {end : ℕ} → Laid (numberColumn width (length d₀) field) d₀ 0 end d → length d₀ ≡ room → take end d ≡ numberColumn width room field
 filled width room field l long = take-laid l ∙ ap (λ k. numberColumn width k field) long
 
--- a lent buffer beside the column of a field
+-- a passed buffer beside the column of a field
 pub same-column : (width room : ℕ) (column field : List ℕ) {d₀ d : List ℕ} {end : ℕ} {r : Bool} → r ≡ same column (take end d) → Laid (numberColumn width (length d₀) field) d₀ 0 end d → length d₀ ≡ room → r ≡ same column (numberColumn width room field)
 same-column width room column field is l long = is ∙ ap (same column) (filled width room field l long)
 

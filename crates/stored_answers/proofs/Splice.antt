@@ -12,7 +12,7 @@ use Rattle.buffers.specs.Splice.{splice, Laid}
 use Rattle.buffers.proofs.Splice.{splice-nil, length-splice, splice-splice}
 use Rattle.io.specs.Counts.{Counts}
 
--- of `whole`, all but `left` stands in d up to `end`
+-- of `whole`, all but `left` is in d up to `end`
 pub record LayingFrom (whole d₀ : List ℕ) (at : ℕ) (left d : List ℕ) (end : ℕ) : Type 0 where
   pub so-far : splice d end left ≡ splice d₀ at whole
   pub ends : end + length left ≡ at + length whole
@@ -49,7 +49,7 @@ all-laid {d = d} {end = end} l is =
 pub counted : (end : ℕ) (d : List ℕ) → end ≤ length d → Counts end d
 counted end d h = (h, sym (length-take-le end d h))
 
--- what stands up to the end is the run
+-- what is up to the end is the run
 pub take-laid : {run d₀ d : List ℕ} {end : ℕ} → Laid run d₀ 0 end d → take end d ≡ run
 unfolding splice
 take-laid {run} {d₀} {d} {end} l =

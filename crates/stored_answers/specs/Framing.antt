@@ -1,4 +1,4 @@
--- Fields one behind the other: a field is its length, 4 bytes little-endian, then its bytes. Total: what is cut short
+-- Fields one after the other: a field is its length, 4 bytes little-endian, then its bytes. Total: what is cut short
 -- is as long as it is.
 use Prim.Native.Nat.{ℕ, zero, suc}
 use mathlib.Core.Bool.{Bool, cond, _&&_}

@@ -1,4 +1,4 @@
-// Buffers that are lent to a call, filled from a field, and compared with one afterwards. A column's field has the
+// Buffers that are passed to a call, filled from a field, and compared with one afterwards. A column's field has the
 // differences of its elements, 4 bytes each.
 use crate::fields::field;
 use crate::fields::number;
@@ -17,7 +17,7 @@ ghost use Rattle.note.specs.Notes.{limit};
 ghost use Rattle.stored_answers.specs.Framing.{fieldOf};
 ghost use Rattle.stored_answers.specs.Differences.{numberColumn, offsetColumn, numbersOf};
 
-// The most elements that a call is lent in one buffer.
+// The most elements that a call is passed in one buffer.
 pub const ROOM: usize = LIMIT + 1;
 
 // The most numbers of a list of pairs.

@@ -1,5 +1,5 @@
-// Fields one behind the other: a field is its length in 4 bytes, little-endian, then its bytes. A file is fields (its
-// cases, packed), and so are a packed case (its parts) and an unpacked one (what the call is lent, then what it
+// Fields one after the other: a field is its length in 4 bytes, little-endian, then its bytes. A file is fields (its
+// cases, packed), and so are a packed case (its parts) and an unpacked one (what the call is passed, then what it
 // answers). Nothing is asked of the bytes.
 use buffers::equality::same_bytes;
 use numbers::little_endian::get_u32_le;
@@ -23,6 +23,7 @@ pub fn number(list: &[u8], at: usize) -> u32
 }
 
 // The byte `n` bytes after `at`, or the end.
+// An inner function: `at` is no further than the list's end.
 pub fn after(list: &[u8], at: usize, n: usize) -> usize
     requires { ⌜ at ≤ length (now list) ⌝ }
     ensures { λ r. ⌜ r ≡ min (at + n) (length (now (list .entry))) ⌝ }

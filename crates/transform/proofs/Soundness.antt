@@ -33,7 +33,7 @@ part-all : (xs : List ℕ) (b : ℕ) {m : ℕ} → length xs ≡ m → part xs b
 part-all xs b e = rw (sym e) (part-end xs b)
 
 module _ (n : Note) (sound : Sound n) where
-  -- a stretch stands between any two places further out
+  -- a stretch is between any two places further out
   widened : {lo hi : ℕ} {t xs ys : List ℕ} (lo₁ hi₁ : ℕ) → Stretch n lo hi t xs ys → lo₁ ≤ lo → lo ≤ length (n .normalized) → hi ≤ hi₁ → hi₁ ≤ length (n .normalized) → Stretch n lo₁ hi₁ t xs ys
   widened {lo} {hi} lo₁ hi₁ s below most above top =
       let low = before-le n sound lo₁ lo below most in
@@ -57,7 +57,7 @@ module _ (n : Note) (sound : Sound n) where
         next = s .next;
       }
 
-  -- what one command gives stands between its position and the next one's
+  -- what one command gives is between its position and the next one's
   module _ {b p : ℕ} (c : Command) (at : Standing (n .normalized) b p) (f : starves b p c ≡ false) where
     before-here : (xs : List ℕ) → beforeEnd xs (suc p) ≡ getD xs p 0
     before-here xs = let last : suc p - 1 ≡ p = omega arith in rw last at (before-some xs (suc p) (omega arith))
@@ -105,7 +105,7 @@ module _ (n : Note) (sound : Sound n) where
       let high = before-le n sound q b (on .0 .most) inside in
       joined n p q b _ _ _ _ _ _ (piece-stretch c at (both .0)) (stretches cs (on .0) (both .1)) (low .0) (low .1) (high .0) (high .1)
 
-  -- what stands before the range, what the commands give, what stands behind
+  -- what is before the range, what the commands give, what is after
   whole-stretch : (e : Edit) → charRange (n .normalized) (e .from) (e .to) ≡ true → starved (n .normalized) (e .to) (firstPosition (n .normalized) e) (e .commands) ≡ false
       → Stretch n 0 (length (n .normalized)) (edited characters (n .normalized) e (n .normalized)) (edited (carriedValues (n .starts)) (n .normalized) e (n .starts)) (edited (carriedValues (n .ends)) (n .normalized) e (n .ends))
   unfolding edited relaid firstPosition

@@ -192,7 +192,7 @@ module _ (most : ℕ) {s starts ends : List ℕ} (ed : Editable s starts ends) (
                 let laid : EditLaid s starts ends a b (skipped s b skip a) cs out₀ starts₀ ends₀ n out starts₁ ends₁ = rw begun at d in
                 accepted-rewritten fine (laid .reached) (laid .text-is) (laid .starts-are) (laid .ends-are)
 
--- an edit behind other inputs, all of whose conditions rank before its own
+-- an edit after other inputs, all of whose conditions rank before its own
 module _ (most : ℕ) (n : Note) (inputs : Refusal → Bool) (low : unmet (drop (upTo CountMismatch) order) inputs ≡ true) (e : Edit) (out₀ starts₀ ends₀ : List ℕ) {v : Verdict} (judged : v ≡ verdict inputs) where
   rest : Refusal → Bool
   rest = editFaults most (n .normalized) e (least (length out₀) (length starts₀) (length ends₀))

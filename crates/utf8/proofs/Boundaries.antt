@@ -1,4 +1,4 @@
--- Laws of `boundary`: well-formed texts joined there, and cut there; what stands between a boundary and the next one.
+-- Laws of `boundary`: well-formed texts joined there, and cut there; what is between a boundary and the next one.
 use Prim.Native.Nat.{ℕ, suc, _+_, _-_, _≤_, _<_}
 use mathlib.Core.Path.{_≡_, _∙_, refl, sym}
 use mathlib.Core.Bool.{Bool, true, false, not, _&&_}

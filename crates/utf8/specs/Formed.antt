@@ -7,7 +7,7 @@ use lib.Dec.{leb, ltb, eqb}
 use lib.ListN.{length, getD, take, drop}
 use Rattle.utf8.specs.Table.{Bytes, bytes, within, trail, WellFormed}
 
--- RULES 3: how many bytes a lead byte announces, or 0 for 80..C1 and F5..FF
+-- RULES 3: how many bytes a lead byte announces; 0 of a byte that begins no character (80..C1, F5..FF)
 unfoldable pub announced : ℕ → ℕ
 announced b =
     cond (ltb b 0x80) 1 (cond (ltb b 0xC2) 0 (cond (ltb b 0xE0) 2 (cond (ltb b 0xF0) 3 (cond (ltb b 0xF5) 4 0))))
@@ -56,7 +56,7 @@ boundary s i = leb i (length s) && not (continues (getD s i 0))
 unfoldable pub charRange : List ℕ → ℕ → ℕ → Bool
 charRange s a e = leb a e && boundary s a && boundary s e
 
--- CLAIM: cut at a boundary, a well-formed text is two of them; and where what stands before a place is well-formed,
+-- CLAIM: cut at a boundary, a well-formed text is two of them; and where what is before a place is well-formed,
 -- the place is a boundary
 abbrev pub BoundaryCuts : Type 0
 BoundaryCuts =

@@ -12,7 +12,7 @@ pub data Bytes : Type 0 where
 unfoldable pub within : Bytes → ℕ → Bool
 within (bytes low high) b = leb low b && leb b high
 
--- 80..BF, which stands in every column after the second
+-- 80..BF, which is in every column after the second
 abbrev pub trail : Bytes
 trail = bytes 0x80 0xBF
 

@@ -12,7 +12,7 @@ use Rattle.utf8.specs.Table.{within}
 unfoldable pub pending : ℕ → ℕ → ℕ → Bool
 pending b3 b2 b1 = leb 0xC0 b1 || leb 0xE0 b2 || leb 0xF0 b3
 
--- a byte that stands in no row of Table 3-7: C0, C1, F5..FF
+-- a byte that is in no row of Table 3-7: C0, C1, F5..FF
 unfoldable pub never : ℕ → Bool
 never b0 = (leb 0xC0 b0 && ltb b0 0xC2) || leb 0xF5 b0
 

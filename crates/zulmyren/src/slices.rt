@@ -1,7 +1,7 @@
 // Slicing, splitting, split offsets.
 use crate::answers::Cut;
-use crate::answers::Written;
 use crate::answers::Slice;
+use crate::answers::Written;
 use crate::answers::cut_to_c;
 use crate::answers::slice_to_c;
 use crate::answers::splits_to_c;

@@ -1,4 +1,4 @@
--- 0 behind an empty string, else its own.
+-- 0 after an empty string, else its own.
 use borrow.Author.Needs.{needs}
 use Rattle.append_prepend.proofs.Joined.{front-none, front-some}
 use Rattle.append_prepend.proofs.front_of.Statement.{statement}

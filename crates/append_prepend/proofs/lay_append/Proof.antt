@@ -1,4 +1,4 @@
--- The text stays, and the string stands behind it.
+-- The text stays, and the string is after it.
 use Prim.Native.Nat.{_^_, _<_}
 use lib.ListN.{length}
 use native.Mathlib.Omega.{arith}

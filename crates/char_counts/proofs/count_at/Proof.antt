@@ -1,4 +1,4 @@
--- The mark, and how far the low byte is behind the mark's.
+-- The mark, and how far the low byte is after the mark's.
 use Prim.Native.Nat.{_/_}
 use native.Mathlib.Omega.{arith}
 use borrow.Author.Needs.{needs}

@@ -1,4 +1,4 @@
--- Each turn walks a block of alignments; the walk is left at the first that ends past the target, or behind the last.
+-- Each turn walks a block of alignments; the walk is left at the first that ends past the target, or after the last.
 use Prim.Native.Nat.{_-_}
 use lib.ListN.{length}
 use Rattle.convert.proofs.Walked.{Walk, none-walked, block-walked, walk-left, walk-done}

@@ -1,4 +1,4 @@
--- What stays in front, what the flags keep, what stays behind.
+-- What stays in front, what the flags keep, what stays after.
 use Prim.Native.Nat.{_-_, _^_, _<_}
 use lib.ListN.{length}
 use native.Mathlib.Omega.{arith}

@@ -1,4 +1,4 @@
--- Each turn counts one match, and what stands before it.
+-- Each turn counts one match, and what is before it.
 use Prim.Native.Nat.{_-_}
 use native.Mathlib.Omega.{arith}
 use lib.ListN.{length}

@@ -1,4 +1,4 @@
--- Each turn lays one match, and what stands before it.
+-- Each turn lays one match, and what is before it.
 use Prim.Native.Nat.{_-_}
 use mathlib.Core.Path.{ap}
 use native.Mathlib.Omega.{arith}
@@ -16,7 +16,7 @@ Inv-loop text literal first out₀ i₀ at₀ start₀ out i at start = Listed t
 abbrev μ-loop : tie.MeasureT-loop
 μ-loop text literal first out₀ i₀ at₀ start₀ out i at start = length text - at
 
--- the places that others are told by: the entry, the turn's beginning, and where what stands before a match is written
+-- the places that others are told by: the entry, the turn's beginning, and where what is before a match is written
 abbrev entry : tie.At-loop Inv-loop μ-loop → tie.Start Inv-loop μ-loop
 entry c = c .before .before .before .before .before
 

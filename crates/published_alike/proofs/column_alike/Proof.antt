@@ -1,4 +1,4 @@
--- A matched place gives what the content carries, another one what stands in it.
+-- A matched place gives what the content carries, another one what is in it.
 use native.Mathlib.Omega.{arith}
 use borrow.Author.Needs.{needs}
 use Rattle.published_alike.proofs.Walk.{within, column-empty, column-matched, column-unmatched}

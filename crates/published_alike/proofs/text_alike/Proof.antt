@@ -1,4 +1,4 @@
--- A matched place gives the same of any two texts; another one what stands in it.
+-- A matched place gives the same of any two texts; another one what is in it.
 use native.Mathlib.Omega.{arith}
 use borrow.Author.Needs.{needs}
 use Rattle.published_alike.proofs.Walk.{within, text-matched, text-unmatched}

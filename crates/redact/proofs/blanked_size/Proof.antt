@@ -1,4 +1,4 @@
--- Each turn adds what stands before a match, and a content for the match.
+-- Each turn adds what is before a match, and a content for the match.
 use Prim.Native.Nat.{_-_}
 use native.Mathlib.Omega.{arith}
 use lib.ListN.{length}

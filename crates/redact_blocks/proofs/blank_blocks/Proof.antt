@@ -1,4 +1,4 @@
--- Each turn lays what stands before a candidate; where the literal stands there the content, and else a byte.
+-- Each turn lays what is before a candidate; where the literal is there the content, and else a byte.
 use Prim.Native.Nat.{_+_, _-_, _≤_}
 use mathlib.Core.Path.{_∙_, refl, sym}
 use native.Mathlib.Omega.{arith}
@@ -15,7 +15,7 @@ Inv-loop text most literal front content padded margin until from base out₀ ou
 abbrev μ-loop : tie.MeasureT-loop
 μ-loop text most literal front content padded margin until from base out₀ out-starts₀ out-ends₀ first last contentLen i₀ gap₀ out out-starts out-ends i gap = length text - i
 
--- the places that others are told by: the entry, the turn's beginning, where its block is laid, and where it is known whether the literal stands there
+-- the places that others are told by: the entry, the turn's beginning, where its block is laid, and where it is known whether the literal is there
 abbrev entry : tie.At-loop Inv-loop μ-loop → tie.Start Inv-loop μ-loop
 entry c = c .before .before .before .before .before .before .before .before .before .before .before
 

@@ -19,7 +19,7 @@ Inv-loop text literal content from base stop out₀ out-starts₀ out-ends₀ i�
 abbrev μ-loop : tie.MeasureT-loop
 μ-loop text literal content from base stop out₀ out-starts₀ out-ends₀ i₀ at₀ out out-starts out-ends i at = length text - i
 
--- the places that others are told by: the entry, the turn's beginning, and where it is known whether the literal stands there
+-- the places that others are told by: the entry, the turn's beginning, and where it is known whether the literal is there
 abbrev entry : tie.At-loop Inv-loop μ-loop → tie.Start Inv-loop μ-loop
 entry c = c .before .before .before .before .before .before .before
 
@@ -32,7 +32,7 @@ matched c = c .before .before .before .before
 abbrev unmatched : tie.After-lay-byte Inv-loop μ-loop → tie.Else1 Inv-loop μ-loop
 unmatched c = c .before .before .before .before
 
--- the literal stands at the turn's byte
+-- the literal is at the turn's byte
 stands : (c : tie.Then1 Inv-loop μ-loop) → occursAt (entry (turn (c .before)) .args .text .now) (entry (turn (c .before)) .args .literal .now) (turn (c .before) .loop .i) ≡ true
 stands c = sym (c .before .stands .ensures) ∙ c .if1 .taken
 

@@ -1,4 +1,4 @@
--- The steps are small enough to stand behind the base, and lead to where the characters begin.
+-- The steps are small enough to stand after the base, and lead to where the characters begin.
 use Prim.Native.Nat.{_+_, _-_, _%_}
 use mathlib.Core.Path.{refl}
 use native.Mathlib.Omega.{arith}

@@ -1,4 +1,4 @@
--- Candidate by candidate: the literal stands at no position so far.
+-- Candidate by candidate: the literal is at no position so far.
 use Prim.Native.Nat.{_-_}
 use native.Mathlib.Omega.{arith}
 use lib.ListN.{length}

@@ -1,4 +1,4 @@
--- The lent buffers hold what their fields do.
+-- The passed buffers hold what their fields do.
 use borrow.Author.Needs.{needs}
 use Rattle.stored_answers.proofs.Differences.{offsets-filled}
 use Rattle.replayed_edits.proofs.Replaying.{buffers-lent, bytes-filled}

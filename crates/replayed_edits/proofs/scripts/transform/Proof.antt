@@ -1,4 +1,4 @@
--- What the case holds is lent.
+-- What the case holds is passed.
 use borrow.Author.Needs.{needs}
 use Rattle.replayed_edits.proofs.Replaying.{script-lent}
 use Rattle.replayed_edits.proofs.scripts.transform.Statement.{statement}

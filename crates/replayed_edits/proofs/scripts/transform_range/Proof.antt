@@ -1,4 +1,4 @@
--- What the case holds is lent.
+-- What the case holds is passed.
 use borrow.Author.Needs.{needs}
 use Rattle.replayed_edits.proofs.Replaying.{range-lent}
 use Rattle.replayed_edits.proofs.scripts.transform_range.Statement.{statement}

@@ -1,4 +1,4 @@
--- What the case holds is lent, and what comes back is compared.
+-- What the case holds is passed, and what comes back is compared.
 use borrow.Author.Needs.{needs}
 use Rattle.replayed_edits.proofs.Replaying.{clear-replayed}
 use Rattle.replayed_edits.proofs.whole.clear.Statement.{statement}

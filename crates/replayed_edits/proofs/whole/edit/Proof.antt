@@ -1,4 +1,4 @@
--- What the case holds is lent, by the number.
+-- What the case holds is passed, by the number.
 use borrow.Author.Needs.{needs}
 use Rattle.zulmyren.specs.Edits.{AppendTold, FilterTold, PrependTold}
 use Rattle.replayed_edits.proofs.Replaying.{appends, filters, prepends, whole-lent}

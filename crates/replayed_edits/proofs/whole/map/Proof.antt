@@ -1,4 +1,4 @@
--- What the case holds is lent.
+-- What the case holds is passed.
 use borrow.Author.Needs.{needs}
 use Rattle.stored_answers.proofs.Differences.{numbers-filled}
 use Rattle.zulmyren.specs.Edits.{MapTold}

@@ -1,4 +1,4 @@
--- What the case holds is lent, by the number.
+-- What the case holds is passed, by the number.
 use borrow.Author.Needs.{needs}
 use Rattle.replayed_pieces.proofs.Replaying.{chars-told, ranges-told}
 use Rattle.replayed_pieces.proofs.pairs.answered.Statement.{statement}

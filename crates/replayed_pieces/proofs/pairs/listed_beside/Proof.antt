@@ -1,4 +1,4 @@
--- The lent buffers hold what their fields do.
+-- The passed buffers hold what their fields do.
 use borrow.Author.Needs.{needs}
 use Rattle.stored_answers.proofs.Differences.{numbers-filled}
 use Rattle.stored_answers.proofs.Splice.{take-laid}

@@ -1,4 +1,4 @@
--- The lent pairs are those of their fields.
+-- The passed pairs are those of their fields.
 use borrow.Author.Needs.{needs}
 use Rattle.stored_answers.proofs.Differences.{numbers-filled}
 use Rattle.replayed_pieces.proofs.Replaying.{pairs-lent}

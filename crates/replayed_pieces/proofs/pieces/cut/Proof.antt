@@ -1,4 +1,4 @@
--- What the case holds is lent, and what comes back is compared.
+-- What the case holds is passed, and what comes back is compared.
 use borrow.Author.Needs.{needs}
 use Rattle.replayed_pieces.proofs.Replaying.{split-replayed}
 use Rattle.replayed_pieces.proofs.pieces.cut.Statement.{statement}

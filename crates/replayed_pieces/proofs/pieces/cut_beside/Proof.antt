@@ -1,4 +1,4 @@
--- The lent alignments are those of their fields.
+-- The passed alignments are those of their fields.
 use borrow.Author.Needs.{needs}
 use Rattle.stored_answers.proofs.Differences.{offsets-filled}
 use Rattle.replayed_pieces.proofs.Replaying.{alignments-lent}

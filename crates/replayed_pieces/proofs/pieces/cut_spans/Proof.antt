@@ -1,4 +1,4 @@
--- The lent shifts and lengths are those of their fields.
+-- The passed shifts and lengths are those of their fields.
 use borrow.Author.Needs.{needs}
 use Rattle.stored_answers.proofs.Differences.{numbers-filled, offsets-filled}
 use Rattle.replayed_pieces.proofs.Replaying.{sizes-lent}

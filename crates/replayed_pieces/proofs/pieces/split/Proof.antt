@@ -1,4 +1,4 @@
--- The lent starts and ends are those of their fields.
+-- The passed starts and ends are those of their fields.
 use borrow.Author.Needs.{needs}
 use Rattle.stored_answers.proofs.Differences.{offsets-filled}
 use Rattle.replayed_pieces.proofs.Replaying.{spans-lent}

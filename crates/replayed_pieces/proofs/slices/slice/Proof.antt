@@ -1,4 +1,4 @@
--- The lent columns are those of their fields.
+-- The passed columns are those of their fields.
 use borrow.Author.Needs.{needs}
 use Rattle.stored_answers.proofs.Differences.{offsets-filled}
 use Rattle.replayed_pieces.proofs.Replaying.{slice-lent}

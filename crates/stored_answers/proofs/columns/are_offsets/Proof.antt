@@ -1,4 +1,4 @@
--- The field's column, beside the one that was lent.
+-- The field's column, beside the one that was passed.
 use borrow.Author.Needs.{needs}
 use Prim.Native.Nat.{_+_}
 use mathlib.Core.Path.{sym}
