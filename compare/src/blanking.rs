@@ -1,7 +1,7 @@
 //! What can still be told about the text under a matched place: the claim of docs/RULES.md about two calls of
 //! `replace`, both ways, on pairs of notes, and the call that answers for both.
 
-use crate::library::{self, Comparison, Count, Publishing};
+use crate::library::{self, Comparison, Publishing};
 use crate::note::{Note, Offset};
 use crate::notes::{self, FAULTS};
 use crate::places::{self, Place};
@@ -33,9 +33,9 @@ fn published(note: &Note, list: &[u8], filler: &[u8]) -> Option<Published> {
     let (mut text, mut starts, mut ends) = (vec![0; room], vec![0; room], vec![0; room]);
     let passed = Publishing { text: &mut text, starts: &mut starts, ends: &mut ends };
     let answer = library::replace(note, list, filler, passed);
-    text.truncate(answer.count as usize);
-    starts.truncate(answer.count as usize);
-    ends.truncate(answer.count as usize);
+    text.truncate(answer.len);
+    starts.truncate(answer.len);
+    ends.truncate(answer.len);
     (answer.refusal == 0).then_some((text, starts, ends))
 }
 
@@ -64,7 +64,7 @@ fn pair(tally: &mut Tally, notes: [&Note; 2], results: [&Published; 2], places: 
 
 /// What `published_alike` answers: the first refusal of replacing either note, or whether the Rust original makes the
 /// same of both.
-fn expected(one: &Note, other: &Note, list: &[u8], filler: &[u8]) -> Comparison {
+pub fn expected(one: &Note, other: &Note, list: &[u8], filler: &[u8]) -> Comparison {
     let results = [one, other].map(|note| replace::expected(note, list, filler));
     let met: Vec<u32> = results.iter().filter_map(|result| result.as_ref().err().copied()).collect();
     let [one, other] = results.map(|result| result.ok().map(|note| (note.normalized, note.starts, note.ends)));
@@ -72,12 +72,6 @@ fn expected(one: &Note, other: &Note, list: &[u8], filler: &[u8]) -> Comparison 
         Some(refusal) => Comparison { refusal, alike: false },
         None => Comparison { refusal: 0, alike: one == other },
     }
-}
-
-/// As the list of answers has it: the count is 1 for notes that are published alike.
-pub fn expected_alike(one: &Note, other: &Note, list: &[u8], filler: &[u8]) -> Count {
-    let Comparison { refusal, alike } = expected(one, other, list, filler);
-    Count { refusal, count: alike.into() }
 }
 
 fn compare_notes(tally: &mut Tally, [one, other]: [&Note; 2], list: &[u8], filler: &[u8], wanted: Comparison) {

@@ -3,12 +3,14 @@
 
 mod converting;
 mod editing;
+mod inner;
 mod limits;
 mod office;
 mod positions;
 mod replacing;
 mod slicing;
 mod splitting;
+mod tokens;
 
 use crate::library::{self, Cutting, Offsets};
 use crate::note::{position, Note};
@@ -31,9 +33,11 @@ pub fn compare(report: &mut Report) {
         editing::compare(tally);
         slicing::compare(tally);
         splitting::compare(tally);
+        tokens::compare(tally);
+        inner::compare(tally);
     });
     report.call("limits that the original does not have", "its code", limits::compare);
-    report.call("docs/OFFICE.md", "this library", office::compare);
+    report.call("docs/OFFICE-RUNS.md", "this library", office::compare);
 }
 
 /// One input: what is said to be answered, and what is.
@@ -86,7 +90,7 @@ fn split_here(note: &Note, list: &[u8], behavior: SplitDelimiterBehavior, drop_e
     if answer.refusal > 0 {
         return Err(answer.refusal);
     }
-    let places = starts.into_iter().zip(ends).take(answer.pieces);
+    let places = starts.into_iter().zip(ends).take(answer.len);
     Ok(places.map(|(start, end)| (position(start), position(end))).collect())
 }
 
@@ -97,7 +101,7 @@ fn splits_here(note: &Note, list: &[u8], behavior: SplitDelimiterBehavior, way: 
     if answer.refusal > 0 {
         return Err(answer.refusal);
     }
-    let offsets = starts.into_iter().zip(ends).take(answer.count as usize);
+    let offsets = starts.into_iter().zip(ends).take(answer.len);
     Ok(offsets.map(|(start, end)| (start as usize, end as usize)).collect())
 }
 
@@ -117,6 +121,10 @@ fn lengths_of_ranges(tally: &mut Tally) {
     tally.family("Range::len subtracts and adds without a check");
     code_answers(tally, "5..3", true, panics(|| Range::Original(ops::Range { start: 5, end: 3 }).len()));
     code_answers(tally, "0..=MAX", true, panics(|| Range::Original(0..=usize::MAX).len()));
+
+    tally.family("Range::len takes an open start for 0");
+    code_answers(tally, "..5", Some(5), Range::Original(..5).len());
+    code_answers(tally, "5..", None, Range::Original(5..).len());
 }
 
 /// The function takes what it is given as `max_len`; `convert_offsets` gives it a length in bytes.
@@ -132,7 +140,7 @@ fn full_range(tally: &mut Tally) {
     code_answers(tally, "0..99 of 2", 0..99, Range::Original(0..99).into_full_range(2));
     code_answers(tally, "5.. of 2", ops::Range { start: 5, end: 2 }, Range::Original(5..).into_full_range(2));
     code_answers(tally, "é, 5..", None, note.convert_offsets(Range::Original(5..)));
-    code_answers(tally, "é, 5..9", Some(2..2), note.convert_offsets(Range::Original(5..9)));
+    converts(tally, &note, Range::Original(5..9), Some(2..2));
     code_answers(tally, "..=MAX", true, panics(|| Range::Original(..=usize::MAX).into_full_range(2)));
     code_answers(tally, "é, ..=MAX", true, panics(|| note.convert_offsets(Range::Original(..=usize::MAX))));
 }

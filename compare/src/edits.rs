@@ -1,5 +1,5 @@
-//! Editing beside `transform_range`, `transform`, `map`, `filter`, `append`, `prepend` and `clear`. Where a replacing
-//! command finds no character left, the Rust panics or reads past its range: there the characters are counted.
+//! Editing beside `transform_range`, `transform`, `map`, `filter`, `append`, `prepend` and `clear`. Where a command
+//! is to replace a character and none is left, the Rust panics or goes on past the range: there characters are counted.
 
 mod carried;
 mod edit;

@@ -2,7 +2,7 @@
 
 use crate::every;
 use crate::guarded::Guarded;
-use crate::library::{self, Count};
+use crate::library::{self, Written};
 use crate::places::{self, Place};
 use crate::random::Random;
 use crate::refusals::{ILL_FORMED, NO_ROOM, TOO_LONG};
@@ -42,14 +42,17 @@ fn second(text: &str, literal: &str) -> Vec<Place> {
     places
 }
 
-/// The Rust original's list where it has one: it ends an empty literal's place at the character count, and its regular
-/// expressions refuse literals over some 327,656 bytes.
+/// The original's regular expressions take literals of so many bytes: they refuse them from some 327,656 bytes on.
+pub const TAKEN: usize = 300_000;
+
+/// The Rust original's list where it has one: it ends an empty literal's place at the character count, and refuses very
+/// long literals.
 fn theirs(text: &str, literal: &str) -> Option<Vec<Place>> {
     if literal.is_empty() {
         return None;
     }
     let list = literal.find_matches(text);
-    let too_long = list.is_err() && literal.len() > 300_000;
+    let too_long = list.is_err() && literal.len() > TAKEN;
     (!too_long).then(|| list.expect("a literal is a regular expression"))
 }
 
@@ -62,6 +65,12 @@ pub fn expected(text: &[u8], literal: &[u8]) -> Result<Vec<u8>, u32> {
         (Ok(text), Ok(literal)) => Ok(places::bytes(&second(text, literal))),
         _ => Err(ILL_FORMED),
     }
+}
+
+/// How many matches a literal has, as the Rust original finds them; by `match_indices` where it has no list.
+pub fn matches(text: &str, literal: &str) -> usize {
+    let places = theirs(text, literal).unwrap_or_else(|| second(text, literal));
+    places.iter().filter(|(_, matched)| *matched).count()
 }
 
 /// Just large enough, larger, and short by one, by a place and by far.
@@ -82,7 +91,7 @@ fn find(tally: &mut Tally, text: &[u8], literal: &[u8], rooms: impl FnOnce(usize
             Ok(list) if room < list.len() => (NO_ROOM, &[]),
             Ok(list) => (0, list),
         };
-        let wanted = Count { refusal, count: bytes.len() as u32 };
+        let wanted = Written { refusal, len: bytes.len() };
         let held = out.holds(bytes);
         tally.case(tally::refusal(ours.refusal), ours != wanted || !held || !agree, || {
             let (text, literal) = (hex(text), hex(literal));
@@ -197,8 +206,8 @@ fn nothing_anywhere(tally: &mut Tally) {
     tally.family("nothing passed, at any pointer");
     for address in ADDRESSES {
         let (text, out) = (address as *const u8, address as *mut u8);
-        let ours = Count::from(unsafe { library::zulmyren_find_matches(text, 0, text, 0, out, 0) });
-        let no_room = Count { refusal: NO_ROOM, count: 0 };
+        let ours = unsafe { library::zulmyren_find_matches(text, 0, text, 0, out, 0) };
+        let no_room = Written { refusal: NO_ROOM, len: 0 };
         tally.case(tally::refusal(ours.refusal), ours != no_room, || format!("ours {ours:?} at {address:#x}"));
     }
 }

@@ -73,27 +73,32 @@ calls! {
     fn zulmyren_convert_all(note, plain bool, read u32, read u32, write u8, write u32, write u32) -> u32;
     fn zulmyren_char_offsets(read u8, plain u32, plain u32) -> Offsets;
     fn zulmyren_char_offsets_all(read u8, read u32, read u32, write u8, write u32, write u32) -> u32;
-    fn zulmyren_find_matches(read u8, read u8, write u8) -> Listed;
-    fn zulmyren_replace(note, read u8, read u8, write u8, write Offset, write Offset) -> Count;
-    fn zulmyren_redact(read u8, read u8, read u8, write u8, write Offset, write Offset) -> Count;
+    fn zulmyren_find_matches(read u8, read u8, write u8) -> Written;
+    fn zulmyren_replace(note, read u8, read u8, write u8, write Offset, write Offset) -> Written;
+    fn zulmyren_redact(read u8, read u8, read u8, write u8, write Offset, write Offset) -> Redaction;
+    fn zulmyren_redact_note(note, read u8, read u8, write u8, write u8, write Offset, write Offset) -> Redaction;
+    fn zulmyren_redact_all(
+        note, read u8, read u32, write u8, write Offset, write Offset, write u32, write u32, write u32
+    ) -> Redactions;
     fn zulmyren_published_alike(note, note, read u8, read u8) -> Comparison;
     fn zulmyren_slice(note, plain bool, plain u32, plain u32, write Offset, write Offset) -> Sliced;
     fn zulmyren_split(
         note, read u8, plain u32, plain bool,
         write Offset, write Offset, write u32, write Offset, write Offset, write Offset
     ) -> Cut;
-    fn zulmyren_get_splits(note, read u8, plain u32, plain bool, plain bool, write u32, write u32) -> Listed;
+    fn zulmyren_get_splits(note, read u8, plain u32, plain bool, plain bool, write u32, write u32) -> Written;
     fn zulmyren_transform_range(
         note, plain bool, plain u32, plain u32, read u8, plain u32, write u8, write Offset, write Offset
-    ) -> Count;
-    fn zulmyren_transform(note, read u8, plain u32, write u8, write Offset, write Offset) -> Count;
-    fn zulmyren_map(note, read u32, write u8, write Offset, write Offset) -> Count;
-    fn zulmyren_filter(note, read u8, write u8, write Offset, write Offset) -> Count;
-    fn zulmyren_append(note, read u8, write u8, write Offset, write Offset) -> Count;
-    fn zulmyren_prepend(note, read u8, write u8, write Offset, write Offset) -> Count;
-    fn zulmyren_clear(note, write u8, write Offset, write Offset) -> Lengths;
+    ) -> Written;
+    fn zulmyren_transform(note, read u8, plain u32, write u8, write Offset, write Offset) -> Written;
+    fn zulmyren_map(note, read u32, write u8, write Offset, write Offset) -> Written;
+    fn zulmyren_filter(note, read u8, write u8, write Offset, write Offset) -> Written;
+    fn zulmyren_append(note, read u8, write u8, write Offset, write Offset) -> Written;
+    fn zulmyren_prepend(note, read u8, write u8, write Offset, write Offset) -> Written;
+    fn zulmyren_clear(note, write u8, write Offset, write Offset) -> Cleared;
 }
 
+/// How many letters there are, or a refusal beside 0.
 #[repr(C)]
 #[derive(Clone, Copy, Debug, PartialEq, Eq)]
 pub struct Count {
@@ -101,13 +106,42 @@ pub struct Count {
     pub count: u32,
 }
 
+/// How many elements the result has: bytes of a text or of a match list, or pieces; or a refusal beside 0.
+#[repr(C)]
+#[derive(Clone, Copy, Debug, PartialEq, Eq)]
+pub struct Written {
+    pub refusal: u32,
+    pub len: usize,
+}
+
 /// How long a cleaned text was and is, or a refusal beside 0 and 0.
 #[repr(C)]
 #[derive(Clone, Copy, Debug, PartialEq, Eq)]
-pub struct Lengths {
+pub struct Cleared {
     pub refusal: u32,
-    pub before: u32,
-    pub left: u32,
+    pub before_len: usize,
+    pub len: usize,
+}
+
+/// How many bytes are published, and how many matches gave way; or a refusal beside 0 and 0.
+#[repr(C)]
+#[derive(Clone, Copy, Debug, PartialEq, Eq)]
+pub struct Redaction {
+    pub refusal: u32,
+    pub len: usize,
+    pub matches: usize,
+}
+
+/// How many bytes are published; how many literals were not found, how many can still be read, and how many fillers the
+/// note had already; or a refusal beside 0s.
+#[repr(C)]
+#[derive(Clone, Copy, Debug, Default, PartialEq, Eq)]
+pub struct Redactions {
+    pub refusal: u32,
+    pub len: usize,
+    pub not_found: usize,
+    pub left: usize,
+    pub fillers_found: usize,
 }
 
 /// Whether two notes are published alike, or a refusal beside `false`.
@@ -178,21 +212,8 @@ impl Sliced {
 #[derive(Clone, Copy, Debug, PartialEq, Eq)]
 pub struct Cut {
     pub refusal: u32,
-    pub pieces: usize,
-    pub alignments: usize,
-}
-
-/// The answer of finding: a refusal, or how many bytes the list has; of split offsets, how many pieces there are.
-#[repr(C)]
-pub struct Listed {
-    pub refusal: u32,
     pub len: usize,
-}
-
-impl From<Listed> for Count {
-    fn from(listed: Listed) -> Count {
-        Count { refusal: listed.refusal, count: listed.len as u32 }
-    }
+    pub alignments_len: usize,
 }
 
 /// The buffers for the answers to a list: one of each per pair.
@@ -207,6 +228,13 @@ pub struct Publishing<'a> {
     pub text: &'a mut [u8],
     pub starts: &'a mut [Offset],
     pub ends: &'a mut [Offset],
+}
+
+/// The buffers for the counts of pairs: one of each per pair.
+pub struct PairCounts<'a> {
+    pub blanked: &'a mut [u32],
+    pub left: &'a mut [u32],
+    pub fillers: &'a mut [u32],
 }
 
 /// The buffers for pieces: a number of each for every piece, and two for every alignment.
@@ -265,8 +293,8 @@ pub fn char_offsets_all(text: &[u8], starts: &[u32], ends: &[u32], out: Columns)
     }
 }
 
-pub fn find_matches(text: &[u8], literal: &[u8], out: &mut [u8]) -> Count {
-    Count::from(unsafe { pass!(zulmyren_find_matches; read text, read literal, write out) })
+pub fn find_matches(text: &[u8], literal: &[u8], out: &mut [u8]) -> Written {
+    unsafe { pass!(zulmyren_find_matches; read text, read literal, write out) }
 }
 
 pub fn transform_range(
@@ -275,49 +303,63 @@ pub fn transform_range(
     script: &[u8],
     initial_offset: u32,
     out: Publishing,
-) -> Count {
+) -> Written {
     unsafe {
         pass!(zulmyren_transform_range; note note, plain of_original, plain start, plain end, read script,
             plain initial_offset, write out.text, write out.starts, write out.ends)
     }
 }
 
-pub fn transform(note: &Note, script: &[u8], initial_offset: u32, out: Publishing) -> Count {
+pub fn transform(note: &Note, script: &[u8], initial_offset: u32, out: Publishing) -> Written {
     unsafe {
         pass!(zulmyren_transform; note note, read script, plain initial_offset, write out.text, write out.starts,
             write out.ends)
     }
 }
 
-pub fn map(note: &Note, codes: &[u32], out: Publishing) -> Count {
+pub fn map(note: &Note, codes: &[u32], out: Publishing) -> Written {
     unsafe { pass!(zulmyren_map; note note, read codes, write out.text, write out.starts, write out.ends) }
 }
 
-pub fn filter(note: &Note, flags: &[u8], out: Publishing) -> Count {
+pub fn filter(note: &Note, flags: &[u8], out: Publishing) -> Written {
     unsafe { pass!(zulmyren_filter; note note, read flags, write out.text, write out.starts, write out.ends) }
 }
 
-pub fn append(note: &Note, string: &[u8], out: Publishing) -> Count {
+pub fn append(note: &Note, string: &[u8], out: Publishing) -> Written {
     unsafe { pass!(zulmyren_append; note note, read string, write out.text, write out.starts, write out.ends) }
 }
 
-pub fn prepend(note: &Note, string: &[u8], out: Publishing) -> Count {
+pub fn prepend(note: &Note, string: &[u8], out: Publishing) -> Written {
     unsafe { pass!(zulmyren_prepend; note note, read string, write out.text, write out.starts, write out.ends) }
 }
 
-pub fn clear(note: &Note, out: Publishing) -> Lengths {
+pub fn clear(note: &Note, out: Publishing) -> Cleared {
     unsafe { pass!(zulmyren_clear; note note, write out.text, write out.starts, write out.ends) }
 }
 
-pub fn replace(note: &Note, list: &[u8], filler: &[u8], out: Publishing) -> Count {
+pub fn replace(note: &Note, list: &[u8], filler: &[u8], out: Publishing) -> Written {
     unsafe {
         pass!(zulmyren_replace; note note, read list, read filler, write out.text, write out.starts, write out.ends)
     }
 }
 
-pub fn redact(text: &[u8], literal: &[u8], filler: &[u8], out: Publishing) -> Count {
+pub fn redact(text: &[u8], literal: &[u8], filler: &[u8], out: Publishing) -> Redaction {
     unsafe {
         pass!(zulmyren_redact; read text, read literal, read filler, write out.text, write out.starts, write out.ends)
+    }
+}
+
+pub fn redact_note(note: &Note, literal: &[u8], filler: &[u8], list: &mut [u8], out: Publishing) -> Redaction {
+    unsafe {
+        pass!(zulmyren_redact_note; note note, read literal, read filler, write list, write out.text, write out.starts,
+            write out.ends)
+    }
+}
+
+pub fn redact_all(note: &Note, words: &[u8], sizes: &[u32], out: Publishing, counts: PairCounts) -> Redactions {
+    unsafe {
+        pass!(zulmyren_redact_all; note note, read words, read sizes, write out.text, write out.starts, write out.ends,
+            write counts.blanked, write counts.left, write counts.fillers)
     }
 }
 
@@ -349,10 +391,9 @@ pub fn get_splits(
     [of_original, characters]: [bool; 2],
     starts: &mut [u32],
     ends: &mut [u32],
-) -> Count {
-    let answer = unsafe {
+) -> Written {
+    unsafe {
         pass!(zulmyren_get_splits; note note, read list, plain behavior, plain of_original, plain characters,
             write starts, write ends)
-    };
-    Count::from(answer)
+    }
 }

@@ -15,10 +15,9 @@ pub fn replaced(note: &Note, places: &[Place], content: &str) -> Result<Note, u3
     if answer.refusal > 0 {
         return Err(answer.refusal);
     }
-    let count = answer.count as usize;
-    text.truncate(count);
-    starts.truncate(count);
-    ends.truncate(count);
+    text.truncate(answer.len);
+    starts.truncate(answer.len);
+    ends.truncate(answer.len);
     Ok(Note { normalized: text, starts, ends, ..note.clone() })
 }
 
@@ -77,5 +76,5 @@ pub fn pieces(note: &Note, list: &[u8], behavior: u32) -> Result<Vec<Note>, u32>
             original_shift: shifts[i],
         }
     };
-    Ok((0..answer.pieces).map(piece).collect())
+    Ok((0..answer.len).map(piece).collect())
 }

@@ -25,6 +25,8 @@ mod program;
 mod random;
 mod ranges;
 mod redact;
+mod redact_all;
+mod redact_note;
 mod refusals;
 mod replace;
 mod samples;
@@ -63,6 +65,8 @@ fn compare(word: &str) -> ExitCode {
     blanking::compare(&mut report);
     edits::compare(&mut report);
     redact::compare(&mut report);
+    redact_note::compare(&mut report);
+    redact_all::compare(&mut report);
     slice::compare(&mut report);
     split::compare(&mut report);
     splits::compare(&mut report);

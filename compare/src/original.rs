@@ -1,6 +1,7 @@
 //! The Rust original: files of the folder that TOKENIZERS_SRC names, each included whole and unchanged, and thin
-//! stand-ins for what they lean on that the folder does not have. They only let the files compile; no comparison runs
-//! one. The included modules are linted for nothing, since they stay as they are; their child modules are ours again.
+//! stand-ins for what they lean on that the folder does not have. They only let the files compile, and no comparison
+//! runs one, but for `Token`, `TruncationDirection` and `Encoding`, which hold what they are passed. The included modules
+//! are linted for nothing, since they stay as they are; their child modules are ours again.
 
 use std::iter::Empty;
 
@@ -28,11 +29,12 @@ pub mod pattern {
 pub mod normalizer {
     include!(concat!(env!("TOKENIZERS_SRC"), "/src/tokenizer/normalizer.rs"));
 
-    /// A child module, since only such a one reaches the private fields.
+    /// A child module, since only such a one reaches the private fields and functions.
     #[deny(clippy::all, dead_code)]
     mod fields {
-        use super::NormalizedString;
+        use super::{NormalizedString, Range};
         use crate::Offsets;
+        use std::ops;
 
         impl NormalizedString {
             pub fn of_fields(
@@ -50,6 +52,16 @@ pub mod normalizer {
 
             pub fn original_shift(&self) -> usize {
                 self.original_shift
+            }
+
+            /// `validate_range`, which is private.
+            pub fn validated(&self, range: Range<ops::Range<usize>>) -> Option<Range<ops::Range<usize>>> {
+                self.validate_range(range)
+            }
+
+            /// `alignments_original`, which only its own crate sees.
+            pub fn alignments_of_original(&self) -> Vec<Offsets> {
+                self.alignments_original()
             }
         }
     }
@@ -137,11 +149,15 @@ pub enum TruncationDirection {
     Right,
 }
 
-#[derive(Default)]
-pub struct Encoding {}
+/// A token as `into_encoding` hands it on: id, value, offsets, word, type.
+pub type Encoded = (u32, String, Offsets, Option<u32>, u32);
 
-impl FromIterator<(u32, String, Offsets, Option<u32>, u32)> for Encoding {
-    fn from_iter<I: IntoIterator<Item = (u32, String, Offsets, Option<u32>, u32)>>(_: I) -> Self {
-        unimplemented!("encodings are not compared")
+/// The tokens that `into_encoding` hands on, as they are.
+#[derive(Debug, Default, PartialEq, Eq)]
+pub struct Encoding(pub Vec<Encoded>);
+
+impl FromIterator<Encoded> for Encoding {
+    fn from_iter<I: IntoIterator<Item = Encoded>>(tokens: I) -> Self {
+        Encoding(tokens.into_iter().collect())
     }
 }

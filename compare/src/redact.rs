@@ -4,7 +4,7 @@
 use crate::every;
 use crate::find;
 use crate::guarded::Guarded;
-use crate::library::{self, Count, Publishing};
+use crate::library::{self, Publishing, Redaction};
 use crate::note::Note;
 use crate::places;
 use crate::random::Random;
@@ -17,7 +17,7 @@ use std::str::from_utf8;
 use tokenizers::NormalizedString;
 
 pub fn compare(report: &mut Report) {
-    report.call("zulmyren_redact", "NormalizedString::from and replace", |tally| {
+    report.call("zulmyren_redact", "NormalizedString::from, find_matches and replace", |tally| {
         every_short_text(tally);
         every_room(tally);
         every_ill_formed_string(tally);
@@ -34,17 +34,18 @@ fn sizes(published: &Note) -> Rooms {
     [published.normalized.len(), published.starts.len(), published.ends.len()]
 }
 
-/// What the Rust original publishes, or the refusal that docs/RULES.md gives in any room.
-pub fn expected([text, literal, filler]: [&[u8]; 3]) -> Result<Note, u32> {
+/// What the Rust original publishes, and how many matches it finds; or the refusal that docs/RULES.md gives in any room.
+fn expected([text, literal, filler]: [&[u8]; 3]) -> Result<(Note, usize), u32> {
     let list = find::expected(text, literal)?;
     let filler = from_utf8(filler).map_err(|_| ILL_FORMED)?;
     let [text, literal] = [text, literal].map(|string| from_utf8(string).expect("it was judged"));
     let places = places::read(&list).expect("the second implementation's list");
-    replace::published(NormalizedString::from(text), literal, filler, &places)
+    let published = replace::published(NormalizedString::from(text), literal, filler, &places)?;
+    Ok((published, find::matches(text, literal)))
 }
 
 /// Our answer in these rooms, and which of the three buffers hold what they are to.
-fn in_rooms([text, literal, filler]: [&[u8]; 3], rooms: Rooms, wanted: &Note) -> (Count, [bool; 3]) {
+fn in_rooms([text, literal, filler]: [&[u8]; 3], rooms: Rooms, wanted: &Note) -> (Redaction, [bool; 3]) {
     let mut out = Guarded::new(rooms[0]);
     let [mut starts, mut ends] = [1, 2].map(|i| Guarded::new(rooms[i]));
     let passed = Publishing { text: out.part(), starts: starts.part(), ends: ends.part() };
@@ -55,15 +56,15 @@ fn in_rooms([text, literal, filler]: [&[u8]; 3], rooms: Rooms, wanted: &Note) ->
 fn redact(tally: &mut Tally, strings: [&[u8]; 3], rooms: impl FnOnce(Rooms) -> Vec<Rooms>) {
     let result = expected(strings);
     let nothing = Note::default();
-    let sizes = result.as_ref().map_or([strings[0].len().min(300); 3], sizes);
+    let sizes = result.as_ref().map_or([strings[0].len().min(300); 3], |(published, _)| sizes(published));
     for room in rooms(sizes) {
-        let (refusal, wanted) = match &result {
-            Err(refusal) => (*refusal, &nothing),
-            Ok(_) if room.iter().zip(sizes).any(|(&room, size)| room < size) => (NO_ROOM, &nothing),
-            Ok(result) => (0, result),
+        let (refusal, wanted, matches) = match &result {
+            Err(refusal) => (*refusal, &nothing, 0),
+            Ok(_) if room.iter().zip(sizes).any(|(&room, size)| room < size) => (NO_ROOM, &nothing, 0),
+            Ok((published, matches)) => (0, published, *matches),
         };
         let (ours, held) = in_rooms(strings, room, wanted);
-        let theirs = Count { refusal, count: wanted.normalized.len() as u32 };
+        let theirs = Redaction { refusal, len: wanted.normalized.len(), matches };
         tally.case(tally::refusal(ours.refusal), ours != theirs || held != [true; 3], || {
             let [text, literal, filler] = strings.map(hex);
             format!(

@@ -3,7 +3,7 @@
 use crate::characters::sequences;
 use crate::every;
 use crate::guarded::Guarded;
-use crate::library::{self, Count, Publishing};
+use crate::library::{self, Publishing, Written};
 use crate::note::{Note, Offset};
 use crate::notes;
 use crate::places::{self, Given, Place};
@@ -117,7 +117,7 @@ fn replace(
             Ok(_) if room.iter().any(|&room| room < len) => (NO_ROOM, &[], &[], &[]),
             Ok(published) => (0, &published.normalized, &published.starts, &published.ends),
         };
-        let theirs = Count { refusal, count: text.len() as u32 };
+        let theirs = Written { refusal, len: text.len() };
         let held = [out.holds(text), starts.holds(their_starts), ends.holds(their_ends)];
         tally.case(tally::refusal(ours.refusal), ours != theirs || held != [true; 3], || {
             let (list, filler, made) = (hex(list), hex(filler), made());
@@ -358,7 +358,7 @@ fn nothing_anywhere(tally: &mut Tally) {
                 text, 0, text, 0, column, 0, column, 0, 0, text, 0, text, 0, out, 0, written, 0, written, 0,
             )
         };
-        let accepted = Count { refusal: 0, count: 0 };
+        let accepted = Written { refusal: 0, len: 0 };
         tally.case(tally::refusal(ours.refusal), ours != accepted, || format!("ours {ours:?} at {address:#x}"));
     }
 }

@@ -213,8 +213,8 @@ fn split_so(
         let mut buffers = Buffers::new(room);
         let (note, behavior) = (&asked.sample.note, asked.behavior);
         let ours = library::split(note, asked.list, number(behavior), drop_empty, buffers.out());
-        let (pieces, alignments) = columns.sizes();
-        let theirs = Cut { refusal, pieces, alignments };
+        let (len, alignments_len) = columns.sizes();
+        let theirs = Cut { refusal, len, alignments_len };
         let held = buffers.hold(columns);
         tally.case(tally::refusal(ours.refusal), ours != theirs || held != [true; 6], || {
             let (list, made) = (hex(asked.list), made());
@@ -438,7 +438,7 @@ fn other_numbers(tally: &mut Tally) {
     for number in OTHER_NUMBERS {
         let mut buffers = Buffers::new([3, 3, 3, 3, 5, 5]);
         let ours = library::split(&sample.note, &list, number, false, buffers.out());
-        let differs = ours != Cut { refusal: 0, pieces: 3, alignments: 5 } || buffers.hold(&columns) != [true; 6];
+        let differs = ours != Cut { refusal: 0, len: 3, alignments_len: 5 } || buffers.hold(&columns) != [true; 6];
         tally.case(tally::refusal(ours.refusal), differs, || format!("ours {ours:?}, behaviour {number}"));
     }
 }
@@ -455,7 +455,7 @@ fn nothing_anywhere(tally: &mut Tally) {
                         plain column, plain 0, plain column, plain 0, plain wide, plain 0, plain column, plain 0,
                         plain column, plain 0, plain column, plain 0)
                 };
-                let accepted = Cut { refusal: 0, pieces: 0, alignments: 0 };
+                let accepted = Cut { refusal: 0, len: 0, alignments_len: 0 };
                 tally.case(tally::refusal(ours.refusal), ours != accepted, || format!("ours {ours:?} at {address:#x}"));
             }
         }

@@ -1,7 +1,7 @@
 //! Split offsets beside `PreTokenizedString::get_splits`, without tokens; refusals beside a second judge.
 
 use crate::guarded::Guarded;
-use crate::library::{self, pass, Count};
+use crate::library::{self, pass, Written};
 use crate::note::{Note, Offset};
 use crate::notes;
 use crate::places::{self, Place};
@@ -73,7 +73,7 @@ fn get_splits_so(
             Ok(_) if room.0.min(room.1) < len => (NO_ROOM, &[]),
             Ok(pairs) => (0, pairs),
         };
-        let theirs = Count { refusal, count: pairs.len() as u32 };
+        let theirs = Written { refusal, len: pairs.len() };
         let (their_starts, their_ends): (Vec<u32>, Vec<u32>) = pairs.iter().copied().unzip();
         let held = [starts.holds(&their_starts), ends.holds(&their_ends)];
         tally.case(tally::refusal(ours.refusal), ours != theirs || held != [true; 2], || {
@@ -291,7 +291,7 @@ fn other_numbers(tally: &mut Tally) {
             let ours = library::get_splits(&sample.note, &list, number, way, starts.part(), ends.part());
             let theirs = expected(Asked { sample: &sample, list: &list, behavior: Contiguous }, way);
             let (their_starts, their_ends): (Vec<u32>, Vec<u32>) = theirs.expect("the list covers").into_iter().unzip();
-            let differs = ours.count != 3 || !starts.holds(&their_starts) || !ends.holds(&their_ends);
+            let differs = ours.len != 3 || !starts.holds(&their_starts) || !ends.holds(&their_ends);
             tally.case(tally::refusal(ours.refusal), differs, || format!("ours {ours:?}, behaviour {number}, {way:?}"));
         }
     }
@@ -303,12 +303,12 @@ fn nothing_anywhere(tally: &mut Tally) {
         let (text, column, wide) = (address as *const u8, address as *const Offset, address as *mut u32);
         for behavior in BEHAVIORS {
             for [of_original, characters] in WAYS {
-                let ours = Count::from(unsafe {
+                let ours = unsafe {
                     pass!(library::zulmyren_get_splits; plain text, plain 0, plain text, plain 0, plain column, plain 0,
                         plain column, plain 0, plain 0, plain text, plain 0, plain number(behavior), plain of_original,
                         plain characters, plain wide, plain 0, plain wide, plain 0)
-                });
-                let accepted = Count { refusal: 0, count: 0 };
+                };
+                let accepted = Written { refusal: 0, len: 0 };
                 tally.case(tally::refusal(ours.refusal), ours != accepted, || format!("ours {ours:?} at {address:#x}"));
             }
         }

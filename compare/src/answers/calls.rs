@@ -298,9 +298,9 @@ fn alike() -> Answers {
     let notes = ["n12", "n47", "n4", "né", "m12"].map(fresh);
     let lists = [vec![((0, 1), false), ((1, 3), true)], vec![((0, 1), true), ((1, 3), false), ((3, 3), true)]];
     let mut answer = |one: &Note, other: &Note, list: &[u8], filler: &[u8]| {
-        let expected = blanking::expected_alike(one, other, list, filler);
+        let expected = blanking::expected(one, other, list, filler);
         answers.answer().note(one).note(other).text(list).text(filler);
-        answers.number(expected.refusal).number(expected.count);
+        answers.number(expected.refusal).number(expected.alike.into());
     };
     for list in lists.iter().map(|places| places::bytes(places)) {
         for other in &notes {

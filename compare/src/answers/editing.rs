@@ -47,7 +47,7 @@ fn edit(answers: &mut Answers, note: &Note, edit: &Edit, rooms: fn(usize) -> [us
     };
     answers.passed_text(room[0]).passed_column(room[1]).passed_column(room[2]).number(refusal);
     if let Clear = edit {
-        answers.number(before);
+        answers.number(before as u32);
     }
     answers.number(left.normalized.len() as u32).left_text(room[0], &left.normalized);
     answers.left_column(room[1], &left.starts).left_column(room[2], &left.ends);

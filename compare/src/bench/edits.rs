@@ -4,7 +4,7 @@ use super::buffers::Buffers;
 use super::layouts::{self, Marked};
 use super::{side, timed, Bench, Other, Side, Table, COPYING, RUST};
 use crate::edits::{bytes, Change};
-use crate::library::{self, Count, Publishing};
+use crate::library::{self, Publishing, Written};
 use crate::note::Note;
 use std::hint::black_box;
 use tokenizers::normalizer::Range;
@@ -65,14 +65,14 @@ fn string() -> &'static [u8] {
     black_box(STRING.as_bytes())
 }
 
-fn cleared(answer: library::Lengths) -> Count {
-    Count { refusal: answer.refusal, count: answer.left }
+fn cleared(answer: library::Cleared) -> Written {
+    Written { refusal: answer.refusal, len: answer.len }
 }
 
 /// An edit of the starting notes that needs nothing prepared.
 fn on_whole(
     texts: &[Marked],
-    ours: fn(&Note, Publishing) -> Count,
+    ours: fn(&Note, Publishing) -> Written,
     theirs: fn(&mut NormalizedString),
 ) -> Vec<Side<'_>> {
     edit(texts, Marked::fresh, |_| (), move |note, (), out| ours(note, out), move |note, ()| theirs(note))
@@ -83,7 +83,7 @@ fn edit<'a, T: 'a>(
     texts: &'a [Marked],
     note: impl Fn(&Marked) -> NormalizedString,
     prepared: impl Fn(&str) -> T,
-    ours: impl Fn(&Note, &T, Publishing) -> Count + 'a,
+    ours: impl Fn(&Note, &T, Publishing) -> Written + 'a,
     theirs: impl Fn(&mut NormalizedString, &T) + 'a,
 ) -> Vec<Side<'a>> {
     let ready: Vec<NormalizedString> = texts.iter().map(note).collect();
@@ -101,7 +101,7 @@ fn edit<'a, T: 'a>(
     let (mut buffers, mut copies) = (Buffers::new(), Buffers::new());
     for (i, result) in results.iter().enumerate() {
         let made = ours(&notes[i], &prepared[i], buffers.out());
-        assert_eq!(made, Count { refusal: 0, count: result.normalized.len() as u32 });
+        assert_eq!(made, Written { refusal: 0, len: result.normalized.len() });
         assert!(buffers.hold(result));
     }
     let same = prepared.clone();

@@ -3,7 +3,7 @@
 use super::buffers::Buffers;
 use super::layouts::{self, any_list, Marked, FILLER, LITERAL};
 use super::{side, timed, Bench, Other, Side, Table, COPYING, RUST};
-use crate::library::{self, Count};
+use crate::library::{self, Written};
 use crate::note::Note;
 use crate::places::Handed;
 use std::hint::black_box;
@@ -48,7 +48,7 @@ pub fn bench(bench: &mut Bench) {
     }
 }
 
-fn replace_of(note: &Note, list: &[u8], buffers: &mut Buffers) -> Count {
+fn replace_of(note: &Note, list: &[u8], buffers: &mut Buffers) -> Written {
     library::replace(black_box(note), black_box(list), black_box(FILLER.as_bytes()), buffers.out())
 }
 
@@ -115,7 +115,7 @@ fn three_calls(texts: &[Marked]) -> Vec<Side<'_>> {
             timed(|| {
                 let fresh = library::from_text(text, &mut note.starts, &mut note.ends);
                 let found = library::find_matches(text, black_box(LITERAL.as_bytes()), &mut list);
-                (fresh, found, replace_of(note, &list[..found.count as usize], &mut buffers))
+                (fresh, found, replace_of(note, &list[..found.len], &mut buffers))
             })
         }),
         side(|i| from_and_replace(&texts[i].text, LITERAL, FILLER)),

@@ -2,7 +2,7 @@
 
 use super::layouts::{self, Marked, LEN};
 use super::{side, timed, Bench, Side, Table, FEWER, RUST};
-use crate::library::{self, Count, Cut, Cutting};
+use crate::library::{self, Cut, Cutting, Written};
 use crate::note::{Note, Offset};
 use crate::places::{self, Handed, Place};
 use crate::split::number;
@@ -112,7 +112,7 @@ fn split(texts: &[Marked], behavior: SplitDelimiterBehavior) -> Vec<Side<'_>> {
 fn our_splits(texts: &[Marked], count: usize, characters: bool) -> Side<'_> {
     let (notes, lists) = (layouts::notes(&fresh(texts)), lists(texts, count));
     let (mut starts, mut ends) = (vec![0; MANY], vec![0; MANY]);
-    let mut ours = move |i: usize| -> Count {
+    let mut ours = move |i: usize| -> Written {
         let (note, list): (&Note, &[u8]) = (black_box(&notes[i]), black_box(&lists[i]));
         library::get_splits(note, list, number(Isolated), [true, characters], &mut starts, &mut ends)
     };

@@ -1,14 +1,19 @@
-//! What the comments of `convert_offsets`, of `expand_alignments` and of the struct itself say.
+//! What the comments of `convert_offsets`, of `expand_alignments`, of reading and of the struct itself say.
 
 use super::{code_answers, converts, note_of};
+use crate::library::{self, Offsets, RangeCall};
+use crate::note::Note;
+use crate::refusals::MISSING;
 use crate::tally::Tally;
-use tokenizers::normalizer::Range::{Normalized, Original};
+use std::ops;
+use tokenizers::normalizer::Range::{self, Normalized, Original};
 use tokenizers::NormalizedString;
 
 pub fn compare(tally: &mut Tally) {
     outside_range(tally);
     inside_the_text(tally);
-    cut_letters(tally);
+    cut_characters(tally);
+    readings(tally);
     empty_ranges(tally);
     empty_texts(tally);
     zero_width(tally);
@@ -35,16 +40,52 @@ fn inside_the_text(tally: &mut Tally) {
     converts(tally, &note, Original(2..3), Some(3..3));
 }
 
-fn cut_letters(tally: &mut Tally) {
-    tally.family("a letter that a range cuts is widened to from the cleaned text, and lost from the transcript");
+fn cut_characters(tally: &mut Tally) {
+    tally.family("a character that a range cuts: a cleaned range takes all of it, a transcript range leaves it out");
     let note = NormalizedString::from("aéb");
     for (range, widened, left) in [(0..2, 0..3, 0..1), (1..2, 1..3, 1..1), (2..4, 1..4, 3..4)] {
         converts(tally, &note, Normalized(range.clone()), Some(widened));
         converts(tally, &note, Original(range), Some(left));
     }
-    code_answers(tally, "aéb, cleaned 1..2", Some("é"), note.get_range_original(Normalized(1..2)));
-    code_answers(tally, "aéb, cleaned 1..2", None, note.get_range(Normalized(1..2)));
-    code_answers(tally, "aéb, transcript 1..2", Some(""), note.get_range(Original(1..2)));
+}
+
+/// What a range reads in the cleaned text and in the transcript, by the original and by this library.
+fn reads(tally: &mut Tally, note: &NormalizedString, range: Range<ops::Range<usize>>, said: [Option<&str>; 2]) {
+    let input = format!("{range:?} of {note:?}");
+    code_answers(tally, &input, said, [note.get_range(range.clone()), note.get_range_original(range.clone())]);
+    let ours = [
+        part(note, library::zulmyren_get_range, range.clone(), note.get()),
+        part(note, library::zulmyren_get_range_original, range, note.get_original()),
+    ];
+    code_answers(tally, &input, said.map(|part| part.ok_or(MISSING)), ours);
+}
+
+/// The part of a text that one of this library's readings answers, or its refusal.
+fn part<'a>(
+    note: &NormalizedString,
+    call: RangeCall,
+    range: Range<ops::Range<usize>>,
+    text: &'a str,
+) -> Result<&'a str, u32> {
+    let (of_original, asked) = (matches!(range, Original(_)), range.unwrap());
+    let answer = library::on_range(call, &Note::from(note), of_original, asked.start as u32, asked.end as u32);
+    match answer {
+        Offsets { refusal: 0, start, end } => Ok(&text[start as usize..end as usize]),
+        Offsets { refusal, .. } => Err(refusal),
+    }
+}
+
+fn readings(tally: &mut Tally) {
+    tally.family("half a character is read as nothing, as an empty text or as all of it");
+    let note = NormalizedString::from("aéb");
+    reads(tally, &note, Normalized(1..2), [None, Some("é")]);
+    reads(tally, &note, Original(1..2), [Some(""), None]);
+
+    tally.family("an empty range of the other text is read by its number, past the text or inside a character");
+    let mut cleared = NormalizedString::from("ab");
+    cleared.clear();
+    reads(tally, &cleared, Original(1..1), [None, Some("")]);
+    reads(tally, &note_of("é", "ab", &[(0, 2), (0, 2)]), Normalized(1..1), [Some(""), None]);
 }
 
 fn empty_ranges(tally: &mut Tally) {
@@ -79,7 +120,7 @@ fn gaps(tally: &mut Tally) {
     let mut note = NormalizedString::from("a12b");
     note.replace("12", "").expect("a literal is a regular expression");
     converts(tally, &note, Normalized(0..2), Some(0..4));
-    code_answers(tally, "a12b without 12", Some("a12b"), note.get_range_original(Normalized(0..2)));
+    reads(tally, &note, Normalized(0..2), [Some("ab"), Some("a12b")]);
 }
 
 fn after_replacing(tally: &mut Tally) {
@@ -88,8 +129,8 @@ fn after_replacing(tally: &mut Tally) {
     note.replace("12", "**").expect("a literal is a regular expression");
     converts(tally, &note, Normalized(5..7), Some(6..7));
     converts(tally, &note, Original(5..6), Some(5..5));
-    code_answers(tally, "nest **, cleaned 5..7", Some("2"), note.get_range_original(Normalized(5..7)));
-    code_answers(tally, "nest **, transcript 5..6", Some(""), note.get_range(Original(5..6)));
+    reads(tally, &note, Normalized(5..7), [Some("**"), Some("2")]);
+    reads(tally, &note, Original(5..6), [Some(""), Some("1")]);
 }
 
 fn shifted(tally: &mut Tally) {

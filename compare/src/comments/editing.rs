@@ -105,8 +105,10 @@ fn no_character_left(tally: &mut Tally) {
     let said: Left = ("xyzb", &[(0, 1), (1, 2), (0, 1), (1, 2)]);
     let edit = |note: &mut NormalizedString| note.transform_range(Normalized(0..1), after, 0);
     leaves(tally, &fresh("ab"), edit, (&ranged(0, 1, &after, 0), EXHAUSTED), said);
-    let left = Note::from(&note_of("ab", said.0, said.1));
+    let back = note_of("ab", said.0, said.1);
+    let left = Note::from(&back);
     code_answers(tally, "xyzb", [MISALIGNED; 2], [left.refusal(), library::check_note(&left)]);
+    code_answers(tally, "xyzb, cleaned 1..3", true, panics(|| back.slice(Normalized(1..3))));
     code_answers(tally, "map", true, panics(|| moved("ab").map(|c| c).get().to_owned()));
     refuses(tally, &moved("ab"), &Edit::Map(vec!['a'.into(), 'b'.into()]), EXHAUSTED);
     code_answers(tally, "filter", true, panics(|| moved("ab").filter(|_| true).get().to_owned()));
@@ -180,7 +182,14 @@ fn alignment_of_an_added_character(tally: &mut Tally) {
     tally.family("an added character has the alignment of the old text's character before it, also a removed one");
     transforms(tally, "abc", (0, 3), &[('x', -1), ('y', 1)], 0, ("xy", &[(0, 1), (1, 2)]));
     transforms(tally, "abc", (0, 3), &[('y', 1)], 2, ("y", &[(1, 2)]));
+
+    tally.family("an added character at position 0 has none before it: it has (0,0)");
     transforms(tally, "ab", (0, 0), &[('y', 1)], 0, ("yab", &[(0, 0), (0, 1), (1, 2)]));
+    let mut shorter = fresh("abc");
+    shorter.filter(|c| c != 'a');
+    let one: [Change; 1] = [('y', 1)];
+    let edit = |note: &mut NormalizedString| note.transform_range(Normalized(0..0), one, 0);
+    leaves(tally, &shorter, edit, (&ranged(0, 0, &one, 0), 0), ("ybc", &[(0, 0), (1, 2), (2, 3)]));
 }
 
 /// Were they the transcript's, the position would pass the text's end.
@@ -228,17 +237,25 @@ fn prepending(tally: &mut Tally) {
 fn clearing(tally: &mut Tally) {
     tally.family("clear leaves what is before the first alignment that is not empty");
     let note = moved("aé");
-    code_answers(tally, "clear answers", [3, 3], [note.clone().clear() as u32, cleared(&note)]);
+    code_answers(tally, "clear answers", [3, 3], [note.clone().clear(), cleared(&note)]);
     leaves(tally, &note, |note| _ = note.clear(), (&Edit::Clear, 0), ("a", &[(0, 0)]));
+
+    tally.family("clear passes bytes as the number of characters to skip, and nothing comes of it");
+    code_answers(tally, "clear answers", [2, 2], [fresh("é").clear(), cleared(&fresh("é"))]);
+    leaves(tally, &fresh("é"), |note| _ = note.clear(), (&Edit::Clear, 0), ("", &[]));
+    for skipped in [2, 1, 0] {
+        let edit = |note: &mut NormalizedString| note.transform([], skipped as usize);
+        leaves(tally, &fresh("é"), edit, (&Edit::Transform(vec![], skipped), 0), ("", &[]));
+    }
 }
 
-fn cleared(note: &NormalizedString) -> u32 {
-    Edit::Clear.answer(&Note::from(note), LIMIT).0.before
+fn cleared(note: &NormalizedString) -> usize {
+    Edit::Clear.answer(&Note::from(note), LIMIT).0.before_len
 }
 
 /// The Standard's table of special cases has a sigma at a word's end of its own; `core::str` keeps to it.
 fn final_sigma(tally: &mut Tally) {
-    tally.family("lowercase goes letter by letter: a sigma at a word's end is not the Standard's");
+    tally.family("lowercase goes character by character: a sigma at a word's end is not the Standard's");
     let mut note = fresh("ΟΔΟΣ");
     note.lowercase();
     code_answers(tally, "ΟΔΟΣ", ("οδοσ", "οδος"), (note.get(), &*"ΟΔΟΣ".to_lowercase()));
@@ -253,4 +270,9 @@ fn stripping(tally: &mut Tally) {
     let mut note = moved(" a ");
     note.rstrip();
     code_answers(tally, "rstrip", ("  a", &[(0, 0), (1, 2), (2, 3)][..]), (note.get(), note.alignments()));
+
+    tally.family("rstrip compares characters with bytes, and nothing comes of it");
+    let mut note = fresh("é ");
+    note.rstrip();
+    code_answers(tally, "é and a space", ("é", &[(0, 2), (0, 2)][..]), (note.get(), note.alignments()));
 }

@@ -19,7 +19,7 @@ pub fn compare(tally: &mut Tally) {
 }
 
 fn from_bytes(tally: &mut Tally) {
-    tally.family("bytes_to_char is None for half letters, past the text and at its end, and answers 0..0 on any text");
+    tally.family("bytes_to_char is None for half characters, past the text and at its end, and answers 0..0 always");
     for (text, range, said) in [
         ("é", 0..1, None),
         ("aé", 2..3, None),
@@ -34,9 +34,10 @@ fn from_bytes(tally: &mut Tally) {
 }
 
 fn to_bytes(tally: &mut Tally) {
-    tally.family("char_to_bytes cuts ranges past the text, is None at its end, and panics on reversed ones");
+    tally.family("char_to_bytes cuts ranges that end past the text, is None from its end on, panics on reversed ones");
     for (text, range, said) in [
         ("ab", 0..9, Some(0..2)),
+        ("ab", 5..9, None),
         ("é", 0..2, Some(0..2)),
         ("ab", 1..1, Some(1..1)),
         ("ab", 2..2, None),
@@ -59,7 +60,7 @@ fn ranges_of_chars(tally: &mut Tally) {
 }
 
 fn converter(tally: &mut Tally) {
-    tally.family("the converter: ends past the text, half letters, the text's end");
+    tally.family("the converter: ends past the text, half characters, the text's end");
     for (text, (start, end), said) in [
         ("abc", (0, 3), Some((0, 3))),
         ("abc", (0, 10), Some((0, 2))),

@@ -8,6 +8,7 @@ use crate::places::{self, Given, Place};
 use crate::refusals::BAD_MATCHES;
 use crate::samples::{sound_notes, FILLERS};
 use crate::tally::Tally;
+use regex::Regex;
 use tokenizers::normalizer::Range;
 use tokenizers::pattern::{Invert, Pattern};
 use tokenizers::{NormalizedString, Offsets};
@@ -16,9 +17,12 @@ pub fn compare(tally: &mut Tally) {
     as_transforming(tally);
     on_ranges_as_they_are(tally);
     alignment_of_the_last(tally);
+    alignment_at_the_front(tally);
     characters_of_the_cleaned_text(tally);
+    matches_that_stay(tally);
     lists_that_do_not_cover(tally);
     empty_literal(tally);
+    expressions_on_the_empty_text(tally);
     inverted(tally);
 }
 
@@ -53,6 +57,14 @@ fn fields(note: &NormalizedString) -> Fields<'_> {
     (note.get(), note.alignments())
 }
 
+/// One replacement, by the original and by this library.
+fn replaces(tally: &mut Tally, note: &NormalizedString, places: &[Place], content: &str, said: Fields) {
+    let input = format!("{places:?} by {content} in {note:?}");
+    code_answers(tally, &input, said, fields(&replaced_by(note, places, content)));
+    let ours = made::replaced(&Note::from(note), places, content).map(|note| note.of_the_original());
+    code_answers(tally, &input, Ok(said), ours.as_ref().map(fields).map_err(|&refusal| refusal));
+}
+
 fn as_transforming(tally: &mut Tally) {
     tally.family("replace equals transform_range on each matched range, moved by the earlier changes of length");
     for text in ["", "é", "aé", "éa", "aéb"] {
@@ -73,24 +85,42 @@ fn as_transforming(tally: &mut Tally) {
 fn on_ranges_as_they_are(tally: &mut Tally) {
     tally.family("replace differs from transform_range on each matched range as it is, where a length changed before");
     let (note, places) = (NormalizedString::from("ab"), [((0, 1), true), ((1, 2), true)]);
-    let (code, comment) = (replaced_by(&note, &places, "**"), transformed(&note, &places, "**", false));
-    code_answers(tally, "ab by places", ("****", &[(0, 1), (0, 1), (1, 2), (1, 2)][..]), fields(&code));
+    replaces(tally, &note, &places, "**", ("****", &[(0, 1), (0, 1), (1, 2), (1, 2)]));
+    let comment = transformed(&note, &places, "**", false);
     code_answers(tally, "ab by ranges", ("***b", &[(0, 1), (0, 1), (0, 1), (1, 2)][..]), fields(&comment));
 }
 
 fn alignment_of_the_last(tally: &mut Tally) {
     tally.family("an inserted character has the alignment of the last one under the match, not of the previous one");
-    let code = replaced(&NormalizedString::from("ab"), "b", "x");
-    code_answers(tally, "ab, b by x", ("ax", &[(0, 1), (1, 2)][..]), fields(&code));
-    let code = replaced(&NormalizedString::from("abc"), "abc", "xy");
-    code_answers(tally, "abc by xy", ("xy", &[(2, 3), (2, 3)][..]), fields(&code));
+    let places = [((0, 1), false), ((1, 2), true)];
+    replaces(tally, &NormalizedString::from("ab"), &places, "x", ("ax", &[(0, 1), (1, 2)]));
+    replaces(tally, &NormalizedString::from("abc"), &[((0, 3), true)], "xy", ("xy", &[(2, 3), (2, 3)]));
+}
+
+fn alignment_at_the_front(tally: &mut Tally) {
+    tally.family("a character inserted at position 0 has none before it: it has (0,0)");
+    let places = [((0, 0), true), ((0, 2), false)];
+    replaces(tally, &NormalizedString::from("ab"), &places, "x", ("xab", &[(0, 0), (0, 1), (1, 2)]));
+}
+
+/// By this library too, with the list that it finds itself.
+fn matches_that_stay(tally: &mut Tally) {
+    tally.family("replace looks for matches once, from left to right: others stay, or come to be");
+    for (text, literal, filler, said) in [("anana", "ana", "x", "xna"), ("aab", "ab", "b", "ab")] {
+        let (note, input) = (NormalizedString::from(text), format!("{literal} by {filler} in {text}"));
+        code_answers(tally, &input, said, replaced(&note, literal, filler).get());
+        let mut list = vec![0; 100];
+        let found = library::find_matches(text.as_bytes(), literal.as_bytes(), &mut list);
+        let places = places::read(&list[..found.len]).expect("a whole list");
+        let ours = made::replaced(&Note::from(&note), &places, filler).map(|note| note.normalized);
+        code_answers(tally, &input, Ok(said.as_bytes().to_vec()), ours);
+    }
 }
 
 /// Were they the transcript's, three bytes would be removed of a text of one.
 fn characters_of_the_cleaned_text(tally: &mut Tally) {
     tally.family("the characters that replace retrieves are the cleaned text's, not the original's");
-    let code = replaced(&note_of("漢", "a", &[(0, 3)]), "a", "x");
-    code_answers(tally, "a of 漢, by x", ("x", &[(0, 3)][..]), fields(&code));
+    replaces(tally, &note_of("漢", "a", &[(0, 3)]), &[((0, 1), true)], "x", ("x", &[(0, 3)]));
 }
 
 /// `find_matches` "*must* cover the whole string": `replace` reads matched places alone and keeps what lies between.
@@ -121,6 +151,18 @@ fn empty_literal(tally: &mut Tally) {
         library::find_matches(text.as_bytes(), b"", &mut ours);
         code_answers(tally, text, places::bytes(&[((0, text.len()), false)]), ours.to_vec());
         code_answers(tally, text, text, replaced(&NormalizedString::from(text), "", "x").get());
+    }
+}
+
+/// It matches no character or more, so it matches the empty text.
+fn expressions_on_the_empty_text(tally: &mut Tally) {
+    tally.family("find_matches of a regular expression: the empty text is unmatched, whatever the expression");
+    let expression = Regex::new("a*").expect("a regular expression");
+    for (text, said) in [("", vec![((0, 0), false)]), ("b", vec![((0, 0), true), ((0, 1), false), ((1, 1), true)])] {
+        code_answers(tally, text, said, (&expression).find_matches(text).expect("an expression is found"));
+    }
+    for (text, said) in [("", ""), ("b", "xbx")] {
+        code_answers(tally, text, said, replaced(&NormalizedString::from(text), &expression, "x").get());
     }
 }
 

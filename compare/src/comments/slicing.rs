@@ -1,4 +1,4 @@
-//! What the comments of `slice`, `validate_range` and `original_shift` say.
+//! What the comment of `slice` says.
 
 use super::{code_answers, note_of};
 use crate::made;
@@ -60,9 +60,9 @@ fn none_on_boundaries(tally: &mut Tally) {
     slices(tally, &without("abc", "abc"), Original(0..0), Ok(("", "", 0)));
 }
 
-/// The number is used in the transcript as it is: past it, or inside a letter.
+/// The number is used in the transcript as it is: past it, or inside a character.
 fn empty_slices(tally: &mut Tally) {
-    tally.family("an empty cleaned slice adds its number to the shift, past the transcript and inside a letter too");
+    tally.family("an empty slice adds its number to the shift, past the transcript and inside a character too");
     let mut longer = NormalizedString::from("ab");
     longer.prepend("1234567");
     slices(tally, &longer, Normalized(7..7), Ok(("", "", 7)));
@@ -70,7 +70,7 @@ fn empty_slices(tally: &mut Tally) {
     let wide = note_of("漢", "ab", &[(0, 3), (0, 3)]);
     slices(tally, &wide, Normalized(1..1), Ok(("", "", 1)));
     code_answers(tally, "漢", (1, 1), wide.slice(Normalized(1..1)).map_or((0, 0), |slice| slice.offsets_original()));
-    // Inside a letter of the cleaned text, where the range is of the transcript.
+    // Inside a character of the cleaned text, where the range is of the transcript.
     slices(tally, &note_of("ab", "漢", &[(0, 2); 3]), Original(1..1), Ok(("", "", 1)));
     // Past the limit: what is answered is no note that could be passed again.
     let last = NormalizedString::of_fields("".into(), "abc".into(), vec![(0, 0); 3], LIMIT);
@@ -80,7 +80,7 @@ fn empty_slices(tally: &mut Tally) {
 }
 
 fn transcript_without_text(tally: &mut Tally) {
-    tally.family("a slice of the transcript has no cleaned text where its letters have no place of their own");
+    tally.family("a slice of the transcript has no cleaned text where no alignment lies in its range");
     let mut blanked = NormalizedString::from("nest 12");
     blanked.replace("12", "**").expect("a literal is a regular expression");
     slices(tally, &blanked, Original(5..6), Ok(("1", "", 5)));
@@ -91,7 +91,7 @@ fn transcript_without_text(tally: &mut Tally) {
 }
 
 fn text_without_transcript(tally: &mut Tally) {
-    tally.family("a cleaned slice of letters without width has no transcript, and a transcript slice leaves them out");
+    tally.family("a cleaned slice of empty alignments has no transcript, and a transcript slice leaves them out");
     let before = note_of("ab", "xab", &[(0, 0), (0, 1), (1, 2)]);
     slices(tally, &before, Normalized(0..1), Ok(("", "x", 0)));
     slices(tally, &before, Original(0..1), Ok(("a", "a", 0)));

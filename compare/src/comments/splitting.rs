@@ -1,11 +1,12 @@
-//! What the comments of `NormalizedString::split`, of `PreTokenizedString` and of `get_splits` say.
+//! What the comments of `NormalizedString::split`, of `PreTokenizedString` and of `get_splits` say, tokens aside.
 
 use super::{code_answers, note_of, panics, split_here, splits_here};
 use crate::library;
+use crate::made;
 use crate::note::Note;
 use crate::places::{self, Given, Place};
 use crate::refusals::BAD_MATCHES;
-use crate::split::{at_dashes, BEHAVIORS};
+use crate::split::{self, at_dashes, BEHAVIORS};
 use crate::tally::Tally;
 use tokenizers::normalizer::Range;
 use tokenizers::normalizer::SplitDelimiterBehavior::{
@@ -17,6 +18,8 @@ use tokenizers::{NormalizedString, OffsetReferential, Offsets};
 
 pub fn compare(tally: &mut Tally) {
     removed(tally);
+    five_behaviors(tally);
+    contiguous(tally);
     delimiters_without_a_neighbour(tally);
     empty_places(tally);
     empty_literal(tally);
@@ -26,7 +29,7 @@ pub fn compare(tally: &mut Tally) {
     failed_split(tally);
     cleaned_offsets(tally);
     shifted_pieces(tally);
-    letters_and_bytes(tally);
+    characters_and_bytes(tally);
 }
 
 fn cut(note: &NormalizedString, pattern: impl Pattern, behavior: SplitDelimiterBehavior) -> Vec<NormalizedString> {
@@ -51,6 +54,11 @@ fn removed(tally: &mut Tally) {
     let text = "the-final--countdown";
     splits(tally, text, &at_dashes(text), Removed, &["the", "final", "countdown"]);
     splits(tally, "--", &at_dashes("--"), Removed, &[]);
+}
+
+fn five_behaviors(tally: &mut Tally) {
+    tally.family("split has five behaviours: its comment does not list Contiguous");
+    let text = "the-final--countdown";
     for (behavior, said) in [
         (Isolated, &["the", "-", "final", "-", "-", "countdown"][..]),
         (MergedWithPrevious, &["the-", "final-", "-", "countdown"]),
@@ -58,6 +66,15 @@ fn removed(tally: &mut Tally) {
         (Contiguous, &["the", "-", "final", "--", "countdown"]),
     ] {
         splits(tally, text, &at_dashes(text), behavior, said);
+    }
+}
+
+fn contiguous(tally: &mut Tally) {
+    tally.family("Contiguous joins places that are no delimiters, too");
+    let places = [((0, 1), false), ((1, 2), false)];
+    splits(tally, "ab", &places, Contiguous, &["ab"]);
+    for behavior in [Removed, Isolated, MergedWithPrevious, MergedWithNext] {
+        splits(tally, "ab", &places, behavior, &["a", "b"]);
     }
 }
 
@@ -130,19 +147,24 @@ fn lists_that_do_not_cover(tally: &mut Tally) {
     }
 }
 
-/// What the pieces have of the transcript, put together.
-fn combined(note: &NormalizedString, pattern: impl Pattern, behavior: SplitDelimiterBehavior) -> String {
-    cut(note, pattern, behavior).iter().map(NormalizedString::get_original).collect()
+/// What the pieces have of the transcript, put together, by the original and by this library.
+fn combines(tally: &mut Tally, note: &NormalizedString, literal: &str, behavior: SplitDelimiterBehavior, said: &str) {
+    let input = format!("{literal}, {behavior:?}, {note:?}");
+    let theirs: String = cut(note, literal, behavior).iter().map(NormalizedString::get_original).collect();
+    code_answers(tally, &input, said, &theirs);
+    let places = literal.find_matches(note.get()).expect("a literal is a regular expression");
+    let ours = made::pieces(&Note::from(note), &places::bytes(&places), split::number(behavior));
+    let ours = ours.map(|pieces| pieces.into_iter().flat_map(|piece| piece.original).collect());
+    code_answers(tally, &input, Ok(said.as_bytes().to_vec()), ours);
 }
 
 fn combined_back(tally: &mut Tally) {
     tally.family("the pieces' transcripts do not combine back: what is removed, blanked or shared");
-    code_answers(tally, "a-b, Removed", "ab", combined(&NormalizedString::from("a-b"), "-", Removed).as_str());
+    combines(tally, &NormalizedString::from("a-b"), "-", Removed, "ab");
     let mut blanked = NormalizedString::from("nest 12");
     blanked.replace("12", "**").expect("a literal is a regular expression");
-    code_answers(tally, "nest **", "nest 2", combined(&blanked, "**", Isolated).as_str());
-    let shared = note_of("é", "e-", &[(0, 2), (0, 2)]);
-    code_answers(tally, "e- of é", "éé", combined(&shared, "-", Isolated).as_str());
+    combines(tally, &blanked, "**", Isolated, "nest 2");
+    combines(tally, &note_of("é", "e-", &[(0, 2), (0, 2)]), "-", Isolated, "éé");
 }
 
 fn fewer_splits(tally: &mut Tally) {
@@ -152,6 +174,9 @@ fn fewer_splits(tally: &mut Tally) {
         code_answers(tally, text, 1, splits.pieces().count());
         splits.split(|_, note| note.split("-", Removed)).expect("a literal is a regular expression");
         code_answers(tally, text, 0, splits.pieces().count());
+        let places = "-".find_matches(text).expect("a literal is a regular expression");
+        let note = Note::from(&NormalizedString::from(text));
+        code_answers(tally, text, Ok(vec![]), split_here(&note, &places::bytes(&places), Removed, true));
     }
 }
 
@@ -214,7 +239,7 @@ fn shifted_pieces(tally: &mut Tally) {
     gets(tally, &slice("abcd", 2), Isolated, [true, true], &[(2, 4)]);
 }
 
-fn letters_and_bytes(tally: &mut Tally) {
+fn characters_and_bytes(tally: &mut Tally) {
     tally.family("get_splits in characters: where the converter has no answer the numbers are bytes, in one list");
     let note = NormalizedString::from("éé-é-é");
     let slice = note.slice(Range::Original(2..note.len())).expect("both ends are boundaries");

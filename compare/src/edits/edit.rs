@@ -2,7 +2,7 @@
 //! refusals are judged a second time, from docs/RULES.md.
 
 use crate::guarded::Guarded;
-use crate::library::{self, Count, Lengths, Publishing};
+use crate::library::{self, Cleared, Publishing, Written};
 use crate::note::Note;
 use crate::refusals::{
     BAD_SCRIPT, COUNT_MISMATCH, EXHAUSTED, ILL_FORMED, LENGTH_MISMATCH, MISALIGNED, NOT_BOUNDARY, NO_ROOM, TOO_LONG,
@@ -39,7 +39,7 @@ use Edit::{Append, Clear, Filter, Map, Prepend, Transform, TransformRange};
 /// A note that an edit left, and how long its cleaned text was before, which `clear` alone answers.
 pub struct Made {
     pub note: Note,
-    pub before: u32,
+    pub before: usize,
 }
 
 /// What an edit does to a range of the cleaned text: characters and changes, and how many characters it skips.
@@ -73,7 +73,7 @@ impl Edit {
     }
 
     /// Edits a note of the Rust, and answers what `clear` does; or the refusal.
-    pub fn edit(&self, theirs: &mut NormalizedString) -> Result<u32, u32> {
+    pub fn edit(&self, theirs: &mut NormalizedString) -> Result<usize, u32> {
         if let Some(course) = self.course(theirs)? {
             let part = theirs.get().get(course.cleaned).ok_or(NOT_BOUNDARY)?;
             if starves(part.chars().count(), &course.changes, course.offset) {
@@ -88,7 +88,7 @@ impl Edit {
     }
 
     /// The Rust's call.
-    fn run(&self, note: &mut NormalizedString) -> u32 {
+    fn run(&self, note: &mut NormalizedString) -> usize {
         let given = |index: &Cell<usize>| index.replace(index.get() + 1);
         let index = Cell::new(0);
         match self {
@@ -102,7 +102,7 @@ impl Edit {
             Filter(flags) => _ = note.filter(|_| flags[given(&index)] != 0),
             Append(string) => _ = note.append(from_utf8(string).expect("a judged string")),
             Prepend(string) => _ = note.prepend(from_utf8(string).expect("a judged string")),
-            Clear => return note.clear() as u32,
+            Clear => return note.clear(),
         }
         0
     }
@@ -160,18 +160,17 @@ impl Edit {
     }
 
     /// Our call's answer in so much room, and what it left.
-    pub fn answer(&self, note: &Note, room: usize) -> (Lengths, Note) {
+    pub fn answer(&self, note: &Note, room: usize) -> (Cleared, Note) {
         let (mut text, mut starts, mut ends) = (vec![0; room], vec![0; room], vec![0; room]);
         let answer = self.ours(note, Publishing { text: &mut text, starts: &mut starts, ends: &mut ends });
-        let count = answer.left as usize;
-        text.truncate(count);
-        starts.truncate(count);
-        ends.truncate(count);
+        text.truncate(answer.len);
+        starts.truncate(answer.len);
+        ends.truncate(answer.len);
         (answer, Note { normalized: text, starts, ends, ..note.clone() })
     }
 
-    fn ours(&self, note: &Note, out: Publishing) -> Lengths {
-        let Count { refusal, count } = match self {
+    fn ours(&self, note: &Note, out: Publishing) -> Cleared {
+        let Written { refusal, len } = match self {
             TransformRange(range, script, offset) => library::transform_range(note, *range, script, *offset, out),
             Transform(script, offset) => library::transform(note, script, *offset, out),
             Map(codes) => library::map(note, codes, out),
@@ -180,7 +179,7 @@ impl Edit {
             Prepend(string) => library::prepend(note, string, out),
             Clear => return library::clear(note, out),
         };
-        Lengths { refusal, before: 0, left: count }
+        Cleared { refusal, before_len: 0, len }
     }
 }
 
@@ -297,7 +296,7 @@ pub fn check_beside(
             Ok(_) if room.iter().any(|&room| room < len) => (NO_ROOM, 0, &nothing),
             Ok(left) => (0, left.before, &left.note),
         };
-        let theirs = Lengths { refusal, before, left: left.normalized.len() as u32 };
+        let theirs = Cleared { refusal, before_len: before, len: left.normalized.len() };
         let held = [text.holds(&left.normalized), starts.holds(&left.starts), ends.holds(&left.ends)];
         let unsound = refusal == 0 && left.refusal() != 0;
         let longer = left.normalized.len() > edit.enough(note);

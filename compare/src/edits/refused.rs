@@ -4,7 +4,7 @@ use super::edit::{bytes, check, check_beside, Change, Edit};
 use super::long::EVERY;
 use crate::characters::sequences;
 use crate::every;
-use crate::library::{self, Count, Lengths};
+use crate::library::{self, Cleared, Written};
 use crate::note::{Note, Offset};
 use crate::notes;
 use crate::random::Random;
@@ -324,12 +324,12 @@ fn nothing_anywhere(tally: &mut Tally) {
                 on_nothing!(zulmyren_prepend, text, 0),
             ]
         };
-        let accepted = Count { refusal: 0, count: 0 };
+        let accepted = Written { refusal: 0, len: 0 };
         for ours in ours {
             tally.case(tally::refusal(ours.refusal), ours != accepted, || format!("ours {ours:?} at {address:#x}"));
         }
         let ours = unsafe { on_nothing!(zulmyren_clear) };
-        let accepted = Lengths { refusal: 0, before: 0, left: 0 };
+        let accepted = Cleared { refusal: 0, before_len: 0, len: 0 };
         tally.case(tally::refusal(ours.refusal), ours != accepted, || format!("ours {ours:?} at {address:#x}"));
     }
 }

@@ -1,1 +1,3 @@
--- Laws of what the program gathers and tells.
+-- Laws of what the program gathers and reads.
+pub mod Gathers
+pub mod Started

@@ -42,7 +42,7 @@ pub fn sizes_buffer() -> [u32; ROOM]
 }
 
 // The words of the command line of a program that was started with `count` arguments, its own name among them.
-pub fn gather_arguments(count: usize, words: &mut [u8], sizes: &mut [u32]) -> Gathered
+fn gather_arguments(count: usize, words: &mut [u8], sizes: &mut [u32]) -> Gathered
     requires { ⌜ (room ≡ length (now words)) × (room ≡ length (now sizes)) ⌝ }
     ensures { λ r. ⌜ GatheredWithin r (now (words .exit)) (now (sizes .exit)) ⌝ }
 {
@@ -110,7 +110,7 @@ fn gather_open(fd: i32, words: &mut [u8], sizes: &mut [u32]) -> Gathered
 }
 
 // The words of the file that the argument `FIRST` names.
-pub fn gather_file(words: &mut [u8], sizes: &mut [u32]) -> Gathered
+fn gather_file(words: &mut [u8], sizes: &mut [u32]) -> Gathered
     requires { ⌜ (room ≡ length (now words)) × (room ≡ length (now sizes)) ⌝ }
     ensures { λ r. ⌜ GatheredWithin r (now (words .exit)) (now (sizes .exit)) ⌝ }
 {
@@ -124,4 +124,16 @@ pub fn gather_file(words: &mut [u8], sizes: &mut [u32]) -> Gathered
     let gathered = gather_open(fd, words, sizes);
     libc::close(fd);
     gathered
+}
+
+// The words of all pairs, from the names file or from the command line.
+// An inner function: the buffers are those of `words_buffer` and `sizes_buffer`.
+pub fn gather(count: usize, names: bool, words: &mut [u8], sizes: &mut [u32]) -> Gathered
+    requires { ⌜ (room ≡ length (now words)) × (room ≡ length (now sizes)) ⌝ }
+    ensures { λ r. ⌜ GatheredWithin r (now (words .exit)) (now (sizes .exit)) ⌝ }
+{
+    if names {
+        return gather_file(words, sizes);
+    }
+    gather_arguments(count, words, sizes)
 }

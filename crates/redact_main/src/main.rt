@@ -11,8 +11,7 @@ use buffers::Offset;
 use buffers::equality::same_bytes;
 use from_text::from_text;
 use gathering::Gathered;
-use gathering::gather_arguments;
-use gathering::gather_file;
+use gathering::gather;
 use gathering::sizes_buffer;
 use gathering::words_buffer;
 use libc::STDIN_FILENO;
@@ -71,7 +70,7 @@ fn finish(
         os::fail(b"redact: standard output");
         return;
     }
-    say_written(text.len());
+    say_written(text.len(), alignments);
 }
 
 // The note in `original`, with the literals of all pairs blanked.
@@ -148,13 +147,9 @@ fn argument_is(i: usize, word: &[u8]) -> bool {
 fn run(count: usize, names: bool, alignments: bool, anyway: bool) {
     let mut words = words_buffer();
     let mut sizes = sizes_buffer();
-    let gathered = if names {
-        gather_file(&mut words, &mut sizes)
-    } else {
-        gather_arguments(count, &mut words, &mut sizes)
-    };
-    if let Gathered::Words(w, s) = gathered {
-        read_note(&words[..w], &sizes[..s], alignments, anyway);
+    match gather(count, names, &mut words, &mut sizes) {
+        Gathered::Words(w, s) => read_note(&words[..w], &sizes[..s], alignments, anyway),
+        Gathered::Refused => return,
     }
 }
 

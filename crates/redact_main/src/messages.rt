@@ -43,6 +43,37 @@ pub fn say_blanked(number: usize, count: u32) {
     say(b"\n");
 }
 
+// A hexadecimal digit, as the Unicode Standard writes it.
+fn hex_digit(n: u32) -> u8 {
+    let digit = (n % 16) as u8;
+    if digit < 10 {
+        return b'0' + digit;
+    }
+    b'A' + (digit - 10)
+}
+
+// A code point, as U+00AD: four digits at least.
+fn say_code(code: u32) {
+    say(b"U+");
+    let digits = [
+        hex_digit(code / 0x100000),
+        hex_digit(code / 0x10000),
+        hex_digit(code / 0x1000),
+        hex_digit(code / 0x100),
+        hex_digit(code / 0x10),
+        hex_digit(code),
+    ];
+    if code < 0x10000 {
+        say(&digits[2..]);
+        return;
+    }
+    if code < 0x100000 {
+        say(&digits[1..]);
+        return;
+    }
+    say(&digits);
+}
+
 // An invisible character in a literal that was not found is named.
 pub fn say_not_found(number: usize, literal: &[u8]) {
     say(b"not found: ");
@@ -52,11 +83,10 @@ pub fn say_not_found(number: usize, literal: &[u8]) {
     }
     let first = first_invisible(literal);
     if first < literal.len() {
-        say(b", which has the invisible character U+");
-        io::print_hex(STDERR_FILENO, code_at(literal, first) as u64, 4);
-        say(b" after ");
+        say(b", which has the invisible character ");
+        say_code(code_at(literal, first));
+        say(b" at byte ");
         say_number(first);
-        say(b" bytes");
     }
     say(b"\n");
 }
@@ -77,10 +107,14 @@ pub fn say_filler_found(number: usize, count: u32) {
     say(b"\n");
 }
 
-pub fn say_written(len: usize) {
+// What was written: a text of so many bytes, or its alignments.
+pub fn say_written(len: usize, alignments: bool) {
     say(b"written: ");
+    if alignments {
+        say(b"the alignments of ");
+    }
     say_number(len);
-    say(b" bytes of text\n");
+    say(b" bytes\n");
 }
 
 pub fn say_kept_back() {
