@@ -34,6 +34,7 @@ pub fn compare(report: &mut Report) {
     report.call("the program redact, names from a file", "the same pairs as words", |tally| {
         every_names_file(tally);
         names_files(tally);
+        long_names(tally);
         bad_names_files(tally);
     });
     report.call("the program redact, invisible characters", "char, and a regular expression", invisible_characters);
@@ -444,6 +445,10 @@ fn wrong_use(tally: &mut Tally) {
     }
 }
 
+/// The most bytes of a names file (docs/RULES.md 14.8), and of all words on the command line together.
+const LONGEST_NAMES: usize = 262_143;
+const LONGEST_WORDS: usize = 262_144;
+
 /// The pair of a line, or why it is bad.
 fn pair_of(line: &[u8]) -> Result<Pair<'_>, &'static str> {
     let line = from_utf8(line).map_err(|_| "it is not UTF-8")?;
@@ -457,7 +462,7 @@ fn pair_of(line: &[u8]) -> Result<Pair<'_>, &'static str> {
 
 /// The pairs of a names file, judged a second time; or what is said of its first bad line.
 fn names(file: &[u8]) -> Result<Vec<Pair<'_>>, String> {
-    if file.is_empty() {
+    if file.is_empty() || file.len() > LONGEST_NAMES {
         return Err("redact: the names file...".into());
     }
     let mut pairs = vec![];
@@ -520,6 +525,29 @@ fn names_files(tally: &mut Tally) {
         let pairs: Vec<[String; 2]> = pairs.iter().map(|(literal, filler)| [plain(literal), plain(filler)]).collect();
         let pairs: Vec<Pair> = pairs.iter().map(|[literal, filler]| [literal.as_str(), filler]).collect();
         by_name(tally, if turn % 4 == 0 { What::Script } else { What::Program }, &text, &pairs);
+    }
+}
+
+/// One long filler, and many lines.
+fn long_names(tally: &mut Tally) {
+    tally.family("files and words about the longest that are taken, of one line or pair and of many");
+    for len in LONGEST_NAMES - 1..=LONGEST_NAMES + 2 {
+        let filler = "x".repeat(len - 3);
+        by_file(tally, What::Script, b"a b", format!("a\t{filler}\n").as_bytes());
+        by_file(tally, What::Script, b"a b", format!("q\t{filler}\n").as_bytes());
+        let line = "b\t\n".repeat(1_000);
+        by_file(tally, What::Program, b"a b", format!("a\t{}\n{line}", &filler[line.len()..]).as_bytes());
+    }
+    // An argument has at most 131,071 bytes.
+    for len in LONGEST_WORDS - 1..=LONGEST_WORDS + 1 {
+        let words = ["q".repeat(131_000), "x".repeat(131_000), "b".into(), "y".repeat(len - 262_001)];
+        let words: Vec<&[u8]> = words.iter().map(|word| word.as_bytes()).collect();
+        let asked = Asked { anyway: true, ..TEXT };
+        let wanted = match len > LONGEST_WORDS {
+            true => Wanted { refusal: 0, written: vec![], said: vec!["redact: ...".into()], status: 1 },
+            false => Wanted::of(b"a b", &words, asked),
+        };
+        wanted.judge(tally, asked, &asked.run(b"a b", &Source::Words(&words)), || format!("{len} bytes of words"));
     }
 }
 

@@ -56,6 +56,7 @@ fn tell_fillers(fillers: &[u32]) {
 }
 
 // All of that, in this order.
+// An inner function: the pairs were judged, and there is a count for each.
 pub fn tell_counts(words: &[u8], sizes: &[u32], blanked: &[u32], left: &[u32], fillers: &[u32])
     requires { ⌜ Counted (now words) (now sizes) (now blanked) ⌝ }
 {
