@@ -1,5 +1,5 @@
 -- The claim that a call is a chain of replacements.
-use Prim.Native.Nat.{ℕ, _≤_, min}
+use Prim.Native.Nat.{ℕ, _≤_}
 use mathlib.Core.Path.{_≡_, _∙_, ap, refl, sym}
 use mathlib.Core.Bool.{Bool, true, not, _&&_}
 use mathlib.Core.List.{List, [], _∷_}
@@ -14,16 +14,15 @@ use Rattle.utf8.specs.Formed.{wellFormed}
 use Rattle.note.specs.declared.Refusal.the-variants.{NoRoom}
 use Rattle.note.specs.declared.Verdict.{Verdict}
 use Rattle.note.specs.declared.Verdict.the-variants.{Accepted, Refused as Rejected}
-use Rattle.note.specs.Refusals.{none, meets, also, least, verdict, after, unlessRefused}
+use Rattle.note.specs.Refusals.{none, meets, least, verdict, after, unlessRefused}
 use Rattle.note.specs.Notes.{Note, limit}
-use Rattle.note.specs.Faults.{noteFaults, roomFaults}
+use Rattle.note.specs.Faults.{noteFaults}
 use Rattle.note.proofs.FirstMet.{accepted-meets, accepted-first, accepted-second}
 use Rattle.note.proofs.Faults.{accepted-sound}
 use Rattle.note.proofs.Sound.{length-starts, length-ends}
 use Rattle.find.specs.Finding.{foundBytes}
 use Rattle.replace.specs.Replacing.{replaceFaults, resulting}
 use Rattle.replace.specs.Blanking.{published}
-use Rattle.redact_note.specs.Redacting.{blankedNote}
 use Rattle.redact_note.specs.Chain.{Pair, StepCall, Chain, leftBy, stepOf, stepsOf}
 use Rattle.word_pairs.specs.Words.{wordsOf, inPairs, pairsOf, allFormed}
 use Rattle.redact_all.specs.declared.Report.{Report}

@@ -1,5 +1,5 @@
 -- Laws of the call: inputs that are accepted, the note copied to where the steps are taken, and what is refused and published.
-use Prim.Native.Nat.{ℕ, _+_, _*_, _/_, _≤_, _<_}
+use Prim.Native.Nat.{ℕ, _*_, _/_, _≤_, _<_}
 use mathlib.Core.Path.{_≡_, _∙_, ap, refl, sym}
 use mathlib.Core.Bool.{Bool, true, false, cond, not, _&&_}
 use mathlib.Core.List.{List}
@@ -10,7 +10,6 @@ use lib.Seq.{length-take-le}
 use borrow.Author.Tests.{leb-true, le-leb, lt-leb, not-false}
 use Rattle.buffers.specs.Splice.{splice, overlay}
 use Rattle.buffers.proofs.Splice.{splice-overlay, take-overlay, length-overlay, overlay-long}
-use Rattle.buffers.proofs.Booleans.{and-false-l, and-false-r}
 use Rattle.note.specs.declared.Refusal.{Refusal}
 use Rattle.note.specs.declared.Refusal.the-variants.{TooLong, LengthMismatch, IllFormed, Misaligned, NoRoom}
 use Rattle.note.specs.declared.Verdict.{Verdict}
@@ -23,7 +22,7 @@ use Rattle.note.proofs.FirstMet.{accepted-meets, accepted-first, accepted-secon
 use Rattle.note.proofs.Faults.{accepted-sound}
 use Rattle.note.proofs.Sound.{length-starts, length-ends}
 use Rattle.redact_note.proofs.Redacting.{normalized-short}
-use Rattle.redact_in_place.specs.InPlace.{Held, held}
+use Rattle.redact_in_place.specs.InPlace.{held}
 use Rattle.redact_in_place.proofs.Holding.{text-within, starts-within, ends-within}
 use Rattle.word_pairs.specs.declared.Word.the-variants.{Literal}
 use Rattle.word_pairs.specs.Counts.{wordCounts}

@@ -1,38 +1,37 @@
 -- Laws of one step of a note that was judged: when it fits, what it leaves, and that this can be judged no worse.
-use Prim.Native.Nat.{ℕ, _+_, _*_, _/_, _≤_, min}
-use mathlib.Core.Path.{_≡_, _∙_, ap, refl, sym}
-use mathlib.Core.Bool.{Bool, true, false, _&&_}
-use mathlib.Core.List.{List, [], _∷_}
+use Prim.Native.Nat.{ℕ, _+_, _*_, _≤_, min}
+use mathlib.Core.Path.{_≡_, _∙_, ap, sym}
+use mathlib.Core.Bool.{true, false}
+use mathlib.Core.List.{List}
 use native.Mathlib.Nat.{div-le-self}
 use native.Mathlib.Omega.{arith}
 use lib.Dec.{leb}
-use lib.ListN.{length, take, replicate, length-replicate}
-use borrow.Author.Tests.{le-leb, lt-leb, leb-true}
-use Rattle.buffers.proofs.Cases.{le-or-lt, true-or-false}
+use lib.ListN.{length, take}
+use borrow.Author.Tests.{lt-leb}
+use Rattle.buffers.proofs.Cases.{le-or-lt}
 use Rattle.utf8.specs.Formed.{wellFormed}
 use Rattle.note.specs.declared.Refusal.{Refusal}
 use Rattle.note.specs.declared.Verdict.{Verdict}
 use Rattle.note.specs.declared.Verdict.the-variants.{Accepted, Refused as Rejected}
-use Rattle.note.specs.Refusals.{also, least, verdict, after}
+use Rattle.note.specs.Refusals.{also, least, verdict}
 use Rattle.note.specs.Notes.{Note, fits, limit, Sound}
 use Rattle.note.specs.Faults.{noteFaults, stringFaults, roomFaults}
 use Rattle.note.proofs.FirstMet.{both-accepted}
 use Rattle.note.proofs.Faults.{accepted-sound, enough-room}
-use Rattle.pattern.specs.Entries.{placesOf}
 use Rattle.pattern.specs.Encoding.{roomFor}
 use Rattle.pattern.proofs.Encoding.{room-enough}
 use Rattle.find.specs.Matching.{foundPlaces}
 use Rattle.find.specs.Finding.{foundBytes}
 use Rattle.find.proofs.FoundPlaces.{found-cases, count-longest}
 use Rattle.replace.specs.declared.Publication.the-variants.{Published as Replaced}
-use Rattle.replace.specs.Replacing.{replaced, replaceFaults, Replacing, resulting}
+use Rattle.replace.specs.Replacing.{replaced, replaceFaults}
 use Rattle.replace.proofs.Replaced.{replaced-sound}
 use Rattle.redact_note.specs.declared.Redaction.{Redaction}
 use Rattle.redact_note.specs.declared.Redaction.the-variants.{Published, Refused}
-use Rattle.redact_note.specs.Redacting.{blankedNote, noteRedactFaults, noteInputFaults, roomsFaults, matchCount, NoteRedacted}
+use Rattle.redact_note.specs.Redacting.{noteRedactFaults, noteInputFaults, roomsFaults, matchCount}
 use Rattle.redact_note.specs.Chain.{Pair, leftBy, stepOf}
 use Rattle.redact_note.proofs.Redacting.{normalized-short, replaces}
-use Rattle.redact_note.proofs.Moved.{parts, counted, says-accepted, says-refused}
+use Rattle.redact_note.proofs.Moved.{parts, counted, says-refused}
 use Rattle.redact_in_place.specs.InPlace.{held, InPlace}
 
 string-accepted : (s : List ℕ) → wellFormed s ≡ true → verdict (stringFaults s) ≡ Accepted

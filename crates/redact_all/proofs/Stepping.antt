@@ -9,7 +9,7 @@ use lib.Dec.{leb}
 use lib.ListN.{length, take, drop, getD, set}
 use lib.Seq.{length-take-le}
 use borrow.Author.Tests.{le-leb}
-use Rattle.buffers.specs.Splice.{overlay, part}
+use Rattle.buffers.specs.Splice.{part}
 use Rattle.buffers.proofs.Splice.{Laying, none-laid, piece-laid, all-laid, store-one}
 use Rattle.utf8.specs.Formed.{wellFormed}
 use Rattle.note.specs.declared.Refusal.{Refusal}

@@ -1,20 +1,19 @@
 -- Laws of what is told in the end: laid in front of the passed buffers, and counted there.
 use Prim.Native.Nat.{ℕ, _+_, _/_, _≤_, _<_}
-use mathlib.Core.Path.{_≡_, _∙_, ap, refl, sym}
+use mathlib.Core.Path.{_≡_, _∙_, ap, sym}
 use mathlib.Core.List.{List}
 use native.Mathlib.Omega.{arith}
 use lib.ListN.{length, take, getD, set}
 use Rattle.buffers.specs.Splice.{splice, overlay}
-use Rattle.buffers.proofs.Splice.{Written, one-more, all-written, splice-overlay, take-overlay, overlay-long, length-overlay}
+use Rattle.buffers.proofs.Splice.{Written, one-more, all-written, splice-overlay, take-overlay, overlay-long}
 use Rattle.word_pairs.specs.declared.Word.{Word}
 use Rattle.word_pairs.specs.declared.Word.the-variants.{Literal, Filler}
 use Rattle.word_pairs.specs.Words.{pairsOf}
-use Rattle.word_pairs.specs.Counts.{wordCounts, zeroCount, someCount, Countable}
+use Rattle.word_pairs.specs.Counts.{wordCounts, zeroCount, someCount}
 use Rattle.word_pairs.proofs.Words.{length-pairs}
 use Rattle.word_pairs.proofs.Counts.{length-counts}
-use Rattle.redact_all.specs.declared.Report.{Report}
 use Rattle.redact_all.specs.RedactAll.{AllBuffers, buffers}
-use Rattle.redact_all.specs.Stepping.{Tellable, Told, reported}
+use Rattle.redact_all.specs.Stepping.{Told}
 
 module _ {s d₀ d : List ℕ} {j : ℕ} (w : Written s d₀ 0 d j) where
   pub one-front : {x : ℕ} → length s ≤ length d₀ → j < length s → x ≡ getD s j 0 → Written s d₀ 0 (set d j x) (j + 1)

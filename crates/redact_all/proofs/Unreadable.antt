@@ -1,17 +1,16 @@
 -- The claim that nothing is left: no match is counted exactly where the literal occurs nowhere.
 use Prim.Native.Nat.{ℕ, _+_, _-_, _≤_, _<_}
 use mathlib.Core.Path.{_≡_, _∙_, ap, refl, sym}
-use mathlib.Core.Bool.{Bool, true, false}
+use mathlib.Core.Bool.{true, false}
 use mathlib.Core.List.{List, [], _∷_}
 use native.Mathlib.Omega.{arith}
 use lib.Dec.{eqb}
 use lib.ListN.{length, take}
-use borrow.Author.Tests.{eq-eqb, ne-eqb, eqb-true, eqb-false}
+use borrow.Author.Tests.{eq-eqb, eqb-true}
 use Rattle.buffers.specs.Splice.{overlay}
 use Rattle.buffers.proofs.Splice.{take-overlay}
 use Rattle.buffers.proofs.Cases.{le-or-lt, true-or-false, clash}
 use Rattle.note.specs.declared.Verdict.{Verdict}
-use Rattle.note.specs.declared.Verdict.the-variants.{Accepted}
 use Rattle.note.specs.Refusals.{after}
 use Rattle.find.specs.Matching.{occursAt, firstFrom, foundPlaces, FirstMatch}
 use Rattle.find.specs.Searching.{firstMatch}
@@ -19,14 +18,14 @@ use Rattle.find.proofs.Occurs.{occurs-inside}
 use Rattle.find.proofs.FirstFrom.{first-leftmost, first-of-none, first-of-some}
 use Rattle.redact_note.specs.Redacting.{matchCount}
 use Rattle.redact_note.specs.Chain.{Pair}
-use Rattle.redact_note.proofs.MatchCount.{Counting, none-counted, next-counted}
+use Rattle.redact_note.proofs.MatchCount.{none-counted, next-counted}
 use Rattle.word_pairs.specs.declared.Word.the-variants.{Literal}
 use Rattle.word_pairs.specs.Words.{pairsOf}
 use Rattle.word_pairs.specs.Counts.{wordCounts, zeroCount, someCount}
 use Rattle.word_pairs.proofs.Counts.{zeros-few}
 use Rattle.redact_all.specs.declared.Report.{Report}
 use Rattle.redact_all.specs.Steps.{publishedBy, leftCounts}
-use Rattle.redact_all.specs.RedactAll.{AllRedacted, Unreadable, EachUnreadable, NothingLeft, reportOf}
+use Rattle.redact_all.specs.RedactAll.{Unreadable, EachUnreadable, NothingLeft, reportOf}
 use Rattle.redact_all.proofs.Chained.{says-report}
 
 -- one literal

@@ -1,11 +1,10 @@
 -- Laws of `Held` and `InPlace`: what a call has published fits the buffers that hold the note, and is held there.
 use Prim.Native.Nat.{ℕ, _+_, _≤_}
-use mathlib.Core.Path.{_≡_, _∙_, sym}
+use mathlib.Core.Path.{_≡_, _∙_}
 use mathlib.Core.List.{List}
 use native.Mathlib.Omega.{arith}
 use lib.ListN.{length, take}
 use lib.Seq.{length-take-le}
-use Rattle.note.specs.Notes.{limit}
 use Rattle.redact_note.specs.declared.Redaction.{Redaction}
 use Rattle.redact_note.specs.declared.Redaction.the-variants.{Published}
 use Rattle.redact_note.proofs.Moved.{Fits, call-fits}
@@ -38,9 +37,3 @@ module _ {size : ℕ} {text starts ends : List ℕ} (h : Held size text starts e
 
   pub ends-within : size ≤ length ends
   ends-within = omega (arith, h .size-most, h .ends-long)
-
-  pub columns-fit : (length (take size starts) ≡ length (take size ends)) × (length (take size starts) ≤ limit)
-  columns-fit =
-      let s : length (take size starts) ≡ size = length-take-le size starts starts-within in
-      let e : length (take size ends) ≡ size = length-take-le size ends ends-within in
-      (s ∙ sym e, omega (arith, s, h .size-most))

@@ -18,7 +18,7 @@ use Rattle.word_pairs.specs.declared.Word.{Word}
 use Rattle.word_pairs.specs.declared.Word.the-variants.{Literal, Filler}
 use Rattle.word_pairs.specs.Words.{pairsOf, pairCut}
 use Rattle.word_pairs.specs.Counts.{wordIn, wordCounts, zeroCount, Countable}
-use Rattle.word_pairs.proofs.Words.{At, even-at, next-at, pairs-at, pairs-end, length-pairs, both-read}
+use Rattle.word_pairs.proofs.Words.{At, even-at, next-at, pairs-at, pairs-end, length-pairs}
 
 pub length-counts : (which : Word) (text : List ℕ) (ps : List Pair) → length (wordCounts which text ps) ≡ length ps
 unfolding wordCounts

@@ -1,5 +1,4 @@
 -- All of them without those that are 0.
-use mathlib.Core.Path.{ap}
 use native.Mathlib.Omega.{arith}
 use borrow.Author.Needs.{needs}
 use Rattle.word_pairs.proofs.Counts.{zeros-few}

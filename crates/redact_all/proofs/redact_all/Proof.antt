@@ -1,5 +1,5 @@
 -- The inputs are judged, the steps are taken, the rooms are judged; past all that everything is told.
-use mathlib.Core.Path.{refl, sym}
+use mathlib.Core.Path.{sym}
 use native.Mathlib.Omega.{arith}
 use lib.Seq.{length-take-le}
 use borrow.Author.Needs.{needs}

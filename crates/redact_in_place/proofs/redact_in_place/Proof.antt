@@ -1,11 +1,7 @@
 -- The call, and what it has published copied to where the note was.
-use Prim.Native.Nat.{ℕ, _+_, _*_}
 use mathlib.Core.Path.{_∙_, sym}
-use lib.ListN.{length-replicate}
 use lib.Seq.{length-take-le}
 use borrow.Author.Needs.{needs}
-use Rattle.note.specs.Notes.{limit}
-use Rattle.pattern.specs.Encoding.{roomFor}
 use Rattle.redact_note.proofs.Moved.{call-fits, moved-refused, moved-published}
 use Rattle.redact_in_place.proofs.Holding.{text-copied, starts-copied, ends-copied, text-within, starts-within, ends-within}
 use Rattle.redact_in_place.proofs.redact_in_place.Statement.{statement}

@@ -1,5 +1,4 @@
 -- By which word is asked for.
-use mathlib.Core.Path.{_∙_, sym}
 use borrow.Author.Needs.{needs}
 use Rattle.word_pairs.proofs.Counts.{literal-counted, filler-counted}
 use Rattle.word_pairs.proofs.count_pair.Statement.{statement}

@@ -1,5 +1,4 @@
 -- The matches from the first one on; they are fewer than the text's bytes.
-use mathlib.Core.Path.{refl}
 use native.Mathlib.Omega.{arith}
 use borrow.Author.Needs.{needs}
 use Rattle.redact_note.proofs.MatchCount.{found-matched}

@@ -1,7 +1,6 @@
 -- Each turn counts one pair.
 use Prim.Native.Nat.{_+_, _*_, _-_, _/_}
 use native.Mathlib.Omega.{arith}
-use borrow.Author.Needs.{needs}
 use lib.ListN.{length}
 use Rattle.word_pairs.proofs.Words.{both-read, next-cut}
 use Rattle.word_pairs.proofs.Counts.{Counted, none-counted, column-room, one-counted, all-counted}

@@ -1,6 +1,5 @@
 -- Each turn counts one number.
 use Prim.Native.Nat.{_-_}
-use mathlib.Core.Path.{refl}
 use mathlib.Core.Logic.{⊎-elim}
 use native.Mathlib.Omega.{arith}
 use lib.ListN.{length}
