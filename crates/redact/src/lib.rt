@@ -224,8 +224,8 @@ fn match_count(text: &[u8], literal: &[u8], first: usize, content_len: usize, si
 }
 
 // Blanks every match of the literal in the starting note of the text: what is published is in front of `out`,
-// `out_starts` and `out_ends`; how many matches gave way is answered too. It judges, in this order: `TooLong` (the text), `IllFormed` (text, literal or content),
-// `NoRoom`.
+// `out_starts` and `out_ends`. It answers how many bytes that has, and how many matches gave way. It judges, in this
+// order: `TooLong` (the text), `IllFormed` (text, literal or content), `NoRoom`.
 pub fn redact(
     text: &[u8],
     literal: &[u8],

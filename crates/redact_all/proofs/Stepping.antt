@@ -27,6 +27,7 @@ use Rattle.redact_note.proofs.Moved.{call-fits}
 use Rattle.redact_in_place.specs.InPlace.{Held, held, InPlace}
 use Rattle.redact_in_place.proofs.Holding.{left-held}
 use Rattle.word_pairs.specs.Words.{wordsOf, pairsOf, pairCut, allFormed}
+use Rattle.word_pairs.proofs.Judging.{formed-cons}
 use Rattle.word_pairs.proofs.Words.{At, even-at, next-at, pairs-at, pairs-end, words-at, both-read, length-pairs}
 use Rattle.redact_all.specs.declared.Steps.the-variants.{Left, Short}
 use Rattle.redact_all.specs.Steps.{publishedBy, stepsFit, blankedCounts}
@@ -94,10 +95,6 @@ none-stepped {original} {shift} {size} {bytes} {sizes} {text} {starts} {ends} {c
       laid = none-laid (blankedCounts (pairsOf bytes sizes) (held original shift size text starts ends)) counts
           (omega (arith, length-blanked (pairsOf bytes sizes) (held original shift size text starts ends), length-pairs bytes sizes, r .counts-room));
     }
-
-formed-cons : (word : List ℕ) (words : List (List ℕ)) → allFormed (word ∷ words) ≡ (wellFormed word && allFormed words)
-unfolding allFormed
-formed-cons word words = refl
 
 module _ {n : Note} {original : List ℕ} {shift : ℕ} {bytes sizes counts₀ text starts ends counts : List ℕ} {size at k : ℕ} (s : Stepping n original shift bytes sizes counts₀ text starts ends counts size at k) where
   module _ (h : k < length sizes / 2) where

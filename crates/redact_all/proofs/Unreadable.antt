@@ -22,7 +22,7 @@ use Rattle.redact_note.proofs.MatchCount.{none-counted, next-counted}
 use Rattle.word_pairs.specs.declared.Word.the-variants.{Literal}
 use Rattle.word_pairs.specs.Words.{pairsOf}
 use Rattle.word_pairs.specs.Counts.{wordCounts, zeroCount, someCount}
-use Rattle.word_pairs.proofs.Counts.{zeros-few}
+use Rattle.word_pairs.proofs.Counts.{counts-cons, counts-nil, zeros-few}
 use Rattle.redact_all.specs.declared.Report.{Report}
 use Rattle.redact_all.specs.Steps.{publishedBy, leftCounts}
 use Rattle.redact_all.specs.RedactAll.{Unreadable, EachUnreadable, NothingLeft, reportOf}
@@ -59,14 +59,6 @@ module _ (text literal : List ℕ) where
 
 -- all of them
 module _ (text : List ℕ) where
-  counts-cons : (p : Pair) (ps : List Pair) → wordCounts Literal text (p ∷ ps) ≡ matchCount (foundPlaces text (p .literal)) ∷ wordCounts Literal text ps
-  unfolding wordCounts
-  counts-cons p ps = refl
-
-  counts-nil : wordCounts Literal text [] ≡ []
-  unfolding wordCounts
-  counts-nil = refl
-
   some-first : (x : ℕ) (xs : List ℕ) → someCount (x ∷ xs) ≡ 0 → (x ≡ 0) × (someCount xs ≡ 0)
   unfolding zeroCount
   some-first x xs none =
@@ -82,14 +74,14 @@ module _ (text : List ℕ) where
   unfolding EachUnreadable
   each-unread [] none = tt
   each-unread (p ∷ ps) none =
-      let both = some-first (matchCount (foundPlaces text (p .literal))) (wordCounts Literal text ps) (sym (ap someCount (counts-cons p ps)) ∙ none) in
+      let both = some-first (matchCount (foundPlaces text (p .literal))) (wordCounts Literal text ps) (sym (ap someCount (counts-cons Literal text p ps)) ∙ none) in
       ((λ some i. none-read text (p .literal) some (both .0) i), each-unread ps (both .1))
 
   none-each : (ps : List Pair) → EachUnreadable text ps → someCount (wordCounts Literal text ps) ≡ 0
   unfolding EachUnreadable zeroCount
-  none-each [] unread = ap someCount counts-nil
+  none-each [] unread = ap someCount (counts-nil Literal text)
   none-each (p ∷ ps) unread =
-      ap someCount (counts-cons p ps) ∙ some-none (matchCount (foundPlaces text (p .literal))) (wordCounts Literal text ps) (unread-none text (p .literal) (unread .0)) (none-each ps (unread .1))
+      ap someCount (counts-cons Literal text p ps) ∙ some-none (matchCount (foundPlaces text (p .literal))) (wordCounts Literal text ps) (unread-none text (p .literal) (unread .0)) (none-each ps (unread .1))
 
 pub nothing-left : NothingLeft
 nothing-left most n bytes sizes b₀ report b call =

@@ -25,11 +25,11 @@ unfolding wordCounts
 length-counts which text [] = refl
 length-counts which text (p ∷ ps) = omega (arith, length-counts which text ps)
 
-counts-cons : (which : Word) (text : List ℕ) (p : Pair) (ps : List Pair) → wordCounts which text (p ∷ ps) ≡ matchCount (foundPlaces text (wordIn which p)) ∷ wordCounts which text ps
+pub counts-cons : (which : Word) (text : List ℕ) (p : Pair) (ps : List Pair) → wordCounts which text (p ∷ ps) ≡ matchCount (foundPlaces text (wordIn which p)) ∷ wordCounts which text ps
 unfolding wordCounts
 counts-cons which text p ps = refl
 
-counts-nil : (which : Word) (text : List ℕ) → wordCounts which text [] ≡ []
+pub counts-nil : (which : Word) (text : List ℕ) → wordCounts which text [] ≡ []
 unfolding wordCounts
 counts-nil which text = refl
 

@@ -30,7 +30,7 @@ and-again : (a b c : Bool) → ((a && b) && c) ≡ (a && (b && c))
 and-again true b c = refl
 and-again false b c = refl
 
-formed-cons : (word : List ℕ) (words : List (List ℕ)) → allFormed (word ∷ words) ≡ (wellFormed word && allFormed words)
+pub formed-cons : (word : List ℕ) (words : List (List ℕ)) → allFormed (word ∷ words) ≡ (wellFormed word && allFormed words)
 unfolding allFormed
 formed-cons word words = refl
 
