@@ -86,8 +86,9 @@
  *   and searches the whole note again for each pair; and for each pair it clears some 1,000,000 bytes of its stack,
  *   however short the note is.
  *   Stack: zulmyren_redact_all takes some 1,600,000 bytes and zulmyren_char_offsets_all some 70,000, whatever they are
- *   passed. Every other call takes a few thousand at most. Some systems give a thread less than zulmyren_redact_all
- *   takes. Give such a thread a stack of 2 MiB or more.
+ *   passed. Every other call takes a few thousand at most. In zulmyren_lowercase 1,536 of these are a table that the
+ *   call makes. Some systems give a thread less than zulmyren_redact_all takes. Give such a thread a stack of 2 MiB or
+ *   more.
  */
 #ifndef ZULMYREN_H
 #define ZULMYREN_H
@@ -97,9 +98,9 @@
 #include <stdint.h>
 
 #define ZULMYREN_VERSION_MAJOR 0
-#define ZULMYREN_VERSION_MINOR 10
+#define ZULMYREN_VERSION_MINOR 11
 #define ZULMYREN_VERSION_PATCH 0
-#define ZULMYREN_VERSION "0.10.0"
+#define ZULMYREN_VERSION "0.11.0"
 
 #ifdef __cplusplus
 extern "C" {
@@ -490,13 +491,13 @@ zulmyren_redactions zulmyren_redact_all(
  * The characters of the commands take the place of the whole range: what no command came to is gone too, and an empty
  * script removes the range.
  *
- * THE WHOLE RANGE is what zulmyren_transform, zulmyren_map, zulmyren_filter and zulmyren_clear edit. It is what
- * zulmyren_convert_offsets answers for the whole transcript: from the first byte of the cleaned text whose alignment
- * is not empty up to the text's end. Of a note as zulmyren_from_text made it that is all of the text. Bytes at the
- * front with empty alignments are not in it, and stay: zulmyren_prepend of an empty string leaves such bytes. Where all
- * alignments are empty the range is empty: it is at the text's end, or at 0 where the transcript is empty. So all of
- * the text stays. Where the cleaned text is empty and the transcript is not, there is no range, and nothing is done.
- * ==== */
+ * THE WHOLE RANGE is what zulmyren_transform, zulmyren_map, zulmyren_lowercase, zulmyren_filter and zulmyren_clear
+ * edit. It is what zulmyren_convert_offsets answers for the whole transcript: from the first byte of the cleaned text
+ * whose alignment is not empty up to the text's end. Of a note as zulmyren_from_text made it that is all of the text.
+ * Bytes at the front with empty alignments are not in it, and stay: zulmyren_prepend of an empty string leaves such
+ * bytes. Where all alignments are empty the range is empty: it is at the text's end, or at 0 where the transcript is
+ * empty. So all of the text stays. Where the cleaned text is empty and the transcript is not, there is no range, and
+ * nothing is done. ==== */
 
 /* The commands of a script. */
 enum { ZULMYREN_REPLACE = 1, ZULMYREN_ADD = 2, ZULMYREN_REPLACE_REMOVE = 3 };
@@ -534,6 +535,23 @@ zulmyren_written zulmyren_map(
     const uint8_t *original, size_t original_len, const uint8_t *normalized, size_t normalized_len,
     const uint16_t *starts, size_t starts_len, const uint16_t *ends, size_t ends_len, uint32_t original_shift,
     const uint32_t *codes, size_t codes_len,
+    uint8_t *out, size_t out_len,
+    uint16_t *out_starts, size_t out_starts_len, uint16_t *out_ends, size_t out_ends_len);
+
+/* Makes the cleaned text lowercase (Rust: lowercase), for characters up to U+017F: the Unicode blocks Basic Latin,
+ * Latin-1 Supplement and Latin Extended-A. A character becomes its lowercase letter (UnicodeData.txt, field 13), and
+ * stays where it has none. The new character has the alignment of the old one, and as many bytes.
+ * ONE BECOMES TWO: U+0130, a capital I with a dot above, becomes i and U+0307, the dot. Both have its alignment. They
+ * have three bytes together, and it had two. So len is normalized_len and one more for each U+0130.
+ * NOTHING ABOVE U+017F CHANGES, even where Unicode has a lowercase letter: U+0391 (Greek), U+0410 (Cyrillic), U+1E9E,
+ * and U+212A, which looks like K.
+ * To make the result lowercase again changes nothing (proved: LowercasedTwice).
+ * Refusals: 2, 3, 1, 4, 7 (the first alignment is empty: its character is not in the whole range), 9 (any of the three
+ * buffers is too small, or len would be over 65,535).
+ * Room, always enough: normalized_len + normalized_len / 2. */
+zulmyren_written zulmyren_lowercase(
+    const uint8_t *original, size_t original_len, const uint8_t *normalized, size_t normalized_len,
+    const uint16_t *starts, size_t starts_len, const uint16_t *ends, size_t ends_len, uint32_t original_shift,
     uint8_t *out, size_t out_len,
     uint16_t *out_starts, size_t out_starts_len, uint16_t *out_ends, size_t out_ends_len);
 
@@ -1085,6 +1103,14 @@ static inline zulmyren_written zulmyren_note_map(
         note->original, note->original_len, note->normalized, note->normalized_len,
         note->starts, note->starts_len, note->ends, note->ends_len, note->original_shift,
         codes, codes_len,
+        out->text, out->text_len, out->starts, out->starts_len, out->ends, out->ends_len);
+}
+
+static inline zulmyren_written zulmyren_note_lowercase(const zulmyren_note *note, const zulmyren_output *out)
+{
+    return zulmyren_lowercase(
+        note->original, note->original_len, note->normalized, note->normalized_len,
+        note->starts, note->starts_len, note->ends, note->ends_len, note->original_shift,
         out->text, out->text_len, out->starts, out->starts_len, out->ends, out->ends_len);
 }
 

@@ -71,8 +71,8 @@ static zulmyren_output out;
 static zulmyren_alignments_output alignments;
 static zulmyren_list_output list_out;
 
-/* nest 12, aéb with a shift of 10, and the longest text of é. */
-static zulmyren_note nest, shifted, longest;
+/* nest 12, aéb with a shift of 10, the longest text of é, and AÉİ with the Kelvin sign after it. */
+static zulmyren_note nest, shifted, longest, capitals;
 
 static uint8_t long_text[ZULMYREN_LIMIT];
 
@@ -324,6 +324,19 @@ static void map(void)
     EXPECT(zulmyren_note_map(&shifted, codes, 2, &out).refusal == ZULMYREN_MISCOUNTED);
 }
 
+/* The Kelvin sign stays. */
+static void lowercase(void)
+{
+    zulmyren_output small = out;
+    zulmyren_written answer = zulmyren_note_lowercase(&capitals, &out);
+    EXPECT(answer.refusal == 0 && answer.len == 9 && wrote("a\xC3\xA9i\xCC\x87\xE2\x84\xAA", 5, 8));
+    EXPECT(starts[3] == 3 && ends[3] == 5 && starts[4] == 3 && ends[4] == 5 && starts[5] == 3 && ends[5] == 5);
+    small.text_len = 8;
+    EXPECT(zulmyren_note_lowercase(&capitals, &small).refusal == ZULMYREN_NO_ROOM);
+    answer = zulmyren_note_lowercase(&longest, &out);
+    EXPECT(answer.refusal == 0 && answer.len == ZULMYREN_LIMIT - 1 && memcmp(text, long_text, answer.len) == 0);
+}
+
 static void filter(void)
 {
     static const uint8_t flags[3] = {0, 1, 0};
@@ -401,6 +414,7 @@ static void prepare(void)
     make_note(&shifted, "a\xC3\xA9" "b", 4);
     shifted.original_shift = 10;
     make_note(&longest, long_text, ZULMYREN_LIMIT - 1);
+    make_note(&capitals, "A\xC3\x89\xC4\xB0\xE2\x84\xAA", 8);
     out.text = text, out.starts = starts, out.ends = ends;
     out.text_len = out.starts_len = out.ends_len = ZULMYREN_LIMIT;
     alignments.starts = starts, alignments.ends = ends;
@@ -434,6 +448,7 @@ int main(void)
     RUN(transform_range, FEW);
     RUN(transform, FEW);
     RUN(map, FEW);
+    RUN(lowercase, FEW);
     RUN(filter, FEW);
     RUN(append, FEW);
     RUN(prepend, FEW);

@@ -207,6 +207,12 @@ zulmyren_written zulmyren_map(NOTE, const uint32_t *p, size_t p_len, OUT)
     return written();
 }
 
+zulmyren_written zulmyren_lowercase(NOTE, OUT)
+{
+    KEEP(NOTE_PASSED, OUT_PASSED);
+    return written();
+}
+
 zulmyren_written zulmyren_filter(NOTE, BYTES, OUT)
 {
     KEEP(NOTE_PASSED, BYTES_PASSED, OUT_PASSED, 2);
@@ -542,6 +548,7 @@ static void edits(void)
     CHECK(is_written(zulmyren_note_append(&note, string, &out)) && in_order(1) && kept[kept_len - 1] == 3);
     CHECK(is_written(zulmyren_note_prepend(&note, string, &out)) && in_order(1) && kept[kept_len - 1] == 4);
     at = 1, note = next_note(), out = next_output();
+    CHECK(is_written(zulmyren_note_lowercase(&note, &out)) && in_order(0));
     cleared = zulmyren_note_clear(&note, &out);
     CHECK(in_order(0) && cleared.refusal == 71 && cleared.before_len == 72 && cleared.len == 73);
 }

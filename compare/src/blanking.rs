@@ -74,7 +74,7 @@ pub fn expected(one: &Note, other: &Note, list: &[u8], filler: &[u8]) -> Compari
     }
 }
 
-fn compare_notes(tally: &mut Tally, [one, other]: [&Note; 2], list: &[u8], filler: &[u8], wanted: Comparison) {
+pub fn compare_notes(tally: &mut Tally, [one, other]: [&Note; 2], list: &[u8], filler: &[u8], wanted: Comparison) {
     let ours = library::published_alike(one, other, list, filler);
     tally.case(tally::refusal(ours.refusal), ours != wanted, || {
         let (list, filler) = (hex(list), hex(filler));

@@ -126,7 +126,7 @@ fn convert_every_range(tally: &mut Tally, call: &Call, sample: &Sample) {
     }
 }
 
-fn convert_any_ranges(tally: &mut Tally, call: &Call, sample: &Sample, count: usize, random: &mut Random) {
+pub fn convert_any_ranges(tally: &mut Tally, call: &Call, sample: &Sample, count: usize, random: &mut Random) {
     for of_original in [false, true] {
         for _ in 0..count {
             convert(tally, call, sample, of_original, sample.any_range(of_original, random));
@@ -421,7 +421,7 @@ fn lists_on_any_notes(tally: &mut Tally) {
     }
 }
 
-fn convert_any_list(tally: &mut Tally, sample: &Sample, longest: usize, random: &mut Random) {
+pub fn convert_any_list(tally: &mut Tally, sample: &Sample, longest: usize, random: &mut Random) {
     for of_original in [false, true] {
         let count = random.below(longest + 1);
         let ranges: Vec<(u32, u32)> = (0..count).map(|_| sample.any_range(of_original, random)).collect();

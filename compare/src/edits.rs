@@ -1,9 +1,11 @@
-//! Editing beside `transform_range`, `transform`, `map`, `filter`, `append`, `prepend` and `clear`. Where a command
-//! is to replace a character and none is left, the Rust panics or goes on past the range: there characters are counted.
+//! Editing beside `transform_range`, `transform`, `map`, `filter`, `append`, `prepend`, `clear` and `lowercase`. Where
+//! a command is to replace a character and none is left, the Rust panics or goes on past the range: there characters
+//! are counted.
 
 mod carried;
 mod edit;
 mod long;
+mod lowercase;
 mod refused;
 mod short;
 
@@ -40,7 +42,13 @@ pub fn compare(report: &mut Report) {
         short::every_clear(tally);
         long::any_clear(tally);
     });
-    report.call("the seven edits", "the Rust's and a second judge", |tally| {
+    report.call("zulmyren_lowercase", "NormalizedString::lowercase", |tally| {
+        lowercase::compare(tally);
+        short::every_lowercase(tally);
+        long::any_letters(tally);
+        carried::after_lowercase(tally);
+    });
+    report.call("the eight edits", "the Rust's and a second judge", |tally| {
         long::around_the_limit(tally);
         refused::compare(tally);
         carried::compare(tally);

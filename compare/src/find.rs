@@ -78,7 +78,7 @@ fn rooms(len: usize) -> Vec<usize> {
     vec![len, len + 7, len.saturating_sub(1), len.saturating_sub(5), 0]
 }
 
-fn find(tally: &mut Tally, text: &[u8], literal: &[u8], rooms: impl FnOnce(usize) -> Vec<usize>) {
+pub fn find(tally: &mut Tally, text: &[u8], literal: &[u8], rooms: impl FnOnce(usize) -> Vec<usize>) {
     let list = expected(text, literal);
     let both = from_utf8(text).ok().zip(from_utf8(literal).ok()).filter(|_| text.len() <= LIMIT);
     let their_list = both.and_then(|(text, literal)| theirs(text, literal)).map(|places| places::bytes(&places));

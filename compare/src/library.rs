@@ -96,6 +96,7 @@ calls! {
     fn zulmyren_append(note, read u8, write u8, write Offset, write Offset) -> Written;
     fn zulmyren_prepend(note, read u8, write u8, write Offset, write Offset) -> Written;
     fn zulmyren_clear(note, write u8, write Offset, write Offset) -> Cleared;
+    fn zulmyren_lowercase(note, write u8, write Offset, write Offset) -> Written;
 }
 
 /// How many letters there are, or a refusal beside 0.
@@ -335,6 +336,10 @@ pub fn prepend(note: &Note, string: &[u8], out: Publishing) -> Written {
 
 pub fn clear(note: &Note, out: Publishing) -> Cleared {
     unsafe { pass!(zulmyren_clear; note note, write out.text, write out.starts, write out.ends) }
+}
+
+pub fn lowercase(note: &Note, out: Publishing) -> Written {
+    unsafe { pass!(zulmyren_lowercase; note note, write out.text, write out.starts, write out.ends) }
 }
 
 pub fn replace(note: &Note, list: &[u8], filler: &[u8], out: Publishing) -> Written {

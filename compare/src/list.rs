@@ -70,6 +70,7 @@ replayed! {
     Append "append",
     Prepend "prepend",
     Clear "clear",
+    Lowercase "lowercase",
 }
 
 /// The answers of one call.

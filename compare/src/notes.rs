@@ -215,18 +215,31 @@ pub const FAULTS: [fn(&mut Note); 9] = [
     |note| note.ends[0] = 2,
 ];
 
-/// `aéb` with a set of these faults, a bit for each.
-pub fn with(set: u32) -> Note {
-    let mut note = Note::from(&NormalizedString::from("aéb"));
+/// A note with a set of these faults, a bit for each.
+fn faulty(mut note: Note, set: u32) -> Note {
     for (_, fault) in FAULTS.iter().enumerate().filter(|(i, _)| set >> i & 1 == 1) {
         fault(&mut note);
     }
     note
 }
 
+/// A note with every set of these faults.
+pub fn every_faulty(note: Note) -> impl Iterator<Item = (u32, Note)> {
+    (0..1_u32 << FAULTS.len()).map(move |set| (set, faulty(note.clone(), set)))
+}
+
+fn sound() -> Note {
+    Note::from(&NormalizedString::from("aéb"))
+}
+
+/// `aéb` with a set of these faults.
+pub fn with(set: u32) -> Note {
+    faulty(sound(), set)
+}
+
 /// `aéb` with every set of these faults.
 pub fn with_faults() -> impl Iterator<Item = (u32, Note)> {
-    (0..1_u32 << FAULTS.len()).map(|set| (set, with(set)))
+    every_faulty(sound())
 }
 
 fn every_set_of_faults(tally: &mut Tally) {

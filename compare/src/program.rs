@@ -63,7 +63,8 @@ enum Source<'a> {
 
 const TEXT: Asked = Asked { what: What::Script, alignments: false, anyway: false };
 
-fn variable(name: &str) -> String {
+/// A variable that the script `run` sets.
+pub fn variable(name: &str) -> String {
     std::env::var(name).unwrap_or_else(|_| panic!("{name} is not set: run with compare/run"))
 }
 

@@ -226,7 +226,7 @@ fn redact_all(
     }
 }
 
-fn plainly(tally: &mut Tally, note: &Note, pairs: &[Pair], rooms: impl FnOnce(Rooms) -> Vec<Rooms>) {
+pub fn plainly(tally: &mut Tally, note: &Note, pairs: &[Pair], rooms: impl FnOnce(Rooms) -> Vec<Rooms>) {
     redact_all(tally, note, &Words::of_pairs(pairs), rooms, || "whole".into());
 }
 
@@ -239,7 +239,7 @@ fn ample(sizes: Rooms) -> Vec<Rooms> {
     vec![[sizes[0], sizes[1] + 1, sizes[2] + 2, sizes[3], sizes[4] + 1, sizes[5] + 2]]
 }
 
-fn ample_or_none(sizes: Rooms) -> Vec<Rooms> {
+pub fn ample_or_none(sizes: Rooms) -> Vec<Rooms> {
     vec![sizes, [0; 6]]
 }
 

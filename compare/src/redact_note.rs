@@ -115,7 +115,7 @@ fn redact(
     }
 }
 
-fn plainly(tally: &mut Tally, note: &Note, literal: &str, filler: &str, rooms: impl FnOnce(Rooms) -> Vec<Rooms>) {
+pub fn plainly(tally: &mut Tally, note: &Note, literal: &str, filler: &str, rooms: impl FnOnce(Rooms) -> Vec<Rooms>) {
     redact(tally, (note, literal.as_bytes(), filler.as_bytes()), rooms, || "whole".into());
 }
 
@@ -124,7 +124,7 @@ fn ample([list, text, starts, ends]: Rooms) -> Vec<Rooms> {
     vec![[list, text + 1, starts, ends + 2]]
 }
 
-fn ample_or_none(sizes: Rooms) -> Vec<Rooms> {
+pub fn ample_or_none(sizes: Rooms) -> Vec<Rooms> {
     vec![sizes, [0; 4]]
 }
 

@@ -129,7 +129,7 @@ fn replace(
     }
 }
 
-fn plainly(tally: &mut Tally, note: &Note, places: &[Place], filler: &str, rooms: impl FnOnce(usize) -> Rooms) {
+pub fn plainly(tally: &mut Tally, note: &Note, places: &[Place], filler: &str, rooms: impl FnOnce(usize) -> Rooms) {
     replace(tally, (note, &places::bytes(places), filler.as_bytes()), rooms, || "whole".into());
 }
 

@@ -148,6 +148,30 @@ pub fn scattered(original: String, normalized: String, random: &mut Random) -> N
     NormalizedString::of_fields(original, normalized, alignments, shift)
 }
 
+/// The starting note of a text, or one with any alignments: mostly the first of them is not empty.
+pub fn lettered(text: String, random: &mut Random) -> NormalizedString {
+    if random.below(2) == 0 {
+        return text.into();
+    }
+    let len = random.below(LIMIT.min(2 * text.len()) + 1);
+    let original = texts::text(*random.choose(&KINDS), len, random);
+    let note = scattered(original, text, random);
+    match random.below(4) {
+        0 => note,
+        _ => without_head(note),
+    }
+}
+
+/// The same with a first alignment that is not empty, where the transcript is not.
+fn without_head(note: NormalizedString) -> NormalizedString {
+    let first = |text: &str| text.chars().next().map_or(0, char::len_utf8);
+    let (character, bytes) = (first(note.get_original()), first(note.get()));
+    let alignment =
+        |(i, &(start, end)): (usize, &(usize, usize))| (if i < bytes { 0 } else { start }, end.max(character));
+    let alignments = note.alignments().iter().enumerate().map(alignment).collect();
+    NormalizedString::of_fields(note.get_original().into(), note.get().into(), alignments, note.original_shift())
+}
+
 fn sorted_boundaries(text: &str, count: usize, random: &mut Random) -> Vec<usize> {
     let mut boundaries: Vec<usize> = (0..count).map(|_| texts::any_boundary(text, random)).collect();
     boundaries.sort();

@@ -128,7 +128,7 @@ fn slice_every_range(tally: &mut Tally, sample: &Sample) {
     }
 }
 
-fn slice_any_ranges(tally: &mut Tally, sample: &Sample, count: usize, random: &mut Random) {
+pub fn slice_any_ranges(tally: &mut Tally, sample: &Sample, count: usize, random: &mut Random) {
     for of_original in [false, true] {
         for _ in 0..count {
             let asked = sample.any_range(of_original, random);

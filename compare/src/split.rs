@@ -246,7 +246,7 @@ fn plainly(tally: &mut Tally, sample: &Sample, places: &[Place], rooms: impl Fn(
 }
 
 /// One way at a time, the next one each turn: which lists are refused is the same for all.
-fn by_turns(tally: &mut Tally, sample: &Sample, list: &[u8], turn: usize, made: &dyn Fn() -> String) {
+pub fn by_turns(tally: &mut Tally, sample: &Sample, list: &[u8], turn: usize, made: &dyn Fn() -> String) {
     let asked = Asked { sample, list, behavior: BEHAVIORS[turn % 5] };
     split_so(tally, asked, turn.is_multiple_of(2), ample_or_none, made);
 }

@@ -106,7 +106,7 @@ fn plainly(tally: &mut Tally, sample: &Sample, places: &[Place], rooms: impl Fn(
 }
 
 /// One behaviour and one way at a time, the next one each turn: a long transcript's map takes the original its time.
-fn by_turns(tally: &mut Tally, sample: &Sample, list: &[u8], turn: usize, rooms: impl FnOnce(usize) -> Rooms) {
+pub fn by_turns(tally: &mut Tally, sample: &Sample, list: &[u8], turn: usize, rooms: impl FnOnce(usize) -> Rooms) {
     let asked = Asked { sample, list, behavior: BEHAVIORS[turn % 5] };
     get_splits_so(tally, asked, WAYS[turn / 5 % 4], rooms, &|| format!("turn {turn}"));
 }

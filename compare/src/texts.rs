@@ -12,6 +12,8 @@ pub enum Kind {
     Emoji,
     /// Scalar values of all four lengths, many at the ends of Table 3-7's rows.
     Any,
+    /// Letters up to U+017F, many of them U+0130, among those of all scripts, to lowercase.
+    Letters,
 }
 
 pub const KINDS: [Kind; 4] = [Kind::Ascii, Kind::Mixed, Kind::Cjk, Kind::Any];
@@ -57,6 +59,7 @@ pub fn text(kind: Kind, len: usize, random: &mut Random) -> String {
             Kind::Emoji if random.below(2) == 0 => text.extend([scalar(0x1_F600, 0x1_F64F, random), ' ']),
             Kind::Emoji => text.extend([*random.choose(&english), " "]),
             Kind::Any => text.push(any_scalar(random)),
+            Kind::Letters => text.push(any_letter(random)),
         }
     }
     cut(text, len)
@@ -68,6 +71,15 @@ pub fn any_scalar(random: &mut Random) -> char {
         0 => scalar(first, first, random),
         1 => scalar(last, last, random),
         _ => scalar(first, last, random),
+    }
+}
+
+fn any_letter(random: &mut Random) -> char {
+    match random.below(8) {
+        0 => 'İ',
+        1 => any_scalar(random),
+        2 => scalar(0x180, 0x24FF, random),
+        _ => scalar(0, 0x17F, random),
     }
 }
 

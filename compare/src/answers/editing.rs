@@ -1,4 +1,4 @@
-//! The answers of the seven edits.
+//! The answers of the eight edits.
 
 use super::calls::{faulty_notes, fresh, notes};
 use crate::edits::{bytes, Change, Edit};
@@ -10,9 +10,9 @@ use crate::samples::sound_notes;
 use crate::texts::LIMIT;
 use std::str::from_utf8;
 use tokenizers::NormalizedString;
-use Edit::{Append, Clear, Filter, Map, Prepend, Transform, TransformRange};
+use Edit::{Append, Clear, Filter, Lowercase, Map, Prepend, Transform, TransformRange};
 
-pub fn answers() -> [Answers; 7] {
+pub fn answers() -> [Answers; 8] {
     [
         ranges(),
         scripts(),
@@ -21,6 +21,7 @@ pub fn answers() -> [Answers; 7] {
         strings(Replayed::Append, Append),
         strings(Replayed::Prepend, Prepend),
         cleared(),
+        lowercased(),
     ]
 }
 
@@ -43,7 +44,7 @@ fn edit(answers: &mut Answers, note: &Note, edit: &Edit, rooms: fn(usize) -> [us
         Transform(script, offset) => answers.text(script).number(*offset),
         Map(codes) => answers.numbers(codes),
         Filter(bytes) | Append(bytes) | Prepend(bytes) => answers.text(bytes),
-        Clear => answers,
+        Clear | Lowercase => answers,
     };
     answers.passed_text(room[0]).passed_column(room[1]).passed_column(room[2]).number(refusal);
     if let Clear = edit {
@@ -276,5 +277,38 @@ fn cleared() -> Answers {
         }
     }
     edit(&mut answers, &longest(), &Clear, |len| [len; 3]);
+    answers
+}
+
+/// The whole table, letters above it that the Rust changes, U+0130 anywhere and as often as fits and once more, notes
+/// whose first alignment is empty, and notes without a transcript.
+fn lowercased() -> Answers {
+    let mut answers = Answers::new(Replayed::Lowercase);
+    let table: String = ('\0'..='\u{17F}').collect();
+    let above = "\u{181}\u{391}\u{1E9E}\u{212A}\u{212B}";
+    for text in [&table, above, "İAÉ漢😀Ÿ", &"Nest 12, ČÁP ".repeat(20)] {
+        edit(&mut answers, &fresh(text), &Lowercase, ample);
+    }
+    edit(&mut answers, &fresh(&"A".repeat(LIMIT)), &Lowercase, ROOMS[0]);
+    for note in samples() {
+        edit(&mut answers, &note, &Lowercase, ample);
+    }
+    for rooms in ROOMS {
+        for note in [fresh("AİB"), fresh(""), fresh(&"aİ".repeat(50))] {
+            edit(&mut answers, &note, &Lowercase, rooms);
+        }
+    }
+    for note in faulty_notes() {
+        edit(&mut answers, &note, &Lowercase, ample);
+        edit(&mut answers, &note, &Lowercase, |_| [0; 3]);
+    }
+    for (original, normalized) in [("", "A"), ("a", "İ"), ("é", "AİB"), ("ab", "Éİ")] {
+        for note in sound_notes(original, normalized) {
+            edit(&mut answers, &note, &Lowercase, ample);
+        }
+    }
+    for times in [LIMIT / 3, LIMIT / 3 + 1] {
+        edit(&mut answers, &fresh(&"İ".repeat(times)), &Lowercase, |_| [LIMIT + 1; 3]);
+    }
     answers
 }

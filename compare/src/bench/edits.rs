@@ -19,6 +19,10 @@ const RANGE: Table =
     Table::new("`transform_range`, one character of the cleaned text, check included", UNAIMED).because(IN_PLACE);
 const MAP: Table = Table::new("`map`, check included", &[RUST.at_most([0.11, 0.15, 0.21, 0.26]), COPYING]);
 const MAP_EDITED: Table = Table::new("`map` of a note with each literal replaced, check included", UNAIMED);
+const LOWERCASE: Table =
+    Table::new("`lowercase`, check included", &[RUST.at_most([0.2, 0.2, 0.2, 0.2]), COPYING]).because(A_FIFTH);
+const LOWERCASE_DOTTED: Table =
+    Table::new("`lowercase` of a note with each literal replaced by U+0130, check included", UNAIMED);
 const FILTER: Table =
     Table::new("`filter`, about a third dropped, check included", &[RUST.at_most([0.16, 0.21, 0.22, 0.16]), COPYING]);
 const FILTER_ALL_KEPT: Table =
@@ -32,6 +36,7 @@ const UNAIMED: &[Other] = &[RUST, COPYING];
 const BY_COMMANDS: &str = "slower than the Rust: a script is read three times, and each command is a step of its own";
 const IN_PLACE: &str =
     "slower than the Rust where its heap has room to edit in place: ours checks the note and writes the whole result";
+const A_FIFTH: &str = "the aim is a fifth of the Rust's time";
 
 /// What is put before or after a text.
 const STRING: &str = "[draft] ";
@@ -42,6 +47,8 @@ pub fn bench(bench: &mut Bench) {
     bench.table(&RANGE, transform_range);
     bench.table(&MAP, |texts| map(texts, Marked::fresh));
     bench.table(&MAP_EDITED, |texts| map(texts, Marked::edited));
+    bench.table(&LOWERCASE, |texts| lowercase(texts, Marked::fresh));
+    bench.table(&LOWERCASE_DOTTED, |texts| lowercase(texts, |marked| marked.replaced(layouts::LITERAL, "İ")));
     bench.table(&FILTER, |texts| filter(texts, |character| !(character as u32).is_multiple_of(3)));
     bench.table(&FILTER_ALL_KEPT, |texts| filter(texts, |_| true));
     bench.table(&PREPEND, |texts| on_whole(texts, |note, out| library::prepend(note, string(), out), prepend));
@@ -173,6 +180,19 @@ fn map(texts: &[Marked], note: fn(&Marked) -> NormalizedString) -> Vec<Side<'_>>
         |note, codes, out| library::map(note, codes, out),
         move |note, _| {
             note.map(upper);
+        },
+    )
+}
+
+/// The texts have no letter above U+017F that the Rust changes.
+fn lowercase(texts: &[Marked], note: fn(&Marked) -> NormalizedString) -> Vec<Side<'_>> {
+    edit(
+        texts,
+        note,
+        |_| (),
+        |note, (), out| library::lowercase(note, out),
+        |note, ()| {
+            note.lowercase();
         },
     )
 }

@@ -25,6 +25,7 @@ pub fn compare(tally: &mut Tally) {
     prepending(tally);
     clearing(tally);
     final_sigma(tally);
+    letters_above_the_table(tally);
     stripping(tally);
 }
 
@@ -94,6 +95,13 @@ fn longer_than_the_limit(tally: &mut Tally) {
     code_answers(tally, "a and as many x as the limit", [LIMIT + 1; 2], lens);
     refuses(tally, &fresh("a"), &Edit::Append(string.clone().into()), NO_ROOM);
     refuses(tally, &fresh("a"), &Edit::Prepend(string.into()), NO_ROOM);
+
+    tally.family("21846 times U+0130 is longer than the limit in small letters, and is taken; here it is 9");
+    for (times, refusal) in [(21_845, 0), (21_846, NO_ROOM)] {
+        let note = fresh(&"İ".repeat(times));
+        code_answers(tally, "U+0130", 3 * times, note.clone().lowercase().len());
+        refuses(tally, &note, &Edit::Lowercase, refusal);
+    }
 }
 
 fn no_character_left(tally: &mut Tally) {
@@ -114,6 +122,7 @@ fn no_character_left(tally: &mut Tally) {
     code_answers(tally, "filter", true, panics(|| moved("ab").filter(|_| true).get().to_owned()));
     refuses(tally, &moved("ab"), &Edit::Filter(vec![1; 2]), EXHAUSTED);
     code_answers(tally, "lowercase", true, panics(|| moved("ab").lowercase().get().to_owned()));
+    refuses(tally, &moved("ab"), &Edit::Lowercase, EXHAUSTED);
     code_answers(tally, "uppercase", true, panics(|| moved("ab").uppercase().get().to_owned()));
 }
 
@@ -222,6 +231,12 @@ fn whole_note_of_an_empty_transcript(tally: &mut Tally) {
     let edit = |note: &mut NormalizedString| _ = note.filter(|_| false);
     leaves(tally, &appended, edit, (&Edit::Filter(vec![0; 2]), 0), ("xy", &[(0, 0); 2]));
     leaves(tally, &appended, |note| _ = note.clear(), (&Edit::Clear, 0), ("xy", &[(0, 0); 2]));
+
+    tally.family("on a text that was appended to an empty one, lowercase puts the new text before it; here 7");
+    let mut appended = fresh("");
+    appended.append("A");
+    let edit = |note: &mut NormalizedString| _ = note.lowercase();
+    leaves(tally, &appended, edit, (&Edit::Lowercase, EXHAUSTED), ("aA", &[(0, 0); 2]));
 }
 
 fn prepending(tally: &mut Tally) {
@@ -255,10 +270,28 @@ fn cleared(note: &NormalizedString) -> usize {
 
 /// The Standard's table of special cases has a sigma at a word's end of its own; `core::str` keeps to it.
 fn final_sigma(tally: &mut Tally) {
-    tally.family("lowercase goes character by character: a sigma at a word's end is not the Standard's");
-    let mut note = fresh("ΟΔΟΣ");
-    note.lowercase();
-    code_answers(tally, "ΟΔΟΣ", ("οδοσ", "οδος"), (note.get(), &*"ΟΔΟΣ".to_lowercase()));
+    tally.family("lowercase goes character by character: a sigma at a word's end is not the Standard's; here it stays");
+    lowercased_there(tally, "ΟΔΟΣ", "οδοσ");
+    code_answers(tally, "ΟΔΟΣ", "οδος", &*"ΟΔΟΣ".to_lowercase());
+}
+
+fn letters_above_the_table(tally: &mut Tally) {
+    tally.family("lowercase changes letters above U+017F too; here they stay");
+    for (letter, there) in
+        [("\u{181}", "\u{253}"), ("\u{391}", "\u{3B1}"), ("\u{1E9E}", "ß"), ("\u{212A}", "k"), ("\u{212B}", "å")]
+    {
+        lowercased_there(tally, letter, there);
+    }
+}
+
+/// What the Rust makes of a text that this library leaves as it is.
+fn lowercased_there(tally: &mut Tally, text: &str, there: &str) {
+    let mut note = fresh(text);
+    let (answer, left) = Edit::Lowercase.answer(&Note::from(&note), LIMIT);
+    let left = left.of_the_original();
+    let said = (0, note.get(), note.alignments());
+    code_answers(tally, text, said, (answer.refusal, left.get(), left.alignments()));
+    code_answers(tally, text, there, note.lowercase().get());
 }
 
 fn stripping(tally: &mut Tally) {

@@ -24,12 +24,13 @@ pub fn compare(tally: &mut Tally) {
     blanking(tally);
     blanked_alike(tally);
     two_notes(tally);
-    tally.family("edited notes: runs E1 to E11");
+    tally.family("edited notes: runs E1 to E15");
     edited_before(tally);
     compared_after_edits(tally);
     left_by_edits(tally);
     edited_after(tally);
     empty_place(tally);
+    found_in_small_letters(tally);
 }
 
 fn fresh(text: &str) -> Note {
@@ -160,6 +161,12 @@ fn lines(note: &Note) -> Vec<String> {
     alignments.chunk_by(|one, next| one == next).map(line).collect()
 }
 
+/// Whether these are among the lines.
+fn shows(note: &Note, shown: &[&str]) -> bool {
+    let written = lines(note);
+    shown.iter().all(|line| written.iter().any(|other| other == line))
+}
+
 /// The text, the lines that are shown, and whether the program writes nothing.
 fn blanking(tally: &mut Tally) {
     type Run<'a> = (&'a str, Pairs<'a>, &'a str, &'a [&'a str], bool);
@@ -207,9 +214,7 @@ fn blanking(tally: &mut Tally) {
     for (text, pairs, published, shown, stopped) in runs {
         let (note, stops) = redacted(text, pairs);
         code_answers(tally, text, (published.as_bytes(), stopped), (&note.normalized[..], stops));
-        let written = lines(&note);
-        let all = shown.iter().all(|line| written.iter().any(|other| other == line));
-        code_answers(tally, text, (shown, true), (shown, all));
+        code_answers(tally, text, (shown, true), (shown, shows(&note, shown)));
     }
 }
 
@@ -252,6 +257,29 @@ fn empty_place(tally: &mut Tally) {
     published(tally, &fresh("ab"), &places, "-", ("-ab", &[0, 0, 1], &[0, 1, 2]));
 }
 
+/// Runs E14 and E15: matches in the copy in small letters, where they are in the transcript, and what is published.
+fn found_in_small_letters(tally: &mut Tally) {
+    type Run<'a> = (&'a str, &'a str, &'a [(Numbers, &'a str)], &'a str, &'a [&'a str]);
+    let dotted: &[&str] = &["0 1 8 9", "1 1 9 10", "2 1 10 11"];
+    let runs: [Run; 3] = [
+        ("JOSÉ, José, jose", "josé", &[((0, 5), "JOSÉ"), ((7, 12), "José")], "#, #, jose", &["0 1 3 5", "3 1 10 12"]),
+        ("İĞNEADA x", "i\u{307}ğneada", &[((0, 10), "İĞNEADA")], "# x", dotted),
+        ("İĞNEADA x", "iğneada", &[], "i\u{307}ğneada x", &[]),
+    ];
+    for (text, literal, matches, published, shown) in runs {
+        let note = lowercased(text);
+        let places = places::read(&found(&note.normalized, literal)).expect("a list that was written");
+        let matched = places.into_iter().filter(|&(_, matched)| matched).map(|(place, _)| {
+            let Offsets { start, end, .. } = library::convert_offsets(&note, false, place.0 as u32, place.1 as u32);
+            (place, &text[start as usize..end as usize])
+        });
+        code_answers(tally, text, matches, &matched.collect::<Vec<_>>());
+        let hidden = blanked(&note, literal, "#");
+        let answer = (&hidden.normalized[..], shown, shows(&hidden, shown));
+        code_answers(tally, text, (published.as_bytes(), shown, true), answer);
+    }
+}
+
 /// Run B6: two notes of one's own.
 fn two_notes(tally: &mut Tally) {
     let (one, other, list) = (fresh("é x"), fresh("ab x"), places::bytes(&[((0, 2), true), ((2, 4), false)]));
@@ -286,14 +314,19 @@ fn without(text: &str, start: u32, end: u32) -> Note {
     edited(&fresh(text), &Edit::TransformRange((false, start, end), vec![], 0))
 }
 
-/// Runs E1 to E8: an edited note, what it reads, the place that is blanked, the filler, and what is published.
+/// The note in small letters.
+fn lowercased(text: &str) -> Note {
+    edited(&fresh(text), &Edit::Lowercase)
+}
+
+/// Runs E1 to E8, E12 and E13: an edited note, what it reads, the place that is blanked, the filler, and what is published.
 fn edited_before(tally: &mut Tally) {
     let added = edited(&fresh("ab"), &Edit::TransformRange((false, 1, 1), bytes(&[('x', 1)]), 0));
     let put_before = |string: &str| edited(&fresh("ab"), &Edit::Prepend(string.into()));
     let put_after = |string: &str| edited(&fresh("ab"), &Edit::Append(string.into()));
     type Run<'a> = (Note, &'a str, (usize, usize), &'a str, (&'a str, &'a [Offset], &'a [Offset]));
     let after_removed = Edit::TransformRange((false, 1, 4), bytes(&[('b', -1), ('x', 1)]), 0);
-    let runs: [Run; 16] = [
+    let runs: [Run; 20] = [
         (mapped("José x", without_accent), "Jose x", (0, 4), "#", ("# x", &[3, 5, 6], &[5, 6, 7])),
         (mapped("Jose x", without_accent), "Jose x", (0, 4), "#", ("# x", &[3, 4, 5], &[4, 5, 6])),
         (without("a12b", 1, 3), "ab", (1, 2), "#", ("a#", &[0, 3], &[1, 4])),
@@ -310,6 +343,10 @@ fn edited_before(tally: &mut Tally) {
         (put_after(" José"), "ab José", (3, 8), "#", ("ab #", &[0, 1, 1, 1], &[1, 2, 2, 2])),
         (mapped("12", |_| '漢'), "漢漢", (0, 6), "#", ("#", &[1], &[2])),
         (mapped("é漢", |_| '1'), "11", (0, 2), "#", ("#", &[2], &[5])),
+        (lowercased("JOSÉ x"), "josé x", (0, 5), "#", ("# x", &[3, 5, 6], &[5, 6, 7])),
+        (fresh("josé x"), "josé x", (0, 5), "#", ("# x", &[3, 5, 6], &[5, 6, 7])),
+        (lowercased("İ x"), "i\u{307} x", (4, 5), "#", ("i\u{307} #", &[0, 0, 0, 2, 3], &[2, 2, 2, 3, 4])),
+        (fresh("i\u{307} x"), "i\u{307} x", (4, 5), "#", ("i\u{307} #", &[0, 1, 1, 3, 4], &[1, 3, 3, 4, 5])),
     ];
     for (note, reads, place, filler, said) in runs {
         code_answers(tally, reads, reads.as_bytes(), &note.normalized);

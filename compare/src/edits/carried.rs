@@ -1,18 +1,28 @@
 //! Results carried on: what a call left is passed to the next one, on both sides, through edits, slices, replacements
 //! and pieces.
 
-use super::edit::Edit;
+use super::edit::{check, Edit};
 use super::long::EVERY;
+use super::lowercase::once_more;
+use crate::blanking;
+use crate::convert::{self, CONVERT_OFFSETS, GET_RANGE, GET_RANGE_ORIGINAL};
+use crate::find;
 use crate::library;
 use crate::made;
 use crate::note::Note;
 use crate::places::{self, Given};
 use crate::random::Random;
-use crate::refusals::{MISSING, NO_ROOM};
-use crate::samples;
+use crate::ranges::Sample;
+use crate::redact_all;
+use crate::redact_note::{self, literal_of};
+use crate::refusals::{EXHAUSTED, MISSING, NO_ROOM};
+use crate::replace::{self, ample_or_none};
+use crate::samples::{self, FILLERS};
+use crate::slice;
 use crate::split;
+use crate::splits;
 use crate::tally::{self, Tally};
-use crate::texts::{self, LIMIT};
+use crate::texts::{self, Kind, LIMIT};
 use tokenizers::normalizer::{Range, SplitDelimiterBehavior};
 use tokenizers::NormalizedString;
 
@@ -140,8 +150,62 @@ fn after_clear(tally: &mut Tally) {
             tally.case(tally::refusal(answer.refusal), answer.refusal != 0, || format!("{answer:?} on {note}"));
             let theirs = left.of_the_original();
             for any in EVERY {
-                super::edit::check(tally, &left, &any(&theirs, &mut random), crate::replace::ample_or_none);
+                check(tally, &left, &any(&theirs, &mut random), ample_or_none);
             }
         }
     }
+}
+
+pub fn after_lowercase(tally: &mut Tally) {
+    tally.family("what lowercase leaves stays as it is under lowercase once more: text and alignments");
+    let mut random = Random::new(100);
+    for turn in 0..4_000 {
+        let len = random.below([9, 60, 300, 9_000][turn % 4]);
+        if let Some((_, left)) = lowercased(tally, len, &mut random) {
+            once_more(tally, &left);
+        }
+    }
+    tally.family("what lowercase leaves, passed to every other call on a note and to find_matches");
+    for turn in 0..700 {
+        let len = random.below([9, 60, 300][turn % 3]);
+        if let Some((note, left)) = lowercased(tally, len, &mut random) {
+            passed_on(tally, [&note, &left], turn, &mut random);
+        }
+    }
+}
+
+/// A note of letters and what `lowercase` leaves of it, where it has no head.
+fn lowercased(tally: &mut Tally, len: usize, random: &mut Random) -> Option<(Note, Note)> {
+    let note = Note::from(&samples::lettered(texts::text(Kind::Letters, len, random), random));
+    let (answer, left) = Edit::Lowercase.answer(&note, LIMIT);
+    let head = note.alignments().next().is_some_and(|(start, end)| start == end);
+    let said = if head { EXHAUSTED } else { 0 };
+    tally.case(tally::refusal(answer.refusal), answer.refusal != said, || format!("{answer:?} on {note}"));
+    (answer.refusal == 0).then_some((note, left))
+}
+
+fn passed_on(tally: &mut Tally, [note, left]: [&Note; 2], turn: usize, random: &mut Random) {
+    let theirs = left.of_the_original();
+    for any in EVERY {
+        check(tally, left, &any(&theirs, random), ample_or_none);
+    }
+    let (sample, text) = (Sample::from(left.clone()), theirs.get());
+    for call in [CONVERT_OFFSETS, GET_RANGE, GET_RANGE_ORIGINAL] {
+        convert::convert_any_ranges(tally, &call, &sample, 9, random);
+    }
+    convert::convert_any_list(tally, &sample, 20, random);
+    slice::slice_any_ranges(tally, &sample, 9, random);
+    let (literal, filler) = (literal_of(text, random), *random.choose(&FILLERS));
+    let places = places::any(text, 5, random);
+    let list = places::bytes(&places);
+    replace::plainly(tally, left, &places, filler, ample_or_none);
+    split::by_turns(tally, &sample, &list, turn, &|| "lowercased".into());
+    splits::by_turns(tally, &sample, &list, turn, |len| vec![(len, len)]);
+    redact_note::plainly(tally, left, &literal, filler, redact_note::ample_or_none);
+    redact_all::plainly(tally, left, &[[&literal, filler]], redact_all::ample_or_none);
+    for one in [note, left] {
+        let wanted = blanking::expected(one, left, &list, filler.as_bytes());
+        blanking::compare_notes(tally, [one, left], &list, filler.as_bytes(), wanted);
+    }
+    find::find(tally, text.as_bytes(), literal.as_bytes(), |len| vec![len]);
 }

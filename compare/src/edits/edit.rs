@@ -1,6 +1,7 @@
-//! The seven calls: what each is passed beside a note, what the Rust original makes of it, and what ours answers. The
+//! The eight calls: what each is passed beside a note, what the Rust original makes of it, and what ours answers. The
 //! refusals are judged a second time, from docs/RULES.md.
 
+use super::lowercase;
 use crate::guarded::Guarded;
 use crate::library::{self, Cleared, Publishing, Written};
 use crate::note::Note;
@@ -32,9 +33,10 @@ pub enum Edit {
     Append(Vec<u8>),
     Prepend(Vec<u8>),
     Clear,
+    Lowercase,
 }
 
-use Edit::{Append, Clear, Filter, Map, Prepend, Transform, TransformRange};
+use Edit::{Append, Clear, Filter, Lowercase, Map, Prepend, Transform, TransformRange};
 
 /// A note that an edit left, and how long its cleaned text was before, which `clear` alone answers.
 pub struct Made {
@@ -87,7 +89,7 @@ impl Edit {
         Ok(before)
     }
 
-    /// The Rust's call.
+    /// The Rust's call; for letters that only its `lowercase` changes, its `transform`.
     fn run(&self, note: &mut NormalizedString) -> usize {
         let given = |index: &Cell<usize>| index.replace(index.get() + 1);
         let index = Cell::new(0);
@@ -103,6 +105,10 @@ impl Edit {
             Append(string) => _ = note.append(from_utf8(string).expect("a judged string")),
             Prepend(string) => _ = note.prepend(from_utf8(string).expect("a judged string")),
             Clear => return note.clear(),
+            Lowercase if note.get().contains(lowercase::only_the_rust_changes) => {
+                note.transform(lowercase::changes(note.get()), 0);
+            }
+            Lowercase => _ = note.lowercase(),
         }
         0
     }
@@ -131,6 +137,7 @@ impl Edit {
                 (whole, changes, offset)
             }
             Clear => (whole, vec![], 0),
+            Lowercase => (whole, lowercase::changes(note.get()), 0),
             Append(_) | Prepend(_) => return Ok(None),
         };
         let cleaned = match range {
@@ -148,6 +155,7 @@ impl Edit {
             Map(codes) => 4 * codes.len(),
             Filter(_) if note.original.is_empty() || note.starts.first() == note.ends.first() => 2 * len,
             Filter(_) | Clear => len,
+            Lowercase => len + len / 2,
             Append(string) => len + string.len(),
             Prepend(string) => {
                 if len == 0 {
@@ -177,6 +185,7 @@ impl Edit {
             Filter(flags) => library::filter(note, flags, out),
             Append(string) => library::append(note, string, out),
             Prepend(string) => library::prepend(note, string, out),
+            Lowercase => library::lowercase(note, out),
             Clear => return library::clear(note, out),
         };
         Cleared { refusal, before_len: 0, len }

@@ -2,20 +2,23 @@
 //! results around it.
 
 use super::edit::{bytes, check, Change, Edit, MOST_REMOVED};
+use super::lowercase::only_the_rust_changes;
+use crate::library::Cleared;
 use crate::note::Note;
 use crate::random::Random;
-use crate::replace::rooms;
+use crate::refusals::NO_ROOM;
+use crate::replace::{ample, rooms};
 use crate::samples;
-use crate::tally::Tally;
-use crate::texts::{self, LIMIT, UNITS};
+use crate::tally::{self, Tally};
+use crate::texts::{self, Kind, LIMIT, UNITS};
 use tokenizers::normalizer::Range;
 use tokenizers::NormalizedString;
 
 /// An edit for a note.
 type Any = fn(&NormalizedString, &mut Random) -> Edit;
 
-/// All seven, by turns.
-pub const EVERY: [Any; 7] = [
+/// All eight, by turns.
+pub const EVERY: [Any; 8] = [
     any_range,
     any_script,
     any_map,
@@ -23,6 +26,7 @@ pub const EVERY: [Any; 7] = [
     |_, random| Edit::Append(any_string(random).into()),
     |_, random| Edit::Prepend(any_string(random).into()),
     |_, _| Edit::Clear,
+    |_, _| Edit::Lowercase,
 ];
 
 pub fn any_ranges(tally: &mut Tally) {
@@ -52,6 +56,16 @@ pub fn any_prepended(tally: &mut Tally) {
 
 pub fn any_clear(tally: &mut Tally) {
     of_any_make(tally, EVERY[6], 87);
+}
+
+pub fn any_letters(tally: &mut Tally) {
+    of_any_make(tally, EVERY[7], 89);
+    letters_at_every_offset(tally);
+    tally.family("letters of all scripts but those that only the Rust changes, up to the limit, in 9 rooms");
+    of_letters(tally, |character| !only_the_rust_changes(character), 98);
+    tally.family("letters of all scripts, up to the limit, in 9 rooms");
+    of_letters(tally, |_| true, 99);
+    dotted(tally);
 }
 
 fn of_any_make(tally: &mut Tally, any: Any, seed: u64) {
@@ -207,6 +221,59 @@ fn at_every_offset(tally: &mut Tally) {
     }
 }
 
+fn letters_at_every_offset(tally: &mut Tally) {
+    tally.family("a letter at every offset to 200, among small ones and capitals");
+    for unit in UNITS.iter().chain(&["A", "É", "İ", "aİ漢É"]) {
+        for letter in ["A", "É", "İ", "Ÿ", "\u{212A}", "i\u{307}"] {
+            for offset in 0..=texts::OFFSETS {
+                let text = texts::repeated(unit, offset) + letter + &texts::repeated(unit, 70);
+                let note = Note::from(&NormalizedString::from(text));
+                check(tally, &note, &Edit::Lowercase, ample);
+            }
+        }
+    }
+}
+
+/// Notes to 300 bytes and longer ones, whose cleaned texts have only letters that are kept.
+fn of_letters(tally: &mut Tally, kept: fn(char) -> bool, seed: u64) {
+    let mut random = Random::new(seed);
+    for turn in 0..6_000 {
+        let len = match turn % 60 {
+            0 => samples::long_len(turn / 60, 4, &mut random),
+            _ => random.below(300),
+        };
+        let mut text = texts::text(Kind::Letters, len, &mut random);
+        text.retain(kept);
+        let note = samples::lettered(text, &mut random);
+        check(tally, &Note::from(&note), &Edit::Lowercase, rooms);
+    }
+}
+
+/// U+0130, two bytes, becomes three.
+fn dotted(tally: &mut Tally) {
+    tally.family("21845 times U+0130 are taken, 21846 times are 9");
+    for (times, refusal, len) in [(21_844, 0, LIMIT - 3), (21_845, 0, LIMIT), (21_846, NO_ROOM, 0)] {
+        let note = Note::from(&NormalizedString::from("İ".repeat(times)));
+        let (ours, said) = (Edit::Lowercase.answer(&note, LIMIT + 9).0, Cleared { refusal, before_len: 0, len });
+        tally.case(tally::refusal(ours.refusal), ours != said, || format!("{ours:?}, said {said:?}, of {times}"));
+        check(tally, &note, &Edit::Lowercase, rooms);
+    }
+    tally.family("U+0130 1 to 21000 times before, after and among others, results about the limit, in 9 rooms");
+    for times in [1, 2, 100, 21_000] {
+        for size in (LIMIT - 2..=LIMIT + 3).filter(|size| size - times <= LIMIT) {
+            for unit in ["A", "É", "漢"] {
+                let (dotted, others) = ("İ".repeat(times), texts::repeated(unit, size - 3 * times));
+                let middle = texts::boundary_before(&others, others.len() / 2);
+                let among = [&others[..middle], &dotted, &others[middle..]].concat();
+                for text in [dotted.clone() + &others, others.clone() + &dotted, among] {
+                    let note = Note::from(&NormalizedString::from(text));
+                    check(tally, &note, &Edit::Lowercase, rooms);
+                }
+            }
+        }
+    }
+}
+
 pub fn around_the_limit(tally: &mut Tally) {
     tally.family(
         "results about the limit and about twice it, put in, put beside and in the place of others, in 9 rooms",
@@ -289,6 +356,7 @@ fn full(tally: &mut Tally) {
         check(tally, &note, &Edit::Map(text.chars().map(u32::from).collect()), rooms);
         check(tally, &note, &Edit::Map(vec!['x'.into(); count]), rooms);
         check(tally, &note, &Edit::Clear, rooms);
+        check(tally, &note, &Edit::Lowercase, rooms);
         let last = bytes(&[('x', -MOST_REMOVED)]);
         check(tally, &note, &Edit::Transform(last.clone(), 0), rooms);
         check(tally, &note, &Edit::Transform(last, count as u32 - 1), rooms);

@@ -13,10 +13,11 @@ use crate::samples::{self, ADDRESSES};
 use crate::tally::{self, Tally};
 use crate::texts::{self, LIMIT, UNITS};
 use tokenizers::NormalizedString;
-use Edit::{Append, Clear, Filter, Map, Prepend, Transform, TransformRange};
+use Edit::{Append, Clear, Filter, Lowercase, Map, Prepend, Transform, TransformRange};
 
 pub fn compare(tally: &mut Tally) {
     every_set_of_faults(tally);
+    faults_and_nothing_left(tally);
     nothing_left(tally);
     damaged_notes(tally);
     damaged_scripts(tally);
@@ -49,7 +50,7 @@ fn broken() -> Vec<u8> {
 fn with_faults() -> Vec<Edit> {
     let replacing = |times: usize| bytes(&vec![('é', 0); times]);
     let scripts = [replacing(3), replacing(4), [replacing(3), broken()].concat(), [replacing(4), vec![4]].concat()];
-    let mut edits = vec![Clear];
+    let mut edits = vec![Clear, Lowercase];
     for script in scripts {
         for range in [(0, 4), (0, 2), (3, 1), (2, 9)] {
             for of_original in [false, true] {
@@ -80,12 +81,25 @@ fn every_set_of_faults(tally: &mut Tally) {
     }
 }
 
+/// The faults of a note come before 7, also a 4 that is at its end, and 7 comes before a short room.
+fn faults_and_nothing_left(tally: &mut Tally) {
+    tally.family("the same faults of two notes whose first character is before the whole transcript's range");
+    let whole = moved("İAé");
+    let mut back = whole.clone();
+    back.ends[4] = 0;
+    for (set, note) in [whole, back].into_iter().flat_map(notes::every_faulty) {
+        for edit in [Lowercase, Map(vec!['日'.into(); 3]), Filter(vec![1; 3]), Clear] {
+            check_beside(tally, &note, &edit, edit.expected(&note), ample_or_none, || format!("faults {set:09b}"));
+        }
+    }
+}
+
 /// The first character is before the whole transcript's range.
 fn nothing_left(tally: &mut Tally) {
-    tally.family("the same on notes whose first characters are before the whole transcript's range");
+    tally.family("each call's own faults on notes whose first characters are before the whole transcript's range");
     let mut twice = moved("aéb").of_the_original();
     twice.prepend("x").prepend("");
-    for note in [moved("aéb"), moved("éab"), moved("漢a"), Note::from(&twice), moved("a")] {
+    for note in [moved("aéb"), moved("éab"), moved("漢a"), Note::from(&twice), moved("a"), moved("İA")] {
         for edit in with_faults() {
             check(tally, &note, &edit, short_in_each);
         }
@@ -322,6 +336,7 @@ fn nothing_anywhere(tally: &mut Tally) {
                 on_nothing!(zulmyren_filter, text, 0),
                 on_nothing!(zulmyren_append, text, 0),
                 on_nothing!(zulmyren_prepend, text, 0),
+                on_nothing!(zulmyren_lowercase),
             ]
         };
         let accepted = Written { refusal: 0, len: 0 };

@@ -1,6 +1,7 @@
 //! Every edit of some kind on every short note.
 
 use super::edit::{bytes, check_sound, starves, Change, Edit};
+use super::lowercase::images;
 use crate::every;
 use crate::note::{Note, Offset};
 use crate::refusals::{EXHAUSTED, NOT_BOUNDARY};
@@ -54,10 +55,27 @@ fn scripts(len: usize, characters: &[char]) -> Vec<Vec<Change>> {
     every::list(&changes, len).collect()
 }
 
-/// Of the starting note of `aéb`: range, script, offset, and the text and alignments that it leaves, or the refusal.
-type Worked<'a> = ((bool, u32, u32), &'a [Change], u32, Result<(&'a str, &'a [(Offset, Offset)]), u32>);
+/// The text and alignments that an edit leaves, or the refusal.
+type Said<'a> = Result<(&'a str, &'a [(Offset, Offset)]), u32>;
 
-/// The table of docs/RULES.md, 7: both sides give these answers.
+/// An edit whose answer is written down: both sides give it.
+fn gives(tally: &mut Tally, note: &Note, edit: &Edit, said: Said) {
+    check_sound(tally, note, edit, enough_or_short);
+    let made = edit.made(note).map(|made| made.note);
+    let same = match (&made, said) {
+        (Ok(note), Ok((text, alignments))) => {
+            note.normalized == text.as_bytes() && note.alignments().eq(alignments.iter().copied())
+        }
+        (Err(refusal), Err(said)) => *refusal == said,
+        _ => false,
+    };
+    tally.case("accepted", !same, || format!("{edit:?}: said {said:?}"));
+}
+
+/// Of the starting note of `aéb`: range, script, offset, and what it leaves.
+type Worked<'a> = ((bool, u32, u32), &'a [Change], u32, Said<'a>);
+
+/// The table of docs/RULES.md, 7.
 fn worked_edits(tally: &mut Tally) {
     tally.family("worked edits");
     let (a, e, b) = ((0, 1), (1, 3), (3, 4));
@@ -75,17 +93,7 @@ fn worked_edits(tally: &mut Tally) {
     ];
     let note = fresh("aéb");
     for (range, changes, offset, said) in worked {
-        let edit = Edit::TransformRange(range, bytes(changes), offset);
-        check_sound(tally, &note, &edit, enough_or_short);
-        let made = edit.made(&note).map(|made| made.note);
-        let same = match (&made, said) {
-            (Ok(note), Ok((text, alignments))) => {
-                note.normalized == text.as_bytes() && note.alignments().eq(alignments.iter().copied())
-            }
-            (Err(refusal), Err(said)) => *refusal == said,
-            _ => false,
-        };
-        tally.case("accepted", !same, || format!("{edit:?}: said {said:?}"));
+        gives(tally, &note, &Edit::TransformRange(range, bytes(changes), offset), said);
     }
 }
 
@@ -268,5 +276,70 @@ pub fn every_clear(tally: &mut Tally) {
     tally.family("every short sound note");
     for note in notes() {
         check_sound(tally, &note, &Edit::Clear, enough_or_short);
+    }
+}
+
+/// Every sound note of up to three of these: capitals of one byte and of two, U+0130, the dot that is added after it, and
+/// the Kelvin sign, which only the Rust changes.
+fn letter_notes() -> Vec<Note> {
+    let texts = (0..=3).flat_map(|len| every::list(&['A', 'É', 'İ', '\u{307}', '\u{212A}'], len));
+    let texts: Vec<String> = texts.map(String::from_iter).collect();
+    let transcripts = ["", "a", "İ", "ab", "aİ", "abc"];
+    transcripts.iter().flat_map(|original| texts.iter().flat_map(|text| sound_notes(original, text))).collect()
+}
+
+/// The table of docs/RULES.md, 8.8.
+fn worked_letters(tally: &mut Tally) {
+    tally.family("worked notes");
+    let of = |original: &str, normalized: &str, alignments: &[(usize, usize)]| {
+        Note::from(&NormalizedString::of_fields(original.into(), normalized.into(), alignments.into(), 0))
+    };
+    let mut moved = NormalizedString::from("AÉ");
+    moved.prepend("");
+    let dotted: Said = Ok(("i\u{307}a", &[(0, 2), (0, 2), (0, 2), (2, 3)]));
+    let worked: [(Note, Said); 8] = [
+        (fresh("AÉ漢"), Ok(("aé漢", &[(0, 1), (1, 3), (1, 3), (3, 6), (3, 6), (3, 6)]))),
+        (fresh("İA"), dotted),
+        (of("İA", "i\u{307}a", &[(0, 2), (0, 2), (0, 2), (2, 3)]), dotted),
+        (of("ab", "İX", &[(0, 1), (0, 1), (1, 2)]), Ok(("i\u{307}x", &[(0, 1), (0, 1), (0, 1), (1, 2)]))),
+        (fresh("\u{212A}É"), Ok(("\u{212A}é", &[(0, 3), (0, 3), (0, 3), (3, 5), (3, 5)]))),
+        (Note::from(&moved), Err(EXHAUSTED)),
+        (of("", "É", &[(0, 0), (0, 0)]), Err(EXHAUSTED)),
+        (fresh(""), Ok(("", &[]))),
+    ];
+    for (note, said) in worked {
+        gives(tally, &note, &Edit::Lowercase, said);
+    }
+}
+
+/// The header's words: the images of each character, with its alignment; 7 where the first alignment is empty.
+fn lowercased(note: &Note) -> Result<(String, Vec<(Offset, Offset)>), u32> {
+    let text = std::str::from_utf8(&note.normalized).expect("a sound note");
+    let alignments: Vec<(Offset, Offset)> = note.alignments().collect();
+    if alignments.first().is_some_and(|(start, end)| start == end) {
+        return Err(EXHAUSTED);
+    }
+    let left = text.char_indices().flat_map(|(at, c)| images(c).into_iter().map(move |image| (image, at)));
+    let carried = |(image, at): (char, usize)| std::iter::repeat_n(alignments[at], image.len_utf8());
+    Ok((left.clone().map(|(image, _)| image).collect(), left.flat_map(carried).collect()))
+}
+
+pub fn every_lowercase(tally: &mut Tally) {
+    worked_letters(tally);
+    tally.family(
+        "every sound note of up to 3 characters out of A, É, U+0130, U+0307 and U+212A, and others that are short",
+    );
+    for note in letter_notes().into_iter().chain(notes()) {
+        check_sound(tally, &note, &Edit::Lowercase, enough_or_short);
+    }
+    tally.family("what lowercase leaves, or 7, of the same notes, in the words of include/zulmyren.h");
+    for note in letter_notes().into_iter().chain(notes()) {
+        let (answer, left) = Edit::Lowercase.answer(&note, 32);
+        let text = String::from_utf8_lossy(&left.normalized).into_owned();
+        let ours = if answer.refusal == 0 { Ok((text, left.alignments().collect())) } else { Err(answer.refusal) };
+        let said = lowercased(&note);
+        tally.case(crate::tally::refusal(answer.refusal), ours != said, || {
+            format!("said {said:?}, ours {ours:?}, on {note}")
+        });
     }
 }

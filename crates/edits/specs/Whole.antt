@@ -25,7 +25,7 @@ use Rattle.edits.specs.declared.Clearing.{Clearing}
 use Rattle.edits.specs.declared.Clearing.the-variants.{Cleared, Refused}
 use Rattle.edits.specs.Characters.{codeAt, codesOf}
 
--- the range that `filter`, `map` and `clear` edit: the whole transcript
+-- the range that `filter`, `map`, `clear` and `lowercase` edit: the whole transcript
 abbrev pub wholeRange : Note → Range
 wholeRange n = wholeOriginal (n .original)
 

@@ -19,7 +19,7 @@ ghost use Rattle.edits.specs.Plain.{widthless};
 ghost use Rattle.edits.specs.Whole.{MapCall};
 
 // Whether the note has a head: its first alignment has no width. An inner function: there is an end for each start.
-fn has_head(starts: &[Offset], ends: &[Offset]) -> bool
+pub fn has_head(starts: &[Offset], ends: &[Offset]) -> bool
     requires { ⌜ length (now starts) ≡ length (now ends) ⌝ }
     ensures { λ r. ⌜ r ≡ ltb 0 (widthless (now (starts .entry)) (now (ends .entry))) ⌝ }
 {

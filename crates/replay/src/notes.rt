@@ -18,6 +18,7 @@ use stored_answers::calls::FILTER;
 use stored_answers::calls::GET_RANGE;
 use stored_answers::calls::GET_RANGE_ORIGINAL;
 use stored_answers::calls::GET_SPLITS;
+use stored_answers::calls::LOWERCASE;
 use stored_answers::calls::MAP;
 use stored_answers::calls::PREPEND;
 use stored_answers::calls::PUBLISHED_ALIKE;
@@ -71,7 +72,7 @@ fn called(call: u8, case: &[u8], starts: &[Offset], ends: &[Offset]) -> bool {
         TRANSFORM_RANGE => on_publishing(call, case, 10, starts, ends),
         TRANSFORM => on_publishing(call, case, 7, starts, ends),
         MAP | FILTER | APPEND | PREPEND => on_publishing(call, case, 6, starts, ends),
-        CLEAR => on_publishing(call, case, 5, starts, ends),
+        CLEAR | LOWERCASE => on_publishing(call, case, 5, starts, ends),
         _ => false,
     }
 }

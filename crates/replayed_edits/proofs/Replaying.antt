@@ -11,7 +11,17 @@ use Rattle.note.specs.Notes.{Note, lent, limit}
 use Rattle.note.specs.Refusals.{OnThree}
 use Rattle.convert.specs.Converting.{rangeOf}
 use Rattle.transform.specs.Transforming.{wholeOriginal}
-use Rattle.stored_answers.specs.Calls.{appendNumber, clearNumber, filterNumber, mapNumber, redactNumber, replaceNumber, transformNumber, transformRangeNumber}
+use Rattle.stored_answers.specs.Calls.{
+  appendNumber,
+  clearNumber,
+  filterNumber,
+  lowercaseNumber,
+  mapNumber,
+  redactNumber,
+  replaceNumber,
+  transformNumber,
+  transformRangeNumber,
+}
 use Rattle.stored_answers.specs.Framing.{fieldOf}
 use Rattle.stored_answers.specs.Lending.{numberAt, noteAt}
 use Rattle.stored_answers.proofs.Splice.{take-laid}
@@ -23,6 +33,7 @@ use Rattle.zulmyren.specs.Contracts.{RedactCall, ReplaceCall}
 use Rattle.zulmyren.specs.Edits.{AppendTold, ClearTold, FilterTold, PrependTold, TransformTold}
 use Rattle.replayed_edits.specs.Replaying.{
   CallAnswered,
+  LowercaseCase,
   MapCase,
   Published,
   RangeCase,
@@ -57,6 +68,10 @@ module _ (case : List ℕ) {out₀ s₀ e₀ : List ℕ} {a : Written} {out s e 
 
     pub script-lent : {offset : ℕ} {script : List ℕ} → script ≡ fieldOf 5 case → offset ≡ numberAt case 6 → TransformTold (lent original normalized starts ends shift) (wholeOriginal original) script offset out₀ s₀ e₀ a out s e → ScriptCase case starts ends out₀ s₀ e₀ a out s e
     script-lent b x call = coe 0 1 (i. TransformTold (lent (o i) (n i) starts ends (k i)) (wholeOriginal (o i)) (b i) (x i) out₀ s₀ e₀ a out s e) call
+
+    -- nothing
+    pub note-lent : (edit : Note → OnThree Written) → edit (lent original normalized starts ends shift) out₀ s₀ e₀ a out s e → edit (noteAt case starts ends) out₀ s₀ e₀ a out s e
+    note-lent edit call = coe 0 1 (i. edit (lent (o i) (n i) starts ends (k i)) out₀ s₀ e₀ a out s e) call
 
     -- code points, flags, a string
     pub whole-lent : (edit : Note → List ℕ → OnThree Written) {given stored : List ℕ} → given ≡ stored → edit (lent original normalized starts ends shift) given out₀ s₀ e₀ a out s e → edit (noteAt case starts ends) stored out₀ s₀ e₀ a out s e
@@ -100,8 +115,11 @@ module _ {call : ℕ} {case starts ends out₀ s₀ e₀ : List ℕ} {a : Writte
   pub maps : call ≡ mapNumber → MapCase case starts ends out₀ s₀ e₀ a out s e → CallAnswered call case starts ends out₀ s₀ e₀ a out s e
   maps is met = record { met = rw is met }
 
-  pub edits : (call ≡ replaceNumber → ⊥) → (call ≡ redactNumber → ⊥) → (call ≡ transformRangeNumber → ⊥) → (call ≡ transformNumber → ⊥) → (call ≡ mapNumber → ⊥) → WholeCase call case starts ends out₀ s₀ e₀ a out s e → CallAnswered call case starts ends out₀ s₀ e₀ a out s e
-  edits p b t x m met = record { met = rw (ne-eqb call replaceNumber p, ne-eqb call redactNumber b, ne-eqb call transformRangeNumber t, ne-eqb call transformNumber x, ne-eqb call mapNumber m) met }
+  pub lowercases : call ≡ lowercaseNumber → LowercaseCase case starts ends out₀ s₀ e₀ a out s e → CallAnswered call case starts ends out₀ s₀ e₀ a out s e
+  lowercases is met = record { met = rw is met }
+
+  pub edits : (call ≡ replaceNumber → ⊥) → (call ≡ redactNumber → ⊥) → (call ≡ transformRangeNumber → ⊥) → (call ≡ transformNumber → ⊥) → (call ≡ mapNumber → ⊥) → (call ≡ lowercaseNumber → ⊥) → WholeCase call case starts ends out₀ s₀ e₀ a out s e → CallAnswered call case starts ends out₀ s₀ e₀ a out s e
+  edits p b t x m l met = record { met = rw (ne-eqb call replaceNumber p, ne-eqb call redactNumber b, ne-eqb call transformRangeNumber t, ne-eqb call transformNumber x, ne-eqb call mapNumber m, ne-eqb call lowercaseNumber l) met }
 
 module _ {call : ℕ} {case : List ℕ} {at : ℕ} {starts ends out₀ s₀ e₀ : List ℕ} {r : Bool} where
   pub cleared : call ≡ clearNumber → Replayed (ClearTold (noteAt case starts ends) out₀ s₀ e₀) (clearStored case 8) r → Published call case at starts ends out₀ s₀ e₀ r

@@ -10,7 +10,17 @@ use Rattle.note.specs.Notes.{limit}
 use Rattle.note.specs.Refusals.{OnThree}
 use Rattle.convert.specs.Converting.{rangeOf}
 use Rattle.transform.specs.Transforming.{wholeOriginal}
-use Rattle.stored_answers.specs.Calls.{appendNumber, clearNumber, filterNumber, mapNumber, redactNumber, replaceNumber, transformNumber, transformRangeNumber}
+use Rattle.stored_answers.specs.Calls.{
+  appendNumber,
+  clearNumber,
+  filterNumber,
+  lowercaseNumber,
+  mapNumber,
+  redactNumber,
+  replaceNumber,
+  transformNumber,
+  transformRangeNumber,
+}
 use Rattle.stored_answers.specs.Framing.{fieldOf, isNumber}
 use Rattle.stored_answers.specs.Differences.{numbersOf, offsetColumn}
 use Rattle.stored_answers.specs.Lending.{flagAt, noteAt, numberAt}
@@ -19,7 +29,7 @@ use Rattle.zulmyren.specs.declared.answers.Blanked.{Blanked}
 use Rattle.zulmyren.specs.declared.answers.Lengths.{Lengths}
 use Rattle.zulmyren.specs.Calls.{sideOf}
 use Rattle.zulmyren.specs.Contracts.{RedactCall, ReplaceCall, ToldThree}
-use Rattle.zulmyren.specs.Edits.{AppendTold, ClearTold, FilterTold, MapTold, PrependTold, TransformTold}
+use Rattle.zulmyren.specs.Edits.{AppendTold, ClearTold, FilterTold, LowercaseTold, MapTold, PrependTold, TransformTold}
 
 -- whether the fields from `index` on are a text and its columns
 abbrev pub publishedStored : List ℕ → ℕ → List ℕ → List ℕ → List ℕ → Bool
@@ -74,6 +84,9 @@ ScriptCase case starts ends =
 abbrev pub MapCase : List ℕ → List ℕ → List ℕ → OnThree Written
 MapCase case starts ends = MapTold (noteAt case starts ends) (numbersOf (fieldOf 5 case))
 
+abbrev pub LowercaseCase : List ℕ → List ℕ → List ℕ → OnThree Written
+LowercaseCase case starts ends = LowercaseTold (noteAt case starts ends)
+
 -- a call by its number: filter, append, and prepend for any other
 pub record WholeCase (call : ℕ) (case starts ends out₀ starts₀ ends₀ : List ℕ) (r : Written)
     (out s e : List ℕ) : Type 0 where
@@ -83,7 +96,7 @@ pub record WholeCase (call : ℕ) (case starts ends out₀ starts₀ ends₀ : L
       (PrependTold (noteAt case starts ends) (fieldOf 5 case)))
       out₀ starts₀ ends₀ r out s e
 
--- and replace, redact, transform_range, transform, map
+-- and replace, redact, transform_range, transform, map, lowercase
 pub record CallAnswered (call : ℕ) (case starts ends out₀ starts₀ ends₀ : List ℕ) (r : Written)
     (out s e : List ℕ) : Type 0 where
   pub met :
@@ -91,7 +104,8 @@ pub record CallAnswered (call : ℕ) (case starts ends out₀ starts₀ ends₀ 
       (cond (eqb call redactNumber) (RedactCase case)
       (cond (eqb call transformRangeNumber) (RangeCase case starts ends)
       (cond (eqb call transformNumber) (ScriptCase case starts ends)
-      (cond (eqb call mapNumber) (MapCase case starts ends) (WholeCase call case starts ends)))))
+      (cond (eqb call mapNumber) (MapCase case starts ends)
+      (cond (eqb call lowercaseNumber) (LowercaseCase case starts ends) (WholeCase call case starts ends))))))
       out₀ starts₀ ends₀ r out s e
 
 -- the replay of a call by its number, or of clear, whose answer has two lengths; the buffers are in the fields

@@ -7,9 +7,11 @@ use crate::scripts::transform_range;
 use crate::told::is_published;
 use crate::whole::clear;
 use crate::whole::edit;
+use crate::whole::lowercase;
 use crate::whole::map;
 use buffers::Offset;
 use stored_answers::calls::CLEAR;
+use stored_answers::calls::LOWERCASE;
 use stored_answers::calls::MAP;
 use stored_answers::calls::REDACT;
 use stored_answers::calls::REPLACE;
@@ -45,6 +47,7 @@ fn answered(
         TRANSFORM_RANGE => transform_range(case, starts, ends, out, out_starts, out_ends),
         TRANSFORM => transform(case, starts, ends, out, out_starts, out_ends),
         MAP => map(case, starts, ends, out, out_starts, out_ends),
+        LOWERCASE => lowercase(case, starts, ends, out, out_starts, out_ends),
         _ => edit(call, case, starts, ends, out, out_starts, out_ends),
     }
 }

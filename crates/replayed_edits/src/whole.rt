@@ -11,11 +11,12 @@ use zulmyren::answers::Written;
 use zulmyren::editing::zulmyren_append;
 use zulmyren::editing::zulmyren_clear;
 use zulmyren::editing::zulmyren_filter;
+use zulmyren::editing::zulmyren_lowercase;
 use zulmyren::editing::zulmyren_map;
 use zulmyren::editing::zulmyren_prepend;
 ghost use Rattle.stored_answers.specs.Lending.{noteAt};
 ghost use Rattle.zulmyren.specs.Edits.{ClearTold};
-ghost use Rattle.replayed_edits.specs.Replaying.{MapCase, Replayed, WholeCase, clearStored};
+ghost use Rattle.replayed_edits.specs.Replaying.{LowercaseCase, MapCase, Replayed, WholeCase, clearStored};
 
 // A note, code points.
 pub fn map(
@@ -39,6 +40,31 @@ pub fn map(
         ends,
         value(case, 4),
         &codes[..n],
+        out,
+        out_starts,
+        out_ends,
+    )
+}
+
+// A note.
+pub fn lowercase(
+    case: &[u8],
+    starts: &[Offset],
+    ends: &[Offset],
+    out: &mut [u8],
+    out_starts: &mut [Offset],
+    out_ends: &mut [Offset],
+) -> Written
+    ensures { λ r. ⌜ LowercaseCase (now (case .entry)) (now (starts .entry)) (now (ends .entry))
+        (now (out .entry)) (now («out_starts» .entry)) (now («out_ends» .entry))
+        r (now (out .exit)) (now («out_starts» .exit)) (now («out_ends» .exit)) ⌝ }
+{
+    zulmyren_lowercase(
+        field(case, 0),
+        field(case, 1),
+        starts,
+        ends,
+        value(case, 4),
         out,
         out_starts,
         out_ends,

@@ -27,3 +27,6 @@ appendNumber = 23
 
 abbrev pub clearNumber : ℕ
 clearNumber = 25
+
+abbrev pub lowercaseNumber : ℕ
+lowercaseNumber = 26

@@ -51,5 +51,7 @@ pub const PREPEND: u8 = 24;
 
 pub const CLEAR: u8 = 25;
 
+pub const LOWERCASE: u8 = 26;
+
 // How many calls there are.
-pub const CALLS: u8 = 26;
+pub const CALLS: u8 = 27;

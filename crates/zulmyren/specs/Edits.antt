@@ -6,6 +6,7 @@ use Rattle.note.specs.Refusals.{OnThree}
 use Rattle.convert.specs.declared.Range.{Range}
 use Rattle.transform.specs.Transforming.{TransformCall}
 use Rattle.edits.specs.Whole.{AppendCall, ClearCall, FilterCall, MapCall, PrependCall}
+use Rattle.lowercase.specs.Lowering.{LowercaseCall}
 use Rattle.zulmyren.specs.declared.answers.Written.{Written}
 use Rattle.zulmyren.specs.declared.answers.Lengths.{Lengths}
 use Rattle.zulmyren.specs.Calls.{clearedOf, editedOf}
@@ -30,6 +31,9 @@ AppendTold n string = ToldThree editedOf (AppendCall n string)
 abbrev pub PrependTold : Note → List ℕ → OnThree Written
 PrependTold n string = ToldThree editedOf (PrependCall n string)
 
--- nothing
+-- nothing; of `clear` the answer has two lengths
+abbrev pub LowercaseTold : Note → OnThree Written
+LowercaseTold n = ToldThree editedOf (LowercaseCall n)
+
 abbrev pub ClearTold : Note → OnThree Lengths
 ClearTold n = ToldThree clearedOf (ClearCall n)

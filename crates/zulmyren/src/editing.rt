@@ -10,7 +10,8 @@ ghost use Rattle.note.specs.Notes.{lent};
 ghost use Rattle.convert.specs.Converting.{rangeOf};
 ghost use Rattle.transform.specs.Transforming.{wholeOriginal};
 ghost use Rattle.zulmyren.specs.Calls.{sideOf};
-ghost use Rattle.zulmyren.specs.Edits.{AppendTold, ClearTold, FilterTold, MapTold, PrependTold, TransformTold};
+ghost use Rattle.zulmyren.specs.Edits.{AppendTold, ClearTold, FilterTold, LowercaseTold, MapTold};
+ghost use Rattle.zulmyren.specs.Edits.{PrependTold, TransformTold};
 
 #[no_mangle]
 pub extern "C" fn zulmyren_transform_range(
@@ -110,6 +111,35 @@ pub extern "C" fn zulmyren_map(
         ends,
         original_shift,
         codes,
+        out,
+        out_starts,
+        out_ends,
+    ))
+}
+
+#[no_mangle]
+pub extern "C" fn zulmyren_lowercase(
+    original: &[u8],
+    normalized: &[u8],
+    starts: &[Offset],
+    ends: &[Offset],
+    original_shift: u32,
+    out: &mut [u8],
+    out_starts: &mut [Offset],
+    out_ends: &mut [Offset],
+) -> Written
+    ensures { λ r. ⌜ LowercaseTold
+        (lent (now (original .entry)) (now (normalized .entry)) (now (starts .entry)) (now (ends .entry))
+        «original_shift»)
+        (now (out .entry)) (now («out_starts» .entry)) (now («out_ends» .entry))
+        r (now (out .exit)) (now («out_starts» .exit)) (now («out_ends» .exit)) ⌝ }
+{
+    edited_to_c(lowercase::lowercase(
+        original,
+        normalized,
+        starts,
+        ends,
+        original_shift,
         out,
         out_starts,
         out_ends,
