@@ -14,7 +14,7 @@ const SLICE: Table =
     );
 
 const SLICE_ORIGINAL: Table =
-    Table::new("`slice`, half of the transcript, check included", &[RUST.at_most([0.15, 0.24, 0.24, 0.29])]);
+    Table::new("`slice`, half of the transcript, check included", &[RUST.at_most([0.15, 0.24, 0.27, 0.29])]);
 
 pub fn bench(bench: &mut Bench) {
     bench.table(&SLICE, |texts| slice(texts, false));

@@ -30,7 +30,9 @@ use Rattle.utf8.specs.Formed.{charRange}
 use Rattle.edit_steps.specs.Edits.{skipped, starves, moved as stepTo, starved, carriedValue, produced, firstPosition, relaid, edited, transformed}
 use Rattle.edits.specs.Characters.{codeAt, codesFrom, codesOf}
 use Rattle.edits.specs.Whole.{allAdding, prependEdit, clearEdit}
-use Rattle.examples.specs.Worked.{aéb, nest, blank, final, worked, every, WorkedNotes, aé, prependedNothing}
+use Rattle.lowercase.specs.Images.{run, twins, lowercaseTable, lowerImage, images}
+use Rattle.lowercase.specs.Lowering.{lowerCommands, lowercaseEdit}
+use Rattle.examples.specs.Worked.{aéb, nest, blank, final, worked, every, WorkedNotes, aé, AÉ漢, İA, kelvinÉ, prependedNothing}
 
 pub worked-notes : WorkedNotes
 unfolding every worked aéb nest blank final foundBytes foundPlaces matchesFrom matchesWithin between firstFrom firstOf
@@ -42,4 +44,5 @@ unfolding every worked aéb nest blank final foundBytes foundPlaces matchesFrom 
     entryAt placesOf wholeList readFrom fitsAt coversFrom covers piece laid beforeEnd replaced same aé
     prependedNothing scalar encoded bytesOf lenUtf8 skipped starves stepTo starved carriedValue produced charRange
     firstPosition relaid edited transformed codeAt codesFrom codesOf allAdding prependEdit clearEdit
+    AÉ漢 İA kelvinÉ run twins lowercaseTable lowerImage images lowerCommands lowercaseEdit
 worked-notes = refl

@@ -8,7 +8,7 @@ use lib.ListN.{length}
 use Rattle.buffers.specs.Same.{same}
 use Rattle.note.specs.declared.Verdict.{Verdict}
 use Rattle.note.specs.declared.Verdict.the-variants.{Accepted, Refused as Rejected}
-use Rattle.note.specs.Refusals.{verdict, unlessRefused}
+use Rattle.note.specs.Refusals.{numberOf, verdict, unlessRefused}
 use Rattle.note.specs.Notes.{Note, limit}
 use Rattle.note.specs.Starting.{starting}
 use Rattle.convert.specs.declared.Range.{Range}
@@ -37,6 +37,7 @@ use Rattle.edits.specs.declared.Clearing.the-variants.{Cleared, Refused as Uncl
 use Rattle.note.specs.Faults.{stringFaults}
 use Rattle.transform.specs.Transforming.{callFaults}
 use Rattle.edits.specs.Whole.{prependEdit, clearEdit, clearFaults}
+use Rattle.lowercase.specs.Lowering.{lowercaseEdit, lowercaseFaults}
 
 -- whether an answer is this range, of this text
 abbrev pub sameRange : Range → Range → Bool
@@ -57,6 +58,10 @@ names (Unmapped k) a e = false
 abbrev pub accepts : Verdict → Bool
 accepts Accepted = true
 accepts (Rejected k) = false
+
+abbrev pub refuses : Verdict → ℕ → Bool
+refuses Accepted number = false
+refuses (Rejected k) number = eqb (numberOf k) number
 
 abbrev pub isNote : PublishedNote → List ℕ → List ℕ → List ℕ → Bool
 isNote p text starts ends = same (p .text) text && same (p .starts) starts && same (p .ends) ends
@@ -90,12 +95,28 @@ abbrev pub clears : Clearing → ℕ → ℕ → Bool
 clears (Cleared before left) a b = eqb before a && eqb left b
 clears (Uncleared k) a b = false
 
+-- whether lowercase accepts, in buffers as long as the result, and leaves this text with these alignments
+abbrev pub lowers : Note → List ℕ → List ℕ → List ℕ → Bool
+lowers n text starts ends =
+    accepts (verdict (lowercaseFaults limit n (length text)))
+    && holds (transformed n (lowercaseEdit n)) text starts ends
+
 -- the starting note of `aé`, and that note after `prepend("")`
 unfoldable pub aé : Note
 aé = starting (0x61 ∷ 0xC3 ∷ 0xA9 ∷ [])
 
 unfoldable pub prependedNothing : Note
 prependedNothing = transformed aé (prependEdit aé [])
+
+-- the starting notes of `AÉ漢`, of `İA`, whose first letter is U+0130, and of the Kelvin sign (U+212A) and `É`
+unfoldable pub AÉ漢 : Note
+AÉ漢 = starting (0x41 ∷ 0xC3 ∷ 0x89 ∷ 0xE6 ∷ 0xBC ∷ 0xA2 ∷ [])
+
+unfoldable pub İA : Note
+İA = starting (0xC4 ∷ 0xB0 ∷ 0x41 ∷ [])
+
+unfoldable pub kelvinÉ : Note
+kelvinÉ = starting (0xE2 ∷ 0x84 ∷ 0xAA ∷ 0xC3 ∷ 0x89 ∷ [])
 
 -- the starting note of `aéb`
 unfoldable pub aéb : Note
@@ -147,6 +168,16 @@ worked =
     (Cleared (length (prependedNothing .normalized))
     (length (transformed prependedNothing (clearEdit prependedNothing) .normalized)))) 3 1
     ∷ holds (transformed prependedNothing (clearEdit prependedNothing)) (0x61 ∷ []) (0 ∷ []) (0 ∷ [])
+    -- `lowercase`: `aé漢`; `i`, U+0307 and `a`; that again is the same; the Kelvin sign stays; a head is 7; one byte less
+    -- than the result has is 9
+    ∷ lowers AÉ漢 (0x61 ∷ 0xC3 ∷ 0xA9 ∷ 0xE6 ∷ 0xBC ∷ 0xA2 ∷ [])
+    (0 ∷ 1 ∷ 1 ∷ 3 ∷ 3 ∷ 3 ∷ []) (1 ∷ 3 ∷ 3 ∷ 6 ∷ 6 ∷ 6 ∷ [])
+    ∷ lowers İA (0x69 ∷ 0xCC ∷ 0x87 ∷ 0x61 ∷ []) (0 ∷ 0 ∷ 0 ∷ 2 ∷ []) (2 ∷ 2 ∷ 2 ∷ 3 ∷ [])
+    ∷ lowers (transformed İA (lowercaseEdit İA)) (0x69 ∷ 0xCC ∷ 0x87 ∷ 0x61 ∷ [])
+    (0 ∷ 0 ∷ 0 ∷ 2 ∷ []) (2 ∷ 2 ∷ 2 ∷ 3 ∷ [])
+    ∷ lowers kelvinÉ (0xE2 ∷ 0x84 ∷ 0xAA ∷ 0xC3 ∷ 0xA9 ∷ []) (0 ∷ 0 ∷ 0 ∷ 3 ∷ 3 ∷ []) (3 ∷ 3 ∷ 3 ∷ 5 ∷ 5 ∷ [])
+    ∷ refuses (verdict (lowercaseFaults limit prependedNothing 3)) 7
+    ∷ refuses (verdict (lowercaseFaults limit İA 3)) 9
     ∷ []
 
 unfoldable pub every : List Bool → Bool
