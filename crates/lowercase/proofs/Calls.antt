@@ -19,6 +19,7 @@ use Rattle.note.proofs.FirstMet.{refused-then, accepted-then}
 use Rattle.note.proofs.Sound.{length-starts, length-ends, normalized-formed, shared-at}
 use Rattle.note.proofs.Faults.{accepted-sound}
 use Rattle.code_point_blocks.specs.Codes.{textOf}
+use Rattle.map_columns.specs.Spreading.{ofChars}
 use Rattle.map_columns.specs.Laying.{Steady}
 use Rattle.edit_steps.specs.Edits.{characters, edited, transformed}
 use Rattle.transform.specs.declared.Editing.{Editing}
@@ -30,7 +31,7 @@ use Rattle.edits.specs.Plain.{MakesUnless, widthless, headBytes, headChars}
 use Rattle.edits.proofs.Head.{whole-behind}
 use Rattle.edits.proofs.Sifted.{codes-chars, head-told}
 use Rattle.lowercase.specs.Images.{lowercaseTable}
-use Rattle.lowercase.specs.Lowering.{lowercaseEdit, lowercaseFaults, allImages, lowercased}
+use Rattle.lowercase.specs.Lowering.{lowercaseEdit, lowercaseFaults, allImages, carriedByImages, lowercased}
 use Rattle.lowercase.specs.Laying.{loweredBytes, dottedPairs, grown, LowerRoom, ColumnRoom}
 use Rattle.lowercase.proofs.Bytes.{lowered-text}
 use Rattle.lowercase.proofs.Grown.{grown-carried, grown-size}
@@ -103,20 +104,28 @@ module _ (most : ℕ) (n : Note) (out₀ starts₀ ends₀ : List ℕ) {v : Verd
           pub text-room : {table : List ℕ} → table ≡ lowercaseTable → LowerRoom (n .normalized) 0 table out₀ 0
           text-room tabled = record { formed = normalized-formed n sound; inside = omega arith; tabled = tabled; room = omega (arith, ap length text, size, lowest, r) }
 
+          column-room : (xs buffer : List ℕ) → length xs ≡ length (n .normalized) → room ≤ length buffer → ColumnRoom (n .normalized) xs (length (n .normalized) + d) buffer
+          column-room xs buffer one long = record { one-each = one; counted = omega (arith, counted); room = omega arith }
+
           pub starts-room : ColumnRoom (n .normalized) (n .starts) (length (n .normalized) + d) starts₀
-          starts-room = record { one-each = length-starts n sound; counted = omega (arith, counted); room = omega (arith, lowest, r) }
+          starts-room = column-room (n .starts) starts₀ (length-starts n sound) (omega (arith, lowest, r))
 
           pub ends-room : ColumnRoom (n .normalized) (n .ends) (length (n .normalized) + d) ends₀
-          ends-room = record { one-each = length-ends n sound; counted = omega (arith, counted); room = omega (arith, lowest, r) }
+          ends-room = column-room (n .ends) ends₀ (length-ends n sound) (omega (arith, lowest, r))
 
-          pub lower-made : {out starts ends : List ℕ} → out ≡ overlay (loweredBytes (n .normalized)) out₀ → starts ≡ overlay (grown (n .normalized) (n .starts)) starts₀ → ends ≡ overlay (grown (n .normalized) (n .ends)) ends₀ → Called (Edited (length (n .normalized) + d)) out starts ends
+          column-made : (xs buffer : List ℕ) {now : List ℕ} → length xs ≡ length (n .normalized) → Steady (n .normalized) xs → now ≡ overlay (grown (n .normalized) xs) buffer
+              → now ≡ overlay (carriedByImages (codesOf (n .normalized)) (ofChars (n .normalized) xs)) buffer
+          column-made xs buffer one steady is =
+              is ∙ ap (λ (l : List ℕ). overlay l buffer) (grown-carried (n .normalized) xs one steady (normalized-formed n sound))
+
+          pub lower-made : {out starts ends : List ℕ} → out ≡ overlay (loweredBytes (n .normalized)) out₀ → starts ≡ overlay (grown (n .normalized) (n .starts)) starts₀
+              → ends ≡ overlay (grown (n .normalized) (n .ends)) ends₀ → Called (Edited (length (n .normalized) + d)) out starts ends
           unfolding transformed lowercased
           lower-made o s e =
               let leaves = sym (makes .leaves unheaded) in
-              let formed = normalized-formed n sound in
               inputs-accepted most n inputs refl (lowercaseEdit n) out₀ starts₀ ends₀ accepted refl refl
               (accepted-rewritten (small-enough most (n .normalized) (lowercaseEdit n) (least (length out₀) (length starts₀) (length ends₀)) (makes .lies) (makes .exhausts ∙ unheaded) (omega (arith, result, lowest, r)))
               (sym result)
               (o ∙ ap (λ (l : List ℕ). overlay l out₀) text ∙ ap (λ (x : Note). overlay (x .normalized) out₀) leaves)
-              (s ∙ ap (λ (l : List ℕ). overlay l starts₀) (grown-carried (n .normalized) (n .starts) (length-starts n sound) steady-starts formed) ∙ ap (λ (x : Note). overlay (x .starts) starts₀) leaves)
-              (e ∙ ap (λ (l : List ℕ). overlay l ends₀) (grown-carried (n .normalized) (n .ends) (length-ends n sound) steady-ends formed) ∙ ap (λ (x : Note). overlay (x .ends) ends₀) leaves))
+              (column-made (n .starts) starts₀ (length-starts n sound) steady-starts s ∙ ap (λ (x : Note). overlay (x .starts) starts₀) leaves)
+              (column-made (n .ends) ends₀ (length-ends n sound) steady-ends e ∙ ap (λ (x : Note). overlay (x .ends) ends₀) leaves))
