@@ -69,7 +69,7 @@ pub latin : (b : ℕ) → 0xC2 ≤ b → b ≤ 0xC5 → beginsLatin b ≡ true
 unfolding beginsLatin
 latin b l h = rw (le-leb 0xC2 b l, le-leb b 0xC5 h)
 
-below-latin : (b : ℕ) → b < 0xC2 → beginsLatin b ≡ false
+pub below-latin : (b : ℕ) → b < 0xC2 → beginsLatin b ≡ false
 unfolding beginsLatin
 below-latin b h = and-false-l _ (leb b 0xC5) (lt-leb 0xC2 b h)
 
@@ -97,6 +97,10 @@ passed-one a e = rw e
 small-scalar : (c : ℕ) → c < 384 → scalar c ≡ true
 unfolding scalar
 small-scalar c h = rw (le-leb c 0x10FFFF (omega arith), lt-leb 0xD800 c (omega arith))
+
+pub two-wide : (c : ℕ) → 0x80 ≤ c → c < 384 → lenUtf8 c ≡ 2
+unfolding lenUtf8
+two-wide c high inside = ap length (bytesOf-scalar c (small-scalar c inside) ∙ encoded-two c high (omega arith))
 
 short : (c : ℕ) → c < 384 → length (encoded c) ≤ 2
 short c h =
@@ -133,7 +137,30 @@ pub byte-high : (b : ℕ) → 0x80 ≤ b → loweredByte b ≡ b
 unfolding loweredByte
 byte-high b h = rw (le-ltb b 0x80 h)
 
--- bytes that each give one, so many from p on
+-- bytes that each give one
+pub length-each : (s : List ℕ) → length (loweredEach s) ≡ length s
+unfolding loweredEach
+length-each [] = refl
+length-each (b ∷ s) = ap suc (length-each s)
+
+pub each-at : (s : List ℕ) (i : ℕ) → i < length s → getD (loweredEach s) i 0 ≡ loweredByte (getD s i 0)
+unfolding loweredEach
+each-at [] i h = absurd (omega arith)
+each-at (b ∷ s) zero h = refl
+each-at (b ∷ s) (suc i) h = each-at s i (omega arith)
+
+pub each-append : (s t : List ℕ) → loweredEach (s ++ t) ≡ loweredEach s ++ loweredEach t
+unfolding loweredEach
+each-append [] t = refl
+each-append (b ∷ s) t = ap (_∷_ (loweredByte b)) (each-append s t)
+
+pub each-drop : (k : ℕ) (s : List ℕ) → drop k (loweredEach s) ≡ loweredEach (drop k s)
+unfolding loweredEach
+each-drop zero s = refl
+each-drop (suc k) [] = refl
+each-drop (suc k) (b ∷ s) = each-drop k s
+
+-- so many from p on, of a text
 pub lowered-alone : (s : List ℕ) (k p : ℕ) → p + k ≤ length s → ((i : ℕ) → p ≤ i → i < p + k → beginsLatin (getD s i 0) ≡ false) → loweredBytes (drop p s) ≡ loweredEach (part s p (p + k)) ++ loweredBytes (drop (p + k) s)
 unfolding loweredEach
 lowered-alone s zero p h each =

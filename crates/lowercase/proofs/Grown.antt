@@ -359,9 +359,6 @@ module _ {s xs : List ℕ} {size : ℕ} {out₀ : List ℕ} (r : ColumnRoom s xs
   column-copied whole is = is ∙ splice-overlay out₀ xs ∙ ap (λ (l : List ℕ). overlay l out₀) (sym (ungrown 0 s xs (r .one-each) (omega (arith, r .counted))))
 
   module _ {out : List ℕ} {before at i : ℕ} (k : Growing s xs out₀ out before at i) where
-    pub growing-same : length out ≡ length out₀
-    growing-same = k .laying .same
-
     pub all-growing : length s ≤ i → out ≡ overlay (grown s xs) out₀
     all-growing done =
         let none : grownAfter before (drop i s) (drop i xs) ≡ [] = rw (drop-of-length-le s done) (grown-end before (drop i xs)) in

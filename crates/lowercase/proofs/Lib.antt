@@ -3,6 +3,7 @@ pub mod Images
 pub mod Bytes
 pub mod Pairs
 pub mod Running
+pub mod Fixing
 pub mod Grown
 pub mod Lowering
 pub mod Calls

@@ -1,19 +1,18 @@
--- Laws of the walk: what the steps of it have laid, from a byte on.
-use Prim.Native.Nat.{ℕ, zero, suc, _+_, _-_, _≤_, _<_}
+-- Laws of a text laid block by block: what has been laid, from a byte on.
+use Prim.Native.Nat.{ℕ, _+_, _-_, _≤_, _<_}
 use mathlib.Core.Path.{_≡_, _∙_, ap, refl, sym}
 use mathlib.Core.Bool.{Bool, true, false, _&&_, not}
-use mathlib.Core.List.{List, [], _∷_, _++_, append-assoc, append-nil}
+use mathlib.Core.List.{List, [], _++_, append-assoc, append-nil}
 use native.Mathlib.Omega.{arith}
 use lib.ListN.{length, getD, drop, length-append, drop-of-length-le}
 use borrow.Author.Tests.{not-true}
 use Rattle.buffers.specs.Every.{everyBelow}
 use Rattle.buffers.specs.Splice.{part, splice, overlay, Laid}
-use Rattle.buffers.proofs.Cases.{true-or-false}
 use Rattle.buffers.proofs.Every.{every-suc, every-at}
 use Rattle.buffers.proofs.Splice.{length-part, part-index, laid-length, laid-after, splice-nil, splice-overlay}
 use Rattle.map_columns.specs.declared.Reached.{Reached}
-use Rattle.lowercase.specs.Laying.{beginsLatin, loweredByte, loweredEach, noneLatin, bytesFor, passedBy, loweredBytes, LowerRoom, NextLaid, WalkLaid}
-use Rattle.lowercase.proofs.Bytes.{lowered-none, lowered-at, lowered-alone, passed-one, passed-two, latin-next}
+use Rattle.lowercase.specs.Laying.{beginsLatin, loweredEach, noneLatin, loweredBytes, LowerRoom, WalkLaid}
+use Rattle.lowercase.proofs.Bytes.{lowered-none, lowered-alone, length-each}
 
 -- the bytes from `from` up to i, and what is in the buffer up to `at`
 pub record Running (s : List ℕ) (from : ℕ) (out₀ : List ℕ) (start : ℕ) (out : List ℕ) (i at : ℕ) : Type 0 where
@@ -50,40 +49,13 @@ module _ {s : List ℕ} {from : ℕ} {table out₀ : List ℕ} {start : ℕ} (r 
   pub run-after : {to : ℕ} {reached : Reached} {out₁ : List ℕ} → WalkLaid s i to out at reached out₁ → Running s from out₀ start out₁ (reached .position) (reached .written)
   run-after l = run-on (l .given) (l .cut) (l .laid) (l .inside)
 
-  pub run-laid : {to : ℕ} → to ≤ i → WalkLaid s from to out₀ start (record { position = i; written = at }) out
-  run-laid h = record { given = k .given; cut = k .cut; laid = k .laid; onward = h; inside = k .inside }
-
-  -- one step more
-  module _ (h : i < length s) {reached : Reached} {out₁ : List ℕ} (l : NextLaid s i out at reached out₁) where
-    step-inside : i + passedBy (getD s i 0) ≤ length s
-    step-inside =
-        true-or-false (beginsLatin (getD s i 0))
-        (λ t. omega (arith, passed-two (getD s i 0) t, latin-next s i (r .formed) h t .0))
-        (λ f. omega (arith, passed-one (getD s i 0) f))
-
-    pub run-next : Running s from out₀ start out₁ (reached .position) (reached .written)
-    run-next =
-        run-on (bytesFor (getD s i 0) (getD s (i + 1) 0)) (rw (l .passed) (lowered-at s i h)) (l .laid) (omega (arith, l .passed, step-inside))
-
 -- the whole text
 pub run-all : {s table out₀ : List ℕ} → LowerRoom s 0 table out₀ 0 → {out : List ℕ} {i at : ℕ} → Running s 0 out₀ 0 out i at → length s ≤ i → out ≡ overlay (loweredBytes s) out₀
 run-all {s} {out₀ = out₀} r {i = i} k done =
     let all : loweredBytes s ≡ k .given = k .cut ∙ rw (drop-of-length-le s done, lowered-none) (append-nil (k .given)) in
     k .laid .holds ∙ splice-overlay out₀ (k .given) ∙ rw all
 
--- A BLOCK of bytes that each give one
-pub length-each : (s : List ℕ) → length (loweredEach s) ≡ length s
-unfolding loweredEach
-length-each [] = refl
-length-each (b ∷ s) = ap suc (length-each s)
-
-pub each-at : (s : List ℕ) (i : ℕ) → i < length s → getD (loweredEach s) i 0 ≡ loweredByte (getD s i 0)
-unfolding loweredEach
-each-at [] i h = absurd (omega arith)
-each-at (b ∷ s) zero h = refl
-each-at (b ∷ s) (suc i) h = each-at s i (omega arith)
-
--- the test of a block, byte by byte
+-- A BLOCK of bytes that each give one: the test of it, byte by byte
 pub record Tested (s : List ℕ) (none : Bool) (i : ℕ) : Type 0 where
   pub most : i ≤ length s
   pub so-far : none ≡ everyBelow i (λ k. not (beginsLatin (getD s k 0)))

@@ -1,16 +1,16 @@
 -- What the inner functions are told and say: a well-formed text walked by its bytes.
-use Prim.Native.Nat.{ℕ, zero, suc, _+_, _-_, _*_, _≤_}
+use Prim.Native.Nat.{ℕ, zero, suc, _+_, _-_, _*_, _≤_, _<_}
 use mathlib.Core.Path.{_≡_}
 use mathlib.Core.Bool.{Bool, true, cond, _&&_, not}
 use mathlib.Core.List.{List, [], _∷_, _++_}
 use lib.Dec.{leb, ltb, eqb}
-use lib.ListN.{length, getD, drop, replicate}
+use lib.ListN.{length, getD, take, drop, replicate}
 use Rattle.buffers.specs.Every.{everyBelow}
-use Rattle.buffers.specs.Splice.{Laid}
-use Rattle.utf8.specs.Formed.{wellFormed, continues}
+use Rattle.buffers.specs.Splice.{part, splice, Laid}
+use Rattle.utf8.specs.Formed.{wellFormed}
 use Rattle.code_point_blocks.specs.Codes.{textOf}
 use Rattle.map_columns.specs.declared.Reached.{Reached}
-use Rattle.lowercase.specs.Images.{lowerImage, images, lowercaseTable}
+use Rattle.lowercase.specs.Images.{lowerImage, dottedI, images, lowercaseTable}
 
 -- a byte that begins a character from U+0080 to U+017F
 unfoldable pub beginsLatin : ℕ → Bool
@@ -85,15 +85,37 @@ grownAfter before (b ∷ s) (x ∷ xs) = replicate (1 + dottedAt before b) x ++ 
 abbrev pub grown : List ℕ → List ℕ → List ℕ
 grown s xs = grownAfter 0 s xs
 
--- two bytes of a character of the table, and room for what they give
-pub record LatinRoom (a b : ℕ) (table out : List ℕ) (at : ℕ) : Type 0 where
-  pub latin : beginsLatin a ≡ true
-  pub goes-on : continues b ≡ true
-  pub tabled : table ≡ lowercaseTable
-  pub room : at + length (textOf (images (pairCode a b))) ≤ length out
+-- the places of the bytes that begin a character from U+0080 to U+017F; the first byte's place is k
+unfoldable pub latinPlaces : ℕ → List ℕ → List ℕ
+latinPlaces k [] = []
+latinPlaces k (b ∷ s) = cond (beginsLatin b) (k ∷ latinPlaces (suc k) s) (latinPlaces (suc k) s)
 
-abbrev pub LatinLaid : ℕ → ℕ → List ℕ → ℕ → ℕ → List ℕ → Type 0
-LatinLaid a b out₀ at end out = Laid (textOf (images (pairCode a b))) out₀ at end out
+-- they are in front of a buffer; what it has after them is left to the program (DECISIONS 94)
+pub record PlacesFound (block places₀ : List ℕ) (r : ℕ) (places : List ℕ) : Type 0 where
+  pub counted : r ≡ length (latinPlaces 0 block)
+  pub front : take r places ≡ latinPlaces 0 block
+  pub same : length places ≡ length places₀
+
+-- what the character of two bytes at j gives
+abbrev pub givenAt : List ℕ → ℕ → List ℕ
+givenAt s j = textOf (images (pairCode (getD s j 0) (getD s (j + 1) 0)))
+
+-- what is laid once more where that is longer than two bytes: those after it up to `to`, each alone
+unfoldable pub laidAgain : List ℕ → ℕ → ℕ → List ℕ
+laidAgain s j to = cond (eqb (pairCode (getD s j 0) (getD s (j + 1) 0)) dottedI) (loweredEach (part s (j + 2) to)) []
+
+-- a character of the table at j of a well-formed text, and room for all that
+pub record LatinRoom (s : List ℕ) (j to : ℕ) (table out : List ℕ) (at : ℕ) : Type 0 where
+  pub formed : wellFormed s ≡ true
+  pub more : j < length s
+  pub latin : beginsLatin (getD s j 0) ≡ true
+  pub to-inside : to ≤ length s
+  pub tabled : table ≡ lowercaseTable
+  pub room : at + length (givenAt s j ++ laidAgain s j to) ≤ length out
+
+pub record LatinLaid (s : List ℕ) (j to : ℕ) (out₀ : List ℕ) (at end : ℕ) (out : List ℕ) : Type 0 where
+  pub reach : end ≡ at + length (givenAt s j)
+  pub holds : out ≡ splice out₀ at (givenAt s j ++ laidAgain s j to)
 
 -- a text from i on, and room for what it gives
 pub record LowerRoom (s : List ℕ) (i : ℕ) (table out : List ℕ) (at : ℕ) : Type 0 where
@@ -101,11 +123,6 @@ pub record LowerRoom (s : List ℕ) (i : ℕ) (table out : List ℕ) (at : ℕ) 
   pub inside : i ≤ length s
   pub tabled : table ≡ lowercaseTable
   pub room : at + length (loweredBytes (drop i s)) ≤ length out
-
--- what the byte at i gives is laid
-pub record NextLaid (s : List ℕ) (i : ℕ) (out₀ : List ℕ) (at : ℕ) (r : Reached) (out : List ℕ) : Type 0 where
-  pub passed : r .position ≡ i + passedBy (getD s i 0)
-  pub laid : Laid (bytesFor (getD s i 0) (getD s (i + 1) 0)) out₀ at (r .written) out
 
 -- what the bytes from `from` on give is laid, up to a byte at or after `to` that another step begins with; which one is
 -- left to the program (DECISIONS 94)

@@ -9,8 +9,8 @@ use borrow.Author.Needs.{needs}
 use Rattle.buffers.proofs.Splice.{Written, none-yet, one-more, all-written}
 use Rattle.utf8.proofs.LenUtf8.{bool-most}
 use Rattle.lowercase.specs.Laying.{loweredEach}
+use Rattle.lowercase.proofs.Bytes.{length-each, each-at}
 use Rattle.lowercase.proofs.Pairs.{compared-byte, compared-fits}
-use Rattle.lowercase.proofs.Running.{length-each, each-at}
 use Rattle.lowercase.proofs.text.lay_block.Statement.{statement}
 use Rattle.lowercase.proofs.text.lay_block.Tie as tie
 

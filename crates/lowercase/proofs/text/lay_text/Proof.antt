@@ -21,7 +21,7 @@ entry c = c .before .before .before
 abbrev laid : tie.After-lay-block Inv-loop μ-loop → tie.At-loop Inv-loop μ-loop
 laid c = c .before .before .before .before .before .before .before
 
-abbrev walked : tie.After-lay-run Inv-loop μ-loop → tie.At-loop Inv-loop μ-loop
+abbrev walked : tie.After-lay-pairs Inv-loop μ-loop → tie.At-loop Inv-loop μ-loop
 walked c = c .before .before .before .before .before .before
 
 lay-block-requires : tie.Need-lay-block-requires Inv-loop μ-loop
@@ -43,30 +43,30 @@ loop-again c =
     run-block (entry head .pre) (head .loop .inv) (head .loop .i + 64) (omega arith) (omega arith)
     (c .before .before .before .before .before .before .none-latin .ensures) (c .before .before .before .before .before .if1 .taken) (omega arith) (c .before .before .lay-block .ensures)
 
-lay-run-requires : tie.Need-lay-run-requires Inv-loop μ-loop
-lay-run-requires c κs =
+lay-pairs-requires : tie.Need-lay-pairs-requires Inv-loop μ-loop
+lay-pairs-requires c κs =
     let head = c .before .before .before .before .before in
-    (run-room (entry head .pre) (head .loop .inv), omega arith)
+    (run-room (entry head .pre) (head .loop .inv), omega arith, omega arith, omega arith)
 
 loop-again-2 : tie.Need-loop-again-2 Inv-loop μ-loop
 loop-again-2 c =
     let head = walked (c .before .before) in
-    run-after (entry head .pre) (head .loop .inv) (c .before .before .lay-run .ensures)
+    run-after (entry head .pre) (head .loop .inv) (c .before .before .lay-pairs .ensures)
 
-lay-run-requires-2 : tie.Need-lay-run-requires-2 Inv-loop μ-loop
-lay-run-requires-2 c κs =
+lay-pairs-requires-2 : tie.Need-lay-pairs-requires-2 Inv-loop μ-loop
+lay-pairs-requires-2 c κs =
     let head = c .before .before in
-    (run-room (entry head .pre) (head .loop .inv), omega arith)
+    (run-room (entry head .pre) (head .loop .inv), omega arith, omega arith, omega arith)
 
 same-length : tie.Need-same-length Inv-loop μ-loop
 same-length c =
     let head = c .before .before .before .before .before in
-    same-room (entry head .pre) (run-after (entry head .pre) (head .loop .inv) (c .before .before .lay-run2 .ensures))
+    same-room (entry head .pre) (run-after (entry head .pre) (head .loop .inv) (c .before .before .lay-pairs2 .ensures))
 
 returns : tie.Need-returns Inv-loop μ-loop
 returns c =
     let head = c .before .before .before .before .before in
-    let last = c .before .before .lay-run2 .ensures in
+    let last = c .before .before .lay-pairs2 .ensures in
     run-all (entry head .pre) (run-after (entry head .pre) (head .loop .inv) last) (last .onward)
 
 pub lay-text-spec : {M : Type 1} → statement M
@@ -83,9 +83,9 @@ lay-text-spec =
     (λ c. omega arith)
     loop-again
     (λ c. omega arith)
-    lay-run-requires
-    (λ c. omega (arith, c .before .before .lay-run .ensures .onward))
+    lay-pairs-requires
+    (λ c. omega (arith, c .before .before .lay-pairs .ensures .onward))
     loop-again-2
-    lay-run-requires-2
+    lay-pairs-requires-2
     same-length
     returns)
