@@ -53,7 +53,7 @@ lay-text-requires c κs =
     let checked = told headed .before .before in
     let given = entry checked .args in
     text-room limit (note (entry checked)) (given .out .now) (given .out-starts .now) (given .out-ends .now) (checked .check-note .ensures) (told headed .enum-told .given .1)
-    (headed .before .has-head .ensures) (headed .if1 .left) (fits .before .before .before .count-dotted .ensures) (fits .before .before .least-room .ensures) (fits .before .least-of-two .ensures) (fits .if2 .left)
+    (headed .before .has-head .ensures) (headed .if1 .left) (fits .before .before .before .count-dotted .ensures) (fits .before .before .least-room .ensures) (fits .before .least-of-two .ensures) (omega (arith, fits .if2 .left))
     (c .before .before .lowercase-table .ensures)
 
 lay-column-requires : tie.Need-lay-column-requires
@@ -63,7 +63,7 @@ lay-column-requires c κs =
     let checked = told headed .before .before in
     let given = entry checked .args in
     starts-room limit (note (entry checked)) (given .out .now) (given .out-starts .now) (given .out-ends .now) (checked .check-note .ensures) (told headed .enum-told .given .1)
-    (headed .before .has-head .ensures) (headed .if1 .left) (fits .before .before .before .count-dotted .ensures) (fits .before .before .least-room .ensures) (fits .before .least-of-two .ensures) (fits .if2 .left)
+    (headed .before .has-head .ensures) (headed .if1 .left) (fits .before .before .before .count-dotted .ensures) (fits .before .before .least-room .ensures) (fits .before .least-of-two .ensures) (omega (arith, fits .if2 .left))
 
 lay-column-requires-2 : tie.Need-lay-column-requires-2
 lay-column-requires-2 c κs =
@@ -72,7 +72,7 @@ lay-column-requires-2 c κs =
     let checked = told headed .before .before in
     let given = entry checked .args in
     ends-room limit (note (entry checked)) (given .out .now) (given .out-starts .now) (given .out-ends .now) (checked .check-note .ensures) (told headed .enum-told .given .1)
-    (headed .before .has-head .ensures) (headed .if1 .left) (fits .before .before .before .count-dotted .ensures) (fits .before .before .least-room .ensures) (fits .before .least-of-two .ensures) (fits .if2 .left)
+    (headed .before .has-head .ensures) (headed .if1 .left) (fits .before .before .before .count-dotted .ensures) (fits .before .before .least-room .ensures) (fits .before .least-of-two .ensures) (omega (arith, fits .if2 .left))
 
 returns-3 : tie.Need-returns-3
 returns-3 c =
@@ -87,7 +87,7 @@ returns-4 c =
     let checked = told headed .before .before in
     let given = entry checked .args in
     lower-made limit (note (entry checked)) (given .out .now) (given .out-starts .now) (given .out-ends .now) (checked .check-note .ensures) (told headed .enum-told .given .1)
-    (headed .before .has-head .ensures) (headed .if1 .left) (fits .before .before .before .count-dotted .ensures) (fits .before .before .least-room .ensures) (fits .before .least-of-two .ensures) (fits .if2 .left)
+    (headed .before .has-head .ensures) (headed .if1 .left) (fits .before .before .before .count-dotted .ensures) (fits .before .before .least-room .ensures) (fits .before .least-of-two .ensures) (omega (arith, fits .if2 .left))
     (c .before .before .before .before .before .before .before .before .before .before .lay-text .ensures) (c .before .before .before .before .before .before .lay-column .ensures) (c .before .before .lay-column2 .ensures)
 
 pub lowercase-spec : {M : Type 1} → statement M
