@@ -47,7 +47,7 @@ pub fn count_dotted(text: &[u8]) -> usize
 }
 
 // A column of the text in lowercase, which has `size` bytes: the second byte of U+0130 has its value twice, for the
-// added character too. Without U+0130 the column is copied. An inner function: the size is measured, and is the room.
+// added character too. Without U+0130 the column is copied. An inner function: there is room for that size.
 pub fn lay_column(text: &[u8], column: &[Offset], size: usize, out: &mut [Offset])
     requires { ⌜ ColumnRoom (now text) (now column) size (now out) ⌝ }
     ensures { λ _. ⌜ now (out .exit) ≡ overlay (grown (now (text .entry)) (now (column .entry))) (now (out .entry)) ⌝ }
