@@ -25,6 +25,8 @@ const LOWERCASE_DOTTED: Table =
     Table::new("`lowercase` of a note with each literal replaced by U+0130, check included", UNAIMED);
 const FILTER: Table =
     Table::new("`filter`, about a third dropped, check included", &[RUST.at_most([0.16, 0.21, 0.22, 0.16]), COPYING]);
+const FILTER_HEADED: Table =
+    Table::new("`filter` of a note with a head, about a third dropped, check included", UNAIMED);
 const FILTER_ALL_KEPT: Table =
     Table::new("`filter`, all kept, check included", &[RUST.at_most([0.039, 0.039, 0.078, 0.06]), COPYING]);
 const PREPEND: Table = Table::new("`prepend` of 8 bytes, check included", UNAIMED).because(IN_PLACE);
@@ -49,8 +51,9 @@ pub fn bench(bench: &mut Bench) {
     bench.table(&MAP_EDITED, |texts| map(texts, Marked::edited));
     bench.table(&LOWERCASE, |texts| lowercase(texts, Marked::fresh));
     bench.table(&LOWERCASE_DOTTED, |texts| lowercase(texts, |marked| marked.replaced(layouts::LITERAL, "İ")));
-    bench.table(&FILTER, |texts| filter(texts, |character| !(character as u32).is_multiple_of(3)));
-    bench.table(&FILTER_ALL_KEPT, |texts| filter(texts, |_| true));
+    bench.table(&FILTER, |texts| filter(texts, Marked::fresh, two_thirds));
+    bench.table(&FILTER_HEADED, |texts| filter(texts, headed, two_thirds));
+    bench.table(&FILTER_ALL_KEPT, |texts| filter(texts, Marked::fresh, |_| true));
     bench.table(&PREPEND, |texts| on_whole(texts, |note, out| library::prepend(note, string(), out), prepend));
     bench.table(&APPEND, |texts| on_whole(texts, |note, out| library::append(note, string(), out), append));
     bench.table(&CLEAR, |texts| on_whole(texts, |note, out| cleared(library::clear(note, out)), clear));
@@ -197,10 +200,24 @@ fn lowercase(texts: &[Marked], note: fn(&Marked) -> NormalizedString) -> Vec<Sid
     )
 }
 
-fn filter(texts: &[Marked], keep: fn(char) -> bool) -> Vec<Side<'_>> {
+/// The first character has no width, so the range begins after it and the flags go one by one. The last character is
+/// dropped: so the range has a character for each that is kept.
+fn headed(marked: &Marked) -> NormalizedString {
+    let mut note = marked.fresh();
+    note.prepend("");
+    note.append("0");
+    assert!(!two_thirds('0'));
+    note
+}
+
+fn two_thirds(character: char) -> bool {
+    !(character as u32).is_multiple_of(3)
+}
+
+fn filter(texts: &[Marked], note: fn(&Marked) -> NormalizedString, keep: fn(char) -> bool) -> Vec<Side<'_>> {
     edit(
         texts,
-        Marked::fresh,
+        note,
         |text| text.chars().map(|character| keep(character).into()).collect::<Vec<u8>>(),
         |note, flags, out| library::filter(note, flags, out),
         move |note, _| {

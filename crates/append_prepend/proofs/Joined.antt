@@ -12,6 +12,7 @@ use Rattle.buffers.specs.Splice.{part, splice, overlay}
 use Rattle.buffers.proofs.Splice.{splice-splice, splice-overlay, part-end}
 use Rattle.buffers.proofs.Cases.{le-or-lt}
 use Rattle.utf8.specs.Formed.{announced, wellFormed}
+use Rattle.utf8.proofs.Boundaries.{boundary-zero, char-at}
 use Rattle.note.specs.declared.Refusal.{Refusal}
 use Rattle.note.specs.declared.Refusal.the-variants.{NoRoom}
 use Rattle.note.specs.declared.Verdict.{Verdict}
@@ -32,7 +33,7 @@ use Rattle.transform.proofs.Verdicts.{inputs-refused, inputs-accepted, too-larg
 use Rattle.edits.specs.Whole.{appendEdit, prependEdit}
 use Rattle.edits.specs.Plain.{Makes}
 use Rattle.append_prepend.specs.Joining.{appended, frontOf, prepended}
-use Rattle.append_prepend.specs.Laying.{JoinRoom, AppendedLaid, PrependRoom, PrependedLaid}
+use Rattle.append_prepend.specs.Laying.{JoinRoom, AppendedLaid, FrontRoom, PrependRoom, PrependedLaid}
 use Rattle.edits.proofs.Head.{none-of}
 use Rattle.append_prepend.proofs.Closed.{appended-closed, prepended-closed}
 
@@ -80,6 +81,11 @@ front-some string xs h = rw (ne-eqb (length string) 0 h)
 pub column-laid : (front count wide : ℕ) (xs d₀ : List ℕ) {d₁ d₂ : List ℕ} → d₁ ≡ splice d₀ 0 (replicate (count + wide) front) → d₂ ≡ splice d₁ (count + wide) (part xs wide (length xs)) → d₂ ≡ overlay (replicate (count + wide) front ++ drop wide xs) d₀
 column-laid front count wide xs d₀ first second =
     pair-laid (replicate (count + wide) front) (drop wide xs) d₀ (sym (length-replicate (count + wide) front)) first (rw (part-end xs wide) at second)
+
+-- the first character is inside a column
+pub front-room : {s starts ends string out starts₀ ends₀ xs d : List ℕ} {wide : ℕ} → PrependRoom s starts ends string out starts₀ ends₀ → wide ≡ announced (getD s 0 0) → length xs ≡ length s → length s + length string ≤ length d → FrontRoom (length string) xs wide d
+front-room {s} r is one room =
+    record { inside = omega (arith, char-at s 0 (r .formed) (boundary-zero s (r .formed)) (r .some) .inside); room = omega arith }
 
 pub prepend-laid : {s starts ends string out₀ starts₀ ends₀ : List ℕ} {wide x y : ℕ} {out₁ out starts₁ ends₁ : List ℕ} → wide ≡ announced (getD s 0 0)
     → out₁ ≡ splice out₀ 0 string → out ≡ splice out₁ (length string) s → x ≡ frontOf string starts

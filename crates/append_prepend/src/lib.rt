@@ -14,8 +14,7 @@ use note::Verdict;
 use note::before_end;
 use note::verdicts::earlier;
 use transform::Editing;
-use utf8::lead::char_len;
-use utf8::lead::lengths;
+use utf8::lead::announced_length;
 ghost use mathlib.Core.Path.{_≡_};
 ghost use Prim.Native.Nat.{_+_, _≤_};
 ghost use lib.Dec.{leb};
@@ -134,8 +133,7 @@ fn lay_prepend(
         (now (out .entry)) (now («out_starts» .entry)) (now («out_ends» .entry))
         r (now (out .exit)) (now («out_starts» .exit)) (now («out_ends» .exit)) ⌝ }
 {
-    let table = lengths();
-    let size = char_len(text, 0, &table);
+    let size = announced_length(text[0]) as usize;
     let more = string.len();
     copy_bytes(string, out, 0);
     copy_bytes(text, out, more);

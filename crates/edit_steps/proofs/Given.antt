@@ -123,11 +123,11 @@ pub record Going (s starts ends : List ℕ) (b p : ℕ) (all : List Command) (ou
   pub starts-laid : Column (carriedValues starts) s b p all at g rest starts₀ starts₁
   pub ends-laid : Column (carriedValues ends) s b p all at g rest ends₀ ends₁
 
-module _ {s starts ends : List ℕ} {b p : ℕ} {all : List Command} {table out₀ starts₀ ends₀ : List ℕ} {at : ℕ} (r : CommandsRoom s starts ends b p all table out₀ starts₀ ends₀ at) where
+module _ {s starts ends : List ℕ} {b p : ℕ} {all : List Command} {out₀ starts₀ ends₀ : List ℕ} {at : ℕ} (r : CommandsRoom s starts ends b p all out₀ starts₀ ends₀ at) where
   pub none-going : Going s starts ends b p all out₀ starts₀ ends₀ at (record { position = record { 0 = p }; written = at; starved = false }) all out₀ starts₀ ends₀
   none-going =
       record {
-        standing = r .tabled .standing;
+        standing = r .standing;
         feeding = r .feeds;
         text-laid = column-none characters characters-wide s b p all at (r .text-room);
         starts-laid = column-none (carriedValues starts) (carried-wide starts) s b p all at (r .starts-room);
@@ -149,10 +149,10 @@ module _ {s starts ends : List ℕ} {b p : ℕ} {all : List Command} {table out�
             ends-room = column-room (carriedValues ends) (carried-wide ends) s b p all at g rest (k .ends-laid) next;
           }
 
-      pub counting : length out₀ < 2 ^ 64 → Counting s b g c table
+      pub counting : length out₀ < 2 ^ 64 → Counting s b g c
       counting long =
           record {
-            tabled = record { standing = k .standing; lent = r .tabled .lent };
+            standing = k .standing;
             counts = omega (arith, column-room characters characters-wide s b p all at g rest (k .text-laid) next, k .text-laid .same);
           }
 
@@ -227,7 +227,7 @@ module _ (piece : ℕ → Command → List ℕ) (wide : (p : ℕ) (c : Command) 
       third ∙ rw (two, reach, back, all, same) (splice-overlay d₀ (take a xs ++ (made ++ drop b xs)))
 
 -- the whole edit
-module _ {s starts ends : List ℕ} {a b p : ℕ} {cs : List Command} {table out₀ starts₀ ends₀ : List ℕ} (r : EditRoom s starts ends a b p cs table out₀ starts₀ ends₀) where
+module _ {s starts ends : List ℕ} {a b p : ℕ} {cs : List Command} {out₀ starts₀ ends₀ : List ℕ} (r : EditRoom s starts ends a b p cs out₀ starts₀ ends₀) where
   pub front-room : KeepRoom s starts ends 0 a out₀ starts₀ ends₀ 0
   front-room =
       record {
@@ -241,7 +241,7 @@ module _ {s starts ends : List ℕ} {a b p : ℕ} {cs : List Command} {table out
       }
 
   module _ {out₁ starts₁ ends₁ : List ℕ} (k : PartKept s starts ends 0 a out₀ starts₀ ends₀ 0 out₁ starts₁ ends₁) where
-    pub middle-room : CommandsRoom s starts ends b p cs table out₁ starts₁ ends₁ a
+    pub middle-room : CommandsRoom s starts ends b p cs out₁ starts₁ ends₁ a
     middle-room =
         let text = pieces-room characters characters-wide s s a b p (length s) cs out₀ refl (r .forward) (r .inside) (r .text-room) (k .text-is) refl in
         let first = pieces-room (carriedValues starts) (carried-wide starts) s starts a b p (length s) cs starts₀ (r .one-start) (r .forward) (r .inside) (r .starts-room) (k .starts-are) refl in
@@ -249,7 +249,7 @@ module _ {s starts ends : List ℕ} {a b p : ℕ} {cs : List Command} {table out
         record {
           one-start = r .one-start;
           one-end = r .one-end;
-          tabled = r .tabled;
+          standing = r .standing;
           feeds = r .feeds;
           text-room = omega (arith, text .0, r .text-room);
           starts-room = omega (arith, first .0, r .starts-room);

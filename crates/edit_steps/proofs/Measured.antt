@@ -15,7 +15,7 @@ use Rattle.script.proofs.Scripts.{Stepped, entry-step, entry-broken, entries-en
 use Rattle.edit_steps.specs.declared.walking.Progress.{Progress}
 use Rattle.edit_steps.specs.declared.walking.Extent.the-variants.{Size, Starved}
 use Rattle.edit_steps.specs.Edits.{starves, moved, starved}
-use Rattle.edit_steps.specs.Walking.{Standing, Tabled, Counting, commandsSize, progressAfter, measured}
+use Rattle.edit_steps.specs.Walking.{Standing, Counting, commandsSize, progressAfter, measured}
 use Rattle.edit_steps.proofs.Positions.{standing-moved, stepped-fed, stepped-told}
 
 -- some commands have gone by: what is left starves and counts as all did
@@ -71,12 +71,8 @@ module _ {s l : List ℕ} {b from : ℕ} {g : Progress} {i : ℕ} (m : Measuring
     step : Stepped l i c next
     step = entry-step l is there
 
-    pub counting : {table : List ℕ} → Tabled s b from table → length l < 2 ^ 64 → Counting s b g c table
-    counting t long =
-        record {
-          tabled = record { standing = m .passed .standing; lent = t .lent };
-          counts = omega (arith, m .small, step .onward, step .most);
-        }
+    pub counting : length l < 2 ^ 64 → Counting s b g c
+    counting long = record { standing = m .passed .standing; counts = omega (arith, m .small, step .onward, step .most) }
 
     module _ {h : Progress} (on : h ≡ progressAfter s b g c) where
       told : h .starved ≡ starves b (g .position .0) c

@@ -15,7 +15,7 @@ use Rattle.script.specs.declared.Command.{Command}
 use Rattle.utf8.specs.Scalar.{lenUtf8}
 use Rattle.edit_steps.specs.declared.walking.Progress.{Progress}
 use Rattle.edit_steps.specs.Edits.{skipped, starves, moved}
-use Rattle.edit_steps.specs.Walking.{Standing, Tabled, progressAfter}
+use Rattle.edit_steps.specs.Walking.{Standing, progressAfter}
 
 -- one character on
 pub standing-next : {s : List ℕ} {b p : ℕ} → Standing s b p → p < b → Standing s b (p + announced (getD s p 0))
@@ -30,9 +30,8 @@ standing-next {s} {b} {p} at h =
           (λ over. clash (continues (getD s b 0)) (here .rest b h over) (boundary-begins s b (at .ends)));
     }
 
-pub char-begins : {s table : List ℕ} {b p q : ℕ} → Tabled s b q table → Standing s b p → p < b → CharBegins s p table
-char-begins {s} {b = b} t at h =
-    record { formed = at .formed; begins = at .stands; more = omega (arith, boundary-most s b (at .ends)); lent = t .lent }
+pub char-begins : {s : List ℕ} {b p : ℕ} → Standing s b p → p < b → CharBegins s p
+char-begins {s} {b} at h = record { formed = at .formed; begins = at .stands; more = omega (arith, boundary-most s b (at .ends)) }
 
 pub skipped-past : (s : List ℕ) (b k p : ℕ) → b ≤ p → skipped s b k p ≡ p
 unfolding skipped

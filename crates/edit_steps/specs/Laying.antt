@@ -11,7 +11,7 @@ use Rattle.script.specs.declared.Command.{Command}
 use Rattle.utf8.specs.Scalar.{lenUtf8}
 use Rattle.edit_steps.specs.declared.walking.Progress.{Progress}
 use Rattle.edit_steps.specs.Edits.{starved, characters, carriedValues, produced, relaid}
-use Rattle.edit_steps.specs.Walking.{Tabled, commandsSize}
+use Rattle.edit_steps.specs.Walking.{Standing, commandsSize}
 
 -- what an edit is told of the note
 pub record Editable (s starts ends : List ℕ) : Type 0 where
@@ -52,11 +52,11 @@ pub record CommandOver (starts ends : List ℕ) (g : Progress) (c : Command) (ou
   pub ends-over : Over (carriedValues ends (g .position .0) c) ends₀ (g .written) until ends₁
 
 -- commands of which none starves, and room for what they give from `at` on
-pub record CommandsRoom (s starts ends : List ℕ) (b p : ℕ) (cs : List Command) (table out starts₀ ends₀ : List ℕ)
+pub record CommandsRoom (s starts ends : List ℕ) (b p : ℕ) (cs : List Command) (out starts₀ ends₀ : List ℕ)
     (at : ℕ) : Type 0 where
   pub one-start : length starts ≡ length s
   pub one-end : length ends ≡ length s
-  pub tabled : Tabled s b p table
+  pub standing : Standing s b p
   pub feeds : starved s b p cs ≡ false
   pub text-room : at + commandsSize cs ≤ length out
   pub starts-room : at + commandsSize cs ≤ length starts₀
@@ -70,11 +70,11 @@ pub record CommandsLaid (s starts ends : List ℕ) (b p : ℕ) (cs : List Comman
   pub ends-are : ends₁ ≡ splice ends₀ at (produced (carriedValues ends) s b p cs)
 
 -- the range a..b, and room for the whole result
-pub record EditRoom (s starts ends : List ℕ) (a b p : ℕ) (cs : List Command) (table out starts₀ ends₀ : List ℕ)
+pub record EditRoom (s starts ends : List ℕ) (a b p : ℕ) (cs : List Command) (out starts₀ ends₀ : List ℕ)
     : Type 0 where
   pub one-start : length starts ≡ length s
   pub one-end : length ends ≡ length s
-  pub tabled : Tabled s b p table
+  pub standing : Standing s b p
   pub forward : a ≤ b
   pub inside : b ≤ length s
   pub feeds : starved s b p cs ≡ false

@@ -5,7 +5,6 @@ use mathlib.Core.Path.{_≡_}
 use mathlib.Core.Bool.{true, false, cond}
 use mathlib.Core.List.{List, [], _∷_}
 use Rattle.utf8.specs.Formed.{wellFormed, boundary}
-use Rattle.utf8.specs.Lengths.{lengthTable}
 use Rattle.script.specs.declared.Command.{Command}
 use Rattle.utf8.specs.Scalar.{lenUtf8}
 use Rattle.edit_steps.specs.declared.walking.Progress.{Progress}
@@ -19,11 +18,6 @@ pub record Standing (s : List ℕ) (b p : ℕ) : Type 0 where
   pub ends : boundary s b ≡ true
   pub stands : boundary s p ≡ true
   pub most : p ≤ b
-
--- such a position, and the table that lengths of characters are read of
-pub record Tabled (s : List ℕ) (b p : ℕ) (table : List ℕ) : Type 0 where
-  pub standing : Standing s b p
-  pub lent : table ≡ lengthTable
 
 -- how many bytes commands give
 unfoldable pub commandsSize : List Command → ℕ
@@ -41,8 +35,8 @@ progressAfter s b g c =
     })
 
 -- what a step is told: the text, the range's end, how far the edit is, and that the count does not run over
-pub record Counting (s : List ℕ) (b : ℕ) (g : Progress) (c : Command) (table : List ℕ) : Type 0 where
-  pub tabled : Tabled s b (g .position .0) table
+pub record Counting (s : List ℕ) (b : ℕ) (g : Progress) (c : Command) : Type 0 where
+  pub standing : Standing s b (g .position .0)
   pub counts : g .written + lenUtf8 (c .character) < 2 ^ 64
 
 -- a script measured from a position on

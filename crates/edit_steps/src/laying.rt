@@ -69,7 +69,6 @@ fn lay_script(
     to: NormalizedByte,
     position: NormalizedByte,
     script: &[u8],
-    table: &[u8; 256],
     out: &mut [u8],
     out_starts: &mut [Offset],
     out_ends: &mut [Offset],
@@ -77,7 +76,7 @@ fn lay_script(
     until: usize,
 ) -> usize
     requires { ⌜ CommandsRoom (now text) (now starts) (now ends) (to .0) (position .0) (commandsOf (now script))
-        (now table) (now out) (now «out_starts») (now «out_ends») at
+        (now out) (now «out_starts») (now «out_ends») at
         × (until ≤ at + commandsSize (commandsOf (now script))) ⌝ }
     ensures { λ r. ⌜ CommandsLaid (now (text .entry)) (now (starts .entry)) (now (ends .entry))
         (to .0) (position .0) (commandsOf (now (script .entry))) (now (out .entry)) (now («out_starts» .entry)) (now («out_ends» .entry)) at
@@ -102,7 +101,7 @@ fn lay_script(
                     out_ends,
                     until,
                 );
-                progress = advanced(text, to, progress, command, table);
+                progress = advanced(text, to, progress, command);
                 i = next;
             }
             Entry::Broken => return progress.written,
@@ -120,14 +119,13 @@ pub fn lay_edit(
     to: NormalizedByte,
     position: NormalizedByte,
     script: &[u8],
-    table: &[u8; 256],
     out: &mut [u8],
     out_starts: &mut [Offset],
     out_ends: &mut [Offset],
     size: usize,
 ) -> usize
     requires { ⌜ EditRoom (now text) (now starts) (now ends) (from .0) (to .0) (position .0) (commandsOf (now script))
-        (now table) (now out) (now «out_starts») (now «out_ends»)
+        (now out) (now «out_starts») (now «out_ends»)
         × (size ≡ commandsSize (commandsOf (now script))) ⌝ }
     ensures { λ r. ⌜ EditLaid (now (text .entry)) (now (starts .entry)) (now (ends .entry))
         (from .0) (to .0) (position .0) (commandsOf (now (script .entry))) (now (out .entry)) (now («out_starts» .entry)) (now («out_ends» .entry))
@@ -143,7 +141,6 @@ pub fn lay_edit(
         to,
         position,
         script,
-        table,
         out,
         out_starts,
         out_ends,

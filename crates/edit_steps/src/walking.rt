@@ -9,7 +9,7 @@ use utf8::lead::len_utf8;
 ghost use mathlib.Core.Path.{_≡_};
 ghost use Rattle.script.specs.Scripts.{commandsOf};
 ghost use Rattle.edit_steps.specs.Edits.{skipped, starves};
-ghost use Rattle.edit_steps.specs.Walking.{Counting, Tabled, measured, progressAfter};
+ghost use Rattle.edit_steps.specs.Walking.{Counting, Standing, measured, progressAfter};
 
 // How far an edit is: the running position in the cleaned text, how many bytes have been written so far, and whether
 // the last command found no character left. It is passed to each command and advanced there.
@@ -26,14 +26,8 @@ pub enum Extent {
 }
 
 // `count` characters on from `from`, or up to `to` where fewer are left.
-pub fn skip(
-    text: &[u8],
-    to: NormalizedByte,
-    count: usize,
-    from: NormalizedByte,
-    table: &[u8; 256],
-) -> NormalizedByte
-    requires { ⌜ Tabled (now text) (to .0) (from .0) (now table) ⌝ }
+pub fn skip(text: &[u8], to: NormalizedByte, count: usize, from: NormalizedByte) -> NormalizedByte
+    requires { ⌜ Standing (now text) (to .0) (from .0) ⌝ }
     ensures { λ r. ⌜ r .0 ≡ skipped (now (text .entry)) (to .0) count (from .0) ⌝ }
 {
     let end = to.0 as usize;
@@ -43,7 +37,7 @@ pub fn skip(
         if end <= p {
             break;
         }
-        p += char_len(text, p, table);
+        p += char_len(text, p);
         k += 1;
     }
     NormalizedByte(p as u32)
@@ -60,14 +54,8 @@ fn starves(to: NormalizedByte, position: NormalizedByte, command: Command) -> bo
 }
 
 // A command goes by; one that finds no character left leaves position and count as they were.
-fn step(
-    text: &[u8],
-    to: NormalizedByte,
-    progress: Progress,
-    command: Command,
-    table: &[u8; 256],
-) -> Progress
-    requires { ⌜ Counting (now text) (to .0) progress command (now table) ⌝ }
+fn step(text: &[u8], to: NormalizedByte, progress: Progress, command: Command) -> Progress
+    requires { ⌜ Counting (now text) (to .0) progress command ⌝ }
     ensures { λ r. ⌜ r ≡ progressAfter (now (text .entry)) (to .0) progress command ⌝ }
 {
     let position = progress.position;
@@ -87,52 +75,34 @@ fn step(
         };
     }
     Progress {
-        position: skip(text, to, command.removed as usize + 1, position, table),
+        position: skip(text, to, command.removed as usize + 1, position),
         written,
         starved: false,
     }
 }
 
 // The record is passed by reference to a command, which advances it.
-fn advance(
-    progress: &mut Progress,
-    text: &[u8],
-    to: NormalizedByte,
-    command: Command,
-    table: &[u8; 256],
-)
-    requires { ⌜ Counting (now text) (to .0) (now progress) command (now table) ⌝ }
+fn advance(progress: &mut Progress, text: &[u8], to: NormalizedByte, command: Command)
+    requires { ⌜ Counting (now text) (to .0) (now progress) command ⌝ }
     ensures { λ _. ⌜ now (progress .exit)
         ≡ progressAfter (now (text .entry)) (to .0) (now (progress .entry)) command ⌝ }
 {
-    *progress = step(text, to, *progress, command, table);
+    *progress = step(text, to, *progress, command);
 }
 
 // The record made, passed by reference and handed back: what everybody else calls.
-pub fn advanced(
-    text: &[u8],
-    to: NormalizedByte,
-    progress: Progress,
-    command: Command,
-    table: &[u8; 256],
-) -> Progress
-    requires { ⌜ Counting (now text) (to .0) progress command (now table) ⌝ }
+pub fn advanced(text: &[u8], to: NormalizedByte, progress: Progress, command: Command) -> Progress
+    requires { ⌜ Counting (now text) (to .0) progress command ⌝ }
     ensures { λ r. ⌜ r ≡ progressAfter (now (text .entry)) (to .0) progress command ⌝ }
 {
     let mut running = progress;
-    advance(&mut running, text, to, command, table);
+    advance(&mut running, text, to, command);
     running
 }
 
 // Every command of a script goes by, from a position on.
-pub fn measure(
-    text: &[u8],
-    to: NormalizedByte,
-    position: NormalizedByte,
-    script: &[u8],
-    table: &[u8; 256],
-) -> Extent
-    requires { ⌜ Tabled (now text) (to .0) (position .0) (now table) ⌝ }
+pub fn measure(text: &[u8], to: NormalizedByte, position: NormalizedByte, script: &[u8]) -> Extent
+    requires { ⌜ Standing (now text) (to .0) (position .0) ⌝ }
     ensures { λ r. ⌜ r ≡ measured (now (text .entry)) (to .0) (position .0) (commandsOf (now (script .entry))) ⌝ }
 {
     let mut progress = Progress {
@@ -144,7 +114,7 @@ pub fn measure(
     while i < script.len() {
         match entry_at(script, i) {
             Entry::At(command, next) => {
-                progress = advanced(text, to, progress, command, table);
+                progress = advanced(text, to, progress, command);
                 if progress.starved {
                     return Extent::Starved;
                 }

@@ -65,7 +65,7 @@ pub record Flagged (s starts ends : List ℕ) (b from : ℕ) (flags out₀ start
   pub beside : Beside s b flags q p i
   pub going : Going s starts ends b (firstKept s b from flags) (flagCommands s flags) out₀ starts₀ ends₀ at (ahead s b flags p i written) (restAt s flags q i) out starts₁ ends₁
 
-module _ {s starts ends : List ℕ} {b from : ℕ} {flags table out₀ starts₀ ends₀ : List ℕ} {at : ℕ} (r : FlagsRoom s starts ends b from flags table out₀ starts₀ ends₀ at) where
+module _ {s starts ends : List ℕ} {b from : ℕ} {flags out₀ starts₀ ends₀ : List ℕ} {at : ℕ} (r : FlagsRoom s starts ends b from flags out₀ starts₀ ends₀ at) where
   pub none-flagged : Flagged s starts ends b from flags out₀ starts₀ ends₀ at 0 from at 0 out₀ starts₀ ends₀
   unfolding flagCommands
   none-flagged =
@@ -73,7 +73,7 @@ module _ {s starts ends : List ℕ} {b from : ℕ} {flags table out₀ starts₀
       record {
         beside = none-beside (r .ready);
         going = record {
-          standing = standing-skipped (droppedAhead flags) (r .ready .tabled .standing) .0;
+          standing = standing-skipped (droppedAhead flags) (r .ready .standing) .0;
           feeding = sym (begun-starved s b from flags) ∙ r .rooms .feeds;
           text-laid = laying-as (begun-given s b from flags characters) (start .text-laid);
           starts-laid = laying-as (begun-given s b from flags (carriedValues starts)) (start .starts-laid);

@@ -18,7 +18,7 @@ use Rattle.utf8.specs.Scalar.{lenUtf8}
 use Rattle.edit_steps.specs.declared.walking.Progress.{Progress}
 use Rattle.edit_steps.specs.declared.walking.Extent.the-variants.{Size, Starved}
 use Rattle.edit_steps.specs.Edits.{skipped, starves, moved, starved, produced}
-use Rattle.edit_steps.specs.Walking.{Standing, Tabled, progressAfter, measured}
+use Rattle.edit_steps.specs.Walking.{Standing, progressAfter, measured}
 use Rattle.edit_steps.proofs.Positions.{skipped-none, standing-skipped, starves-replacing, moved-replacing, stepped-fed}
 use Rattle.edit_steps.proofs.Measured.{Passed, starves-here, one-passed, all-passed}
 use Rattle.edits.specs.Characters.{codeAt, codesOf}
@@ -75,12 +75,12 @@ ahead s b flags p i written = record { position = record { 0 = skipped s b (drop
 abbrev pub restAt : List ℕ → List ℕ → ℕ → ℕ → List Command
 restAt s flags q i = keptCommands (codesOf (drop q s)) (drop i flags)
 
-pub none-beside : {s : List ℕ} {b from : ℕ} {flags table : List ℕ} → FlagsReady s b from flags table → Beside s b flags 0 from 0
+pub none-beside : {s : List ℕ} {b from : ℕ} {flags : List ℕ} → FlagsReady s b from flags → Beside s b flags 0 from 0
 none-beside {s} r =
     record {
-      begins = boundary-zero s (r .tabled .standing .formed);
+      begins = boundary-zero s (r .standing .formed);
       left = omega (arith, codes-chars s, r .counted);
-      standing = r .tabled .standing;
+      standing = r .standing;
     }
 
 module _ {s : List ℕ} {b : ℕ} {flags : List ℕ} {q p i : ℕ} (k : Beside s b flags q p i) (h : i < length flags) where
@@ -95,8 +95,8 @@ module _ {s : List ℕ} {b : ℕ} {flags : List ℕ} {q p i : ℕ} (k : Beside s
       absurd (omega (arith, k .left)))
       (λ less. less)
 
-  pub char-there : {from : ℕ} {table : List ℕ} → Tabled s b from table → CharBegins s q table
-  char-there t = record { formed = formed; begins = k .begins; more = inside; lent = t .lent }
+  pub char-there : CharBegins s q
+  char-there = record { formed = formed; begins = k .begins; more = inside }
 
   codes : codesOf (drop q s) ≡ codeAt s q ∷ codesOf (drop (q + announced (getD s q 0)) s)
   codes = codes-cons s q formed (k .begins) inside
@@ -150,7 +150,7 @@ pub record Filtering (s : List ℕ) (b from : ℕ) (flags : List ℕ) (q p writt
   pub passed : Passed s b (firstKept s b from flags) (flagCommands s flags) (restAt s flags q i) (ahead s b flags p i written)
   pub small : written ≤ q
 
-pub none-filtered : {s : List ℕ} {b from : ℕ} {flags table : List ℕ} → FlagsReady s b from flags table → Filtering s b from flags 0 from 0 0
+pub none-filtered : {s : List ℕ} {b from : ℕ} {flags : List ℕ} → FlagsReady s b from flags → Filtering s b from flags 0 from 0 0
 unfolding flagCommands
 none-filtered {s} {b} {from} {flags} r =
     record {
@@ -158,7 +158,7 @@ none-filtered {s} {b} {from} {flags} r =
       passed = record {
         starving = begun-starved s b from flags;
         counted = omega arith;
-        standing = standing-skipped (droppedAhead flags) (r .tabled .standing) .0;
+        standing = standing-skipped (droppedAhead flags) (r .standing) .0;
       };
       small = omega arith;
     }

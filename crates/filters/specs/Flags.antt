@@ -10,7 +10,7 @@ use Rattle.utf8.specs.Formed.{announced, boundary}
 use Rattle.utf8.specs.Chars.{chars}
 use Rattle.script.specs.declared.Command.{Command}
 use Rattle.edit_steps.specs.Edits.{skipped, Edit}
-use Rattle.edit_steps.specs.Walking.{Tabled}
+use Rattle.edit_steps.specs.Walking.{Standing}
 use Rattle.edit_steps.specs.Laying.{CommandsRoom, Editable, EditRoom}
 use Rattle.edits.specs.Characters.{codesOf}
 use Rattle.filter_blocks.specs.Counting.{keptLen}
@@ -36,8 +36,8 @@ unfoldable pub flagStarves : ℕ → ℕ → ℕ → Bool
 flagStarves flag b p = not (eqb flag 0) && leb b p
 
 -- a flag for each character of a text, and the range's first position
-pub record FlagsReady (s : List ℕ) (b from : ℕ) (flags table : List ℕ) : Type 0 where
-  pub tabled : Tabled s b from table
+pub record FlagsReady (s : List ℕ) (b from : ℕ) (flags : List ℕ) : Type 0 where
+  pub standing : Standing s b from
   pub counted : length flags ≡ chars s
 
 -- a character's bytes from q on, a position whose alignment they take, and room for them
@@ -58,14 +58,14 @@ pub record FlagLaid (flag : ℕ) (s starts ends : List ℕ) (q size p : ℕ) (ou
   pub ends-are : ends₁ ≡ splice ends₀ at (cond (eqb flag 0) [] (replicate size (getD ends p 0)))
 
 -- flags none of which asks for a character that is not left, and room for what they keep
-pub record FlagsRoom (s starts ends : List ℕ) (b from : ℕ) (flags table out starts₀ ends₀ : List ℕ) (at : ℕ)
+pub record FlagsRoom (s starts ends : List ℕ) (b from : ℕ) (flags out starts₀ ends₀ : List ℕ) (at : ℕ)
     : Type 0 where
-  pub ready : FlagsReady s b from flags table
-  pub rooms : CommandsRoom s starts ends b (firstKept s b from flags) (flagCommands s flags) table out starts₀ ends₀ at
+  pub ready : FlagsReady s b from flags
+  pub rooms : CommandsRoom s starts ends b (firstKept s b from flags) (flagCommands s flags) out starts₀ ends₀ at
 
-pub record FilterRoom (s starts ends : List ℕ) (a b : ℕ) (flags table out starts₀ ends₀ : List ℕ) : Type 0 where
-  pub ready : FlagsReady s b a flags table
-  pub rooms : EditRoom s starts ends a b (firstKept s b a flags) (flagCommands s flags) table out starts₀ ends₀
+pub record FilterRoom (s starts ends : List ℕ) (a b : ℕ) (flags out starts₀ ends₀ : List ℕ) : Type 0 where
+  pub ready : FlagsReady s b a flags
+  pub rooms : EditRoom s starts ends a b (firstKept s b a flags) (flagCommands s flags) out starts₀ ends₀
 
 -- the bytes of each character carry one value of a column
 abbrev pub OneValue : List ℕ → List ℕ → Type 0

@@ -28,7 +28,6 @@ use transform::edit;
 use utf8::count::count_leads;
 use utf8::is_char_range;
 use utf8::lead::char_len;
-use utf8::lead::lengths;
 ghost use mathlib.Core.Path.{_≡_};
 ghost use lib.ListN.{length};
 ghost use Rattle.utf8.specs.Chars.{chars};
@@ -51,14 +50,8 @@ fn flag_starves(flag: u8, to: NormalizedByte, position: NormalizedByte) -> bool
 }
 
 // The text's characters and the range's go by together, one for each flag.
-fn measure_flags(
-    text: &[u8],
-    to: NormalizedByte,
-    from: NormalizedByte,
-    flags: &[u8],
-    table: &[u8; 256],
-) -> Extent
-    requires { ⌜ FlagsReady (now text) (to .0) (from .0) (now flags) (now table) ⌝ }
+fn measure_flags(text: &[u8], to: NormalizedByte, from: NormalizedByte, flags: &[u8]) -> Extent
+    requires { ⌜ FlagsReady (now text) (to .0) (from .0) (now flags) ⌝ }
     ensures { λ r. ⌜ r ≡ measured (now (text .entry)) (to .0)
         (firstKept (now (text .entry)) (to .0) (from .0) (now (flags .entry)))
         (flagCommands (now (text .entry)) (now (flags .entry))) ⌝ }
@@ -68,12 +61,12 @@ fn measure_flags(
     let mut written = 0;
     let mut i = 0;
     while i < flags.len() {
-        let size = char_len(text, q, table);
+        let size = char_len(text, q);
         if flag_starves(flags[i], to, p) {
             return Extent::Starved;
         }
         written += kept_len(flags[i], size);
-        p = skip(text, to, 1, p, table);
+        p = skip(text, to, 1, p);
         q += size;
         i += 1;
     }
@@ -119,13 +112,12 @@ fn lay_flags(
     to: NormalizedByte,
     from: NormalizedByte,
     flags: &[u8],
-    table: &[u8; 256],
     out: &mut [u8],
     out_starts: &mut [Offset],
     out_ends: &mut [Offset],
     at: usize,
 ) -> usize
-    requires { ⌜ FlagsRoom (now text) (now starts) (now ends) (to .0) (from .0) (now flags) (now table)
+    requires { ⌜ FlagsRoom (now text) (now starts) (now ends) (to .0) (from .0) (now flags)
         (now out) (now «out_starts») (now «out_ends») at ⌝ }
     ensures { λ r. ⌜ CommandsLaid (now (text .entry)) (now (starts .entry)) (now (ends .entry)) (to .0)
         (firstKept (now (text .entry)) (to .0) (from .0) (now (flags .entry)))
@@ -138,7 +130,7 @@ fn lay_flags(
     let mut written = at;
     let mut i = 0;
     while i < flags.len() {
-        let size = char_len(text, q, table);
+        let size = char_len(text, q);
         written = lay_flag(
             flags[i],
             text,
@@ -152,7 +144,7 @@ fn lay_flags(
             out_ends,
             written,
         );
-        p = skip(text, to, 1, p, table);
+        p = skip(text, to, 1, p);
         q += size;
         i += 1;
     }
@@ -167,12 +159,11 @@ fn lay_filtered(
     from: NormalizedByte,
     to: NormalizedByte,
     flags: &[u8],
-    table: &[u8; 256],
     out: &mut [u8],
     out_starts: &mut [Offset],
     out_ends: &mut [Offset],
 ) -> usize
-    requires { ⌜ FilterRoom (now text) (now starts) (now ends) (from .0) (to .0) (now flags) (now table)
+    requires { ⌜ FilterRoom (now text) (now starts) (now ends) (from .0) (to .0) (now flags)
         (now out) (now «out_starts») (now «out_ends») ⌝ }
     ensures { λ r. ⌜ EditLaid (now (text .entry)) (now (starts .entry)) (now (ends .entry)) (from .0) (to .0)
         (firstKept (now (text .entry)) (to .0) (from .0) (now (flags .entry)))
@@ -190,7 +181,6 @@ fn lay_filtered(
         to,
         from,
         flags,
-        table,
         out,
         out_starts,
         out_ends,
@@ -234,8 +224,7 @@ fn edit_flags(
     if !is_char_range(text, first, end) {
         return Editing::Refused(Refusal::NotBoundary);
     }
-    let table = lengths();
-    match measure_flags(text, to, from, flags, &table) {
+    match measure_flags(text, to, from, flags) {
         Extent::Starved => Editing::Refused(Refusal::Exhausted),
         Extent::Size(size) => {
             let room = least_of_two(
@@ -256,7 +245,6 @@ fn edit_flags(
                 from,
                 to,
                 flags,
-                &table,
                 out,
                 out_starts,
                 out_ends,

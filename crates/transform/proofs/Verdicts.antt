@@ -13,7 +13,6 @@ use Rattle.buffers.specs.Splice.{overlay}
 use Rattle.buffers.proofs.Cases.{true-or-false}
 use Rattle.buffers.proofs.Booleans.{and-false-l, and-false-r}
 use Rattle.utf8.specs.Formed.{wellFormed, boundary}
-use Rattle.utf8.specs.Lengths.{lengthTable}
 use Rattle.utf8.proofs.Boundaries.{boundary-most}
 use Rattle.note.specs.declared.Refusal.{Refusal}
 use Rattle.note.specs.declared.Refusal.the-variants.{TooLong, NotBoundary, BadScript, Exhausted, NoRoom, CountMismatch, Misaligned}
@@ -41,7 +40,7 @@ use Rattle.edit_steps.specs.declared.walking.Extent.{Extent}
 use Rattle.edit_steps.specs.declared.walking.Extent.the-variants.{Size, Starved}
 use Rattle.utf8.specs.Formed.{charRange}
 use Rattle.edit_steps.specs.Edits.{skipped, characters, starved, Edit, firstPosition, edited, transformed}
-use Rattle.edit_steps.specs.Walking.{Standing, Tabled, commandsSize, measured}
+use Rattle.edit_steps.specs.Walking.{Standing, commandsSize, measured}
 use Rattle.edit_steps.specs.Laying.{Editable, EditRoom, EditLaid}
 use Rattle.transform.specs.Transforming.{editOf, editFaults, Rewritten}
 use Rattle.edit_steps.proofs.Positions.{standing-skipped}
@@ -123,23 +122,20 @@ module _ (most : ℕ) {s starts ends : List ℕ} (ed : Editable s starts ends) (
   unfolding e rooms
   not-placed u = refused-rewritten (not-boundary most s e rooms (sym is ∙ not-true t u))
 
-  module _ (u : not t ≡ false) {table : List ℕ} (tab : table ≡ lengthTable) where
+  module _ (u : not t ≡ false) where
     is-placed : charRange s a b ≡ true
     is-placed = sym is ∙ not-false t u
 
-    from-standing : Standing s b a
+    pub from-standing : Standing s b a
     unfolding e
     from-standing = placed-from e (ed .formed) is-placed
 
     pub range-inside : (a ≤ b) × (b ≤ length s)
     range-inside = (from-standing .most, boundary-most s b (from-standing .ends))
 
-    pub skip-ready : Tabled s b a table
-    skip-ready = record { standing = from-standing; lent = tab }
-
     module _ {p : ℕ} (begun : p ≡ skipped s b skip a) where
-      pub measure-ready : Tabled s b p table
-      measure-ready = record { standing = rw begun (standing-skipped skip from-standing .0); lent = tab }
+      pub begun-standing : Standing s b p
+      begun-standing = rw begun (standing-skipped skip from-standing .0)
 
       module _ {x : Extent} (m : x ≡ measured s b p cs) where
         pub starved-refused : x ≡ Starved → Made (Refusing Exhausted) out₀ starts₀ ends₀
@@ -171,12 +167,12 @@ module _ (most : ℕ) {s starts ends : List ℕ} (ed : Editable s starts ends) (
           refused-size k h = refused-rewritten (too-large most s e rooms is-placed here-fed (omega (arith, long, lowest, r)))
 
           module _ (k : a + (length s - b) ≤ room) (f : size ≤ room - (a + (length s - b))) where
-            pub edit-room : EditRoom s starts ends a b p cs table out₀ starts₀ ends₀
+            pub edit-room : EditRoom s starts ends a b p cs out₀ starts₀ ends₀
             edit-room =
                 record {
                   one-start = ed .one-start;
                   one-end = ed .one-end;
-                  tabled = measure-ready;
+                  standing = begun-standing;
                   forward = from-standing .most;
                   inside = inside;
                   feeds = told .0;

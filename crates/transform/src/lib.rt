@@ -19,7 +19,6 @@ use note::Refusal;
 use note::Verdict;
 use script::whole;
 use utf8::is_char_range;
-use utf8::lead::lengths;
 ghost use Rattle.note.specs.Notes.{lent, limit};
 ghost use Rattle.script.specs.Scripts.{commandsOf};
 ghost use Rattle.edit_steps.specs.Laying.{Editable};
@@ -55,9 +54,8 @@ pub fn edit(
     if !is_char_range(text, first, end) {
         return Editing::Refused(Refusal::NotBoundary);
     }
-    let table = lengths();
-    let position = skip(text, to, initial_offset, from, &table);
-    match measure(text, to, position, script, &table) {
+    let position = skip(text, to, initial_offset, from);
+    match measure(text, to, position, script) {
         Extent::Starved => Editing::Refused(Refusal::Exhausted),
         Extent::Size(size) => {
             let room = least_of_two(
@@ -79,7 +77,6 @@ pub fn edit(
                 to,
                 position,
                 script,
-                &table,
                 out,
                 out_starts,
                 out_ends,

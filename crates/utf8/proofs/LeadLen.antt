@@ -1,8 +1,11 @@
--- Laws of `leadLen`: by ranges, by a byte's first four bits, and beside what a byte announces.
+-- Laws of `leadLen`: by ranges, by a byte's first four bits, by a sum, and beside what a byte announces.
 use Prim.Native.Nat.{ℕ, _+_, _-_, _/_, _≤_, _<_, min, max}
 use mathlib.Core.Path.{_≡_}
+use mathlib.Core.Bool.{false}
 use native.Mathlib.Omega.{arith}
-use borrow.Author.Tests.{lt-ltb, le-ltb}
+use mir.Val.{boolByte}
+use lib.Dec.{leb}
+use borrow.Author.Tests.{le-leb, lt-leb, lt-ltb, le-ltb}
 use Rattle.buffers.proofs.Cases.{le-or-lt}
 use Rattle.utf8.specs.Formed.{announced}
 use Rattle.utf8.specs.Lengths.{leadLen, LeadLenRight}
@@ -18,6 +21,21 @@ width-lead b small far one more =
     (λ f. simp (le-ltb b 0xC0 c, le-ltb b 0xE0 e, lt-ltb b 0xF0 f) (omega arith)))
     (λ e. simp (le-ltb b 0xC0 c, lt-ltb b 0xE0 e) (omega arith)))
     (λ c. simp (lt-ltb b 0xC0 c) (omega arith))
+
+-- by a sum: one byte, and one more from each bound on
+pub lead-len-sum : (b : ℕ) → 1 + boolByte (leb 0xC0 b) + boolByte (leb 0xE0 b) + boolByte (leb 0xF0 b) ≡ leadLen b
+unfolding leadLen
+lead-len-sum b =
+    le-or-lt 0xC0 b
+    (λ c. le-or-lt 0xE0 b
+    (λ e. le-or-lt 0xF0 b
+    (λ f. rw (le-leb _ _ c, le-leb _ _ e, le-leb _ _ f, le-ltb b 0xC0 c, le-ltb b 0xE0 e, le-ltb b 0xF0 f))
+    (λ f. rw (le-leb _ _ c, le-leb _ _ e, lt-leb _ _ f, le-ltb b 0xC0 c, le-ltb b 0xE0 e, lt-ltb b 0xF0 f)))
+    (λ e. let f : leb 0xF0 b ≡ false = lt-leb 0xF0 b (omega arith) in rw (le-leb _ _ c, lt-leb _ _ e, f, le-ltb b 0xC0 c, lt-ltb b 0xE0 e)))
+    (λ c.
+    let e : leb 0xE0 b ≡ false = lt-leb 0xE0 b (omega arith) in
+    let f : leb 0xF0 b ≡ false = lt-leb 0xF0 b (omega arith) in
+    rw (lt-leb _ _ c, e, f, lt-ltb b 0xC0 c))
 
 -- a byte that leads a character in a well-formed text
 pub lead-len-right : LeadLenRight

@@ -1,295 +1,45 @@
-// The length of a character: by the table of what its lead byte announces, by the lead byte alone where the text is
-// well-formed, and by its code point.
-// A caller makes the table a local once and lends it down: a constant is built at every use.
+// How long a character is: what a byte announces, for any byte; what the lead byte says in a well-formed text; how many
+// bytes a code point has.
 use buffers::lanes::max_u8;
 use buffers::lanes::min_u8;
 use buffers::lanes::saturating_sub_u8;
 ghost use mathlib.Core.Path.{_≡_};
 ghost use Rattle.utf8.specs.Formed.{announced};
-ghost use Rattle.utf8.specs.Lengths.{CharBegins, CharLen, leadLen, lengthTable};
+ghost use Rattle.utf8.specs.Lengths.{CharBegins, CharLen, leadLen};
 ghost use Rattle.utf8.specs.Scalar.{lenUtf8};
 
-// RULES 3: the number of bytes that a lead byte announces, or 0.
-pub const LENGTHS: [u8; 256] = [
-    1, // 00..7F
-    1,
-    1,
-    1,
-    1,
-    1,
-    1,
-    1,
-    1,
-    1,
-    1,
-    1,
-    1,
-    1,
-    1,
-    1,
-    1, // 10
-    1,
-    1,
-    1,
-    1,
-    1,
-    1,
-    1,
-    1,
-    1,
-    1,
-    1,
-    1,
-    1,
-    1,
-    1,
-    1, // 20
-    1,
-    1,
-    1,
-    1,
-    1,
-    1,
-    1,
-    1,
-    1,
-    1,
-    1,
-    1,
-    1,
-    1,
-    1,
-    1, // 30
-    1,
-    1,
-    1,
-    1,
-    1,
-    1,
-    1,
-    1,
-    1,
-    1,
-    1,
-    1,
-    1,
-    1,
-    1,
-    1, // 40
-    1,
-    1,
-    1,
-    1,
-    1,
-    1,
-    1,
-    1,
-    1,
-    1,
-    1,
-    1,
-    1,
-    1,
-    1,
-    1, // 50
-    1,
-    1,
-    1,
-    1,
-    1,
-    1,
-    1,
-    1,
-    1,
-    1,
-    1,
-    1,
-    1,
-    1,
-    1,
-    1, // 60
-    1,
-    1,
-    1,
-    1,
-    1,
-    1,
-    1,
-    1,
-    1,
-    1,
-    1,
-    1,
-    1,
-    1,
-    1,
-    1, // 70
-    1,
-    1,
-    1,
-    1,
-    1,
-    1,
-    1,
-    1,
-    1,
-    1,
-    1,
-    1,
-    1,
-    1,
-    1,
-    0, // 80..BF, which continue a character
-    0,
-    0,
-    0,
-    0,
-    0,
-    0,
-    0,
-    0,
-    0,
-    0,
-    0,
-    0,
-    0,
-    0,
-    0,
-    0, // 90
-    0,
-    0,
-    0,
-    0,
-    0,
-    0,
-    0,
-    0,
-    0,
-    0,
-    0,
-    0,
-    0,
-    0,
-    0,
-    0, // A0
-    0,
-    0,
-    0,
-    0,
-    0,
-    0,
-    0,
-    0,
-    0,
-    0,
-    0,
-    0,
-    0,
-    0,
-    0,
-    0, // B0
-    0,
-    0,
-    0,
-    0,
-    0,
-    0,
-    0,
-    0,
-    0,
-    0,
-    0,
-    0,
-    0,
-    0,
-    0,
-    0, // C0..C1
-    0,
-    2, // C2..DF
-    2,
-    2,
-    2,
-    2,
-    2,
-    2,
-    2,
-    2,
-    2,
-    2,
-    2,
-    2,
-    2,
-    2, // D0
-    2,
-    2,
-    2,
-    2,
-    2,
-    2,
-    2,
-    2,
-    2,
-    2,
-    2,
-    2,
-    2,
-    2,
-    2,
-    3, // E0..EF
-    3,
-    3,
-    3,
-    3,
-    3,
-    3,
-    3,
-    3,
-    3,
-    3,
-    3,
-    3,
-    3,
-    3,
-    3,
-    4, // F0..F4
-    4,
-    4,
-    4,
-    4,
-    0, // F5..FF
-    0,
-    0,
-    0,
-    0,
-    0,
-    0,
-    0,
-    0,
-    0,
-    0,
-];
-
-pub fn lengths() -> [u8; 256]
-    ensures { λ r. ⌜ r ≡ lengthTable ⌝ }
-{
-    LENGTHS
-}
-
-// An inner function: `table` is what `lengths` answers.
-pub fn announced_length(table: &[u8; 256], b: u8) -> u8
-    requires { ⌜ now table ≡ lengthTable ⌝ }
+// How many bytes a byte announces as a lead byte; 0 where it begins no character (RULES 3.2). To be read beside Table
+// 3-7: one comparison after the other, in the order of the table's rows.
+pub fn announced_length(b: u8) -> u8
     ensures { λ r. ⌜ r ≡ announced b ⌝ }
 {
-    table[b as usize]
+    if b <= 0x7F {
+        return 1;
+    }
+    if b < 0xC2 {
+        return 0;
+    }
+    if b <= 0xDF {
+        return 2;
+    }
+    if b <= 0xEF {
+        return 3;
+    }
+    if b <= 0xF4 {
+        return 4;
+    }
+    0
 }
 
-// The length of the character that begins at `i`.
+// The length of the character that begins at `i`. By a sum: where characters of several lengths are mixed, a walk by
+// branches waits for each one that the processor foresees wrongly.
 // An inner function: its callers have found the text well-formed and `i` a boundary in it.
-pub fn char_len(s: &[u8], i: usize, table: &[u8; 256]) -> usize
-    requires { ⌜ CharBegins (now s) i (now table) ⌝ }
+pub fn char_len(s: &[u8], i: usize) -> usize
+    requires { ⌜ CharBegins (now s) i ⌝ }
     ensures { λ r. ⌜ CharLen (now (s .entry)) i r ⌝ }
 {
-    announced_length(table, s[i]) as usize
+    let b = s[i];
+    1 + (0xC0 <= b) as usize + (0xE0 <= b) as usize + (0xF0 <= b) as usize
 }
 
 // How many bytes the character has that a byte begins in a well-formed text; 1 where it begins none. By branches: a

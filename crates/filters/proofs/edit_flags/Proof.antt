@@ -4,7 +4,7 @@ use lib.ListN.{length}
 use native.Mathlib.Omega.{arith}
 use borrow.Author.Needs.{needs}
 use Rattle.note.specs.Notes.{limit}
-use Rattle.transform.proofs.Verdicts.{not-placed, range-inside, skip-ready, starved-refused, refused-kept, refused-size, edit-room, edit-made}
+use Rattle.transform.proofs.Verdicts.{not-placed, from-standing, range-inside, starved-refused, refused-kept, refused-size, edit-room, edit-made}
 use Rattle.filters.specs.Flags.{skips, flagCommands}
 use Rattle.filters.proofs.Counted.{begun-skipped}
 use Rattle.filters.proofs.edit_flags.Statement.{statement}
@@ -15,13 +15,13 @@ abbrev entry : tie.After-is-char-range → tie.Start
 entry c = c .before .before .before .before .before .before .before .before .before .before
 
 abbrev placed : tie.After-measure-flags → tie.After-is-char-range
-placed c = c .before .before .before .before
+placed c = c .before .before
 
 abbrev measured : tie.After-least-of-two → tie.After-measure-flags
 measured c = c .before .before .before .before .before
 
 abbrev bounded : tie.After-lay-filtered → tie.After-least-of-two
-bounded c = c .before .before .before .before .before .before .before
+bounded c = c .before .before .before .before .before .before
 
 returns : tie.Need-returns
 returns c =
@@ -32,12 +32,12 @@ returns c =
 
 measure-flags-requires : tie.Need-measure-flags-requires
 measure-flags-requires c κs =
-    let entry = entry (c .before .before .before) in
+    let entry = entry (c .before) in
     record {
-      tabled =
-          skip-ready limit (entry .pre .0) (entry .args .from .0) (entry .args .to .0) (skips (entry .args .flags .now))
+      standing =
+          from-standing limit (entry .pre .0) (entry .args .from .0) (entry .args .to .0) (skips (entry .args .flags .now))
           (flagCommands (entry .args .text .now) (entry .args .flags .now)) (entry .args .out .now) (entry .args .out-starts .now)
-          (entry .args .out-ends .now) (c .before .before .before .is-char-range .ensures) (c .before .before .if1 .left) (c .before .lengths .ensures);
+          (entry .args .out-ends .now) (c .before .is-char-range .ensures) (c .if1 .left);
       counted = entry .pre .1;
     }
 
@@ -47,8 +47,7 @@ sub-kept c =
     let entry = entry (placed measured) in
     range-inside limit (entry .pre .0) (entry .args .from .0) (entry .args .to .0) (skips (entry .args .flags .now))
     (flagCommands (entry .args .text .now) (entry .args .flags .now)) (entry .args .out .now) (entry .args .out-starts .now)
-    (entry .args .out-ends .now) (placed measured .is-char-range .ensures) (measured .before .before .before .if1 .left)
-    (measured .before .before .lengths .ensures) .1
+    (entry .args .out-ends .now) (placed measured .is-char-range .ensures) (measured .before .if1 .left) .1
 
 add-kept : tie.Need-add-kept
 add-kept c =
@@ -56,8 +55,7 @@ add-kept c =
     let range =
     range-inside limit (entry .pre .0) (entry .args .from .0) (entry .args .to .0) (skips (entry .args .flags .now))
     (flagCommands (entry .args .text .now) (entry .args .flags .now)) (entry .args .out .now) (entry .args .out-starts .now)
-    (entry .args .out-ends .now) (placed (measured c) .is-char-range .ensures) (measured c .before .before .before .if1 .left)
-    (measured c .before .before .lengths .ensures) in
+    (entry .args .out-ends .now) (placed (measured c) .is-char-range .ensures) (measured c .before .if1 .left) in
     let long : length (entry .args .text .now) < 2 ^ 64 = entry .good .0 .0 in
     omega (arith, long, range .0, range .1)
 
@@ -67,8 +65,7 @@ returns-2 c =
     let entry = entry (placed measured) in
     refused-kept limit (entry .pre .0) (entry .args .from .0) (entry .args .to .0) (skips (entry .args .flags .now))
     (flagCommands (entry .args .text .now) (entry .args .flags .now)) (entry .args .out .now) (entry .args .out-starts .now)
-    (entry .args .out-ends .now) (placed measured .is-char-range .ensures) (measured .before .before .before .if1 .left)
-    (measured .before .before .lengths .ensures)
+    (entry .args .out-ends .now) (placed measured .is-char-range .ensures) (measured .before .if1 .left)
     (begun-skipped (entry .args .text .now) (entry .args .to .0) (entry .args .from .0) (entry .args .flags .now))
     (measured .measure-flags .ensures) (c .before .before .before .before .size .given .1) (c .before .before .least-room .ensures)
     (c .before .least-of-two .ensures) (c .if2 .taken)
@@ -80,35 +77,32 @@ returns-3 c =
     let entry = entry (placed measured) in
     refused-size limit (entry .pre .0) (entry .args .from .0) (entry .args .to .0) (skips (entry .args .flags .now))
     (flagCommands (entry .args .text .now) (entry .args .flags .now)) (entry .args .out .now) (entry .args .out-starts .now)
-    (entry .args .out-ends .now) (placed measured .is-char-range .ensures) (measured .before .before .before .if1 .left)
-    (measured .before .before .lengths .ensures)
+    (entry .args .out-ends .now) (placed measured .is-char-range .ensures) (measured .before .if1 .left)
     (begun-skipped (entry .args .text .now) (entry .args .to .0) (entry .args .from .0) (entry .args .flags .now))
     (measured .measure-flags .ensures) (bounded .before .before .before .size .given .1) (bounded .before .least-room .ensures)
     (bounded .least-of-two .ensures) (c .before .if2 .left) (c .if3 .taken)
 
 lay-filtered-requires : tie.Need-lay-filtered-requires
 lay-filtered-requires c κs =
-    let bounded = c .before .before .before .before .before .before in
+    let bounded = c .before .before .before .before .before in
     let measured = measured bounded in
     let entry = entry (placed measured) in
     record {
       ready =
           record {
-            tabled =
-                skip-ready limit (entry .pre .0) (entry .args .from .0) (entry .args .to .0) (skips (entry .args .flags .now))
+            standing =
+                from-standing limit (entry .pre .0) (entry .args .from .0) (entry .args .to .0) (skips (entry .args .flags .now))
                 (flagCommands (entry .args .text .now) (entry .args .flags .now)) (entry .args .out .now) (entry .args .out-starts .now)
-                (entry .args .out-ends .now) (placed measured .is-char-range .ensures) (measured .before .before .before .if1 .left)
-                (measured .before .before .lengths .ensures);
+                (entry .args .out-ends .now) (placed measured .is-char-range .ensures) (measured .before .if1 .left);
             counted = entry .pre .1;
           };
       rooms =
           edit-room limit (entry .pre .0) (entry .args .from .0) (entry .args .to .0) (skips (entry .args .flags .now))
           (flagCommands (entry .args .text .now) (entry .args .flags .now)) (entry .args .out .now) (entry .args .out-starts .now)
-          (entry .args .out-ends .now) (placed measured .is-char-range .ensures) (measured .before .before .before .if1 .left)
-          (measured .before .before .lengths .ensures)
+          (entry .args .out-ends .now) (placed measured .is-char-range .ensures) (measured .before .if1 .left)
           (begun-skipped (entry .args .text .now) (entry .args .to .0) (entry .args .from .0) (entry .args .flags .now))
           (measured .measure-flags .ensures) (bounded .before .before .before .size .given .1) (bounded .before .least-room .ensures)
-          (bounded .least-of-two .ensures) (c .before .before .before .before .before .if2 .left) (c .before .before .before .before .if3 .left);
+          (bounded .least-of-two .ensures) (c .before .before .before .before .if2 .left) (c .before .before .before .if3 .left);
     }
 
 returns-4 : tie.Need-returns-4
@@ -117,8 +111,7 @@ returns-4 c =
     let entry = entry (placed measured) in
     starved-refused limit (entry .pre .0) (entry .args .from .0) (entry .args .to .0) (skips (entry .args .flags .now))
     (flagCommands (entry .args .text .now) (entry .args .flags .now)) (entry .args .out .now) (entry .args .out-starts .now)
-    (entry .args .out-ends .now) (placed measured .is-char-range .ensures) (measured .before .before .before .if1 .left)
-    (measured .before .before .lengths .ensures)
+    (entry .args .out-ends .now) (placed measured .is-char-range .ensures) (measured .before .if1 .left)
     (begun-skipped (entry .args .text .now) (entry .args .to .0) (entry .args .from .0) (entry .args .flags .now))
     (measured .measure-flags .ensures) (c .enum-told .given .1)
 
@@ -129,12 +122,11 @@ returns-5 c =
     let entry = entry (placed measured) in
     edit-made limit (entry .pre .0) (entry .args .from .0) (entry .args .to .0) (skips (entry .args .flags .now))
     (flagCommands (entry .args .text .now) (entry .args .flags .now)) (entry .args .out .now) (entry .args .out-starts .now)
-    (entry .args .out-ends .now) (placed measured .is-char-range .ensures) (measured .before .before .before .if1 .left)
-    (measured .before .before .lengths .ensures)
+    (entry .args .out-ends .now) (placed measured .is-char-range .ensures) (measured .before .if1 .left)
     (begun-skipped (entry .args .text .now) (entry .args .to .0) (entry .args .from .0) (entry .args .flags .now))
     (measured .measure-flags .ensures) (bounded laid .before .before .before .size .given .1) (bounded laid .before .least-room .ensures)
-    (bounded laid .least-of-two .ensures) (laid .before .before .before .before .before .before .if2 .left)
-    (laid .before .before .before .before .before .if3 .left) (laid .lay-filtered .ensures)
+    (bounded laid .least-of-two .ensures) (laid .before .before .before .before .before .if2 .left)
+    (laid .before .before .before .before .if3 .left) (laid .lay-filtered .ensures)
 
 pub edit-flags-spec : {M : Type 1} → statement M
 edit-flags-spec =
@@ -142,7 +134,6 @@ edit-flags-spec =
     (tie.spec
     (λ c. search needs) (λ c. search needs) (λ c κs. search needs)
     returns
-    (λ c κs. search needs)
     measure-flags-requires
     (λ c. search needs) (λ c. search needs) (λ c κs. search needs) (λ c κs. search needs)
     sub-kept

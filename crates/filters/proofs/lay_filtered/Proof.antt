@@ -20,7 +20,7 @@ middle c = c .before .before .before .before .before .before .before .before .be
 add-result : tie.Need-add-result
 add-result c =
     let entry = entry (front (middle (c .before .before .before .before .before .before .before) .before) .before) in
-    let long : length (entry .args .out .now) < 2 ^ 64 = entry .good .1 .1 .1 .1 .1 .1 .1 .0 .0 in
+    let long : length (entry .args .out .now) < 2 ^ 64 = entry .good .1 .1 .1 .1 .1 .1 .0 .0 in
     omega (arith, long, middle (c .before .before .before .before .before .before .before) .lay-flags .ensures .reached, entry .pre .rooms .text-room)
 
 returns : tie.Need-returns

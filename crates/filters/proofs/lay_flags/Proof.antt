@@ -9,11 +9,11 @@ use Rattle.filters.proofs.lay_flags.Statement.{statement}
 use Rattle.filters.proofs.lay_flags.Tie as tie
 
 abbrev Inv-loop : tie.InvT-loop
-Inv-loop text starts ends to flags table out₀ out-starts₀ out-ends₀ at q₀ p₀ written₀ i₀ out out-starts out-ends q p written i =
+Inv-loop text starts ends to flags out₀ out-starts₀ out-ends₀ at q₀ p₀ written₀ i₀ out out-starts out-ends q p written i =
     Flagged text starts ends (to .0) (p₀ .0) flags out₀ out-starts₀ out-ends₀ at q (p .0) written i out out-starts out-ends
 
 abbrev μ-loop : tie.MeasureT-loop
-μ-loop text starts ends to flags table out₀ out-starts₀ out-ends₀ at q₀ p₀ written₀ i₀ out out-starts out-ends q p written i =
+μ-loop text starts ends to flags out₀ out-starts₀ out-ends₀ at q₀ p₀ written₀ i₀ out out-starts out-ends q p written i =
     length flags - i
 
 -- the places that others are told by: the entry, the turn's beginning, and where its character is laid
@@ -27,11 +27,6 @@ lay-flag-requires : tie.Need-lay-flag-requires Inv-loop μ-loop
 lay-flag-requires c κs =
     let turn = c .before .before .before .before .before .before in
     flag-room (entry turn .pre) (turn .loop .inv) (c .before .before .before .before .before .loop-test .taken) (c .before .before .before .before .char-len .ensures)
-
-skip-requires : tie.Need-skip-requires Inv-loop μ-loop
-skip-requires c κs =
-    let laid = c .before .before .before .before .before .before in
-    record { standing = turn laid .loop .inv .beside .standing; lent = entry (turn laid) .pre .ready .tabled .lent }
 
 add-q : tie.Need-add-q Inv-loop μ-loop
 add-q c =
@@ -61,10 +56,10 @@ lay-flags-spec =
     Inv-loop
     μ-loop
     (λ c. none-flagged (c .before .before .before .before .before .before .before .pre))
-    (λ c κs. char-there (c .before .loop .inv .beside) (c .loop-test .taken) (entry (c .before) .pre .ready .tabled))
+    (λ c κs. char-there (c .before .loop .inv .beside) (c .loop-test .taken))
     (λ c. search needs)
     lay-flag-requires
-    skip-requires
+    (λ c κs. turn (c .before .before .before .before .before .before) .loop .inv .beside .standing)
     add-q
     add-i
     (λ c. omega arith)

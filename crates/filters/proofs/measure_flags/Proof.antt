@@ -8,10 +8,10 @@ use Rattle.filters.proofs.measure_flags.Statement.{statement}
 use Rattle.filters.proofs.measure_flags.Tie as tie
 
 abbrev Inv-loop : tie.InvT-loop
-Inv-loop text to flags table q₀ p₀ written₀ i₀ q p written i = Filtering text (to .0) (p₀ .0) flags q (p .0) written i
+Inv-loop text to flags q₀ p₀ written₀ i₀ q p written i = Filtering text (to .0) (p₀ .0) flags q (p .0) written i
 
 abbrev μ-loop : tie.MeasureT-loop
-μ-loop text to flags table q₀ p₀ written₀ i₀ q p written i = length flags - i
+μ-loop text to flags q₀ p₀ written₀ i₀ q p written i = length flags - i
 
 -- the places that others are told by: the entry and the turn's beginning
 abbrev entry : tie.At-loop Inv-loop μ-loop → tie.Start Inv-loop μ-loop
@@ -42,12 +42,12 @@ measure-flags-spec =
     Inv-loop
     μ-loop
     (λ c. none-filtered (c .before .before .pre))
-    (λ c κs. char-there (c .before .loop .inv .beside) (c .loop-test .taken) (entry (c .before) .pre .tabled))
+    (λ c κs. char-there (c .before .loop .inv .beside) (c .loop-test .taken))
     (λ c. search needs) (λ c κs. search needs)
     (λ c. flag-starves (c .before .before .before .before .before .loop .inv) (c .before .before .before .before .loop-test .taken) (c .before .before .before .char-len .ensures) (c .before .flag-starves .ensures) (c .if1 .taken))
     (λ c. search needs) (λ c κs. search needs)
     add-written
-    (λ c κs. let turn = c .before .before .before .before .before .before .before in record { standing = turn .loop .inv .beside .standing; lent = entry turn .pre .tabled .lent })
+    (λ c κs. c .before .before .before .before .before .before .before .loop .inv .beside .standing)
     add-q
     (λ c. omega arith) (λ c. omega arith)
     loop-again

@@ -20,13 +20,13 @@ middle c = c .before .before .before .before .before .before .before .before .be
 add-lay-script : tie.Need-add-lay-script
 add-lay-script c =
     let entry = entry (front c .before) in
-    let long : length (entry .args .out .now) < 2 ^ 64 = entry .good .1 .1 .1 .1 .1 .1 .1 .1 .0 .0 in
+    let long : length (entry .args .out .now) < 2 ^ 64 = entry .good .1 .1 .1 .1 .1 .1 .1 .0 .0 in
     omega (arith, long, entry .pre .0 .text-room, entry .pre .1)
 
 add-result : tie.Need-add-result
 add-result c =
     let entry = entry (front (middle (c .before .before .before .before .before .before .before) .before) .before) in
-    let long : length (entry .args .out .now) < 2 ^ 64 = entry .good .1 .1 .1 .1 .1 .1 .1 .1 .0 .0 in
+    let long : length (entry .args .out .now) < 2 ^ 64 = entry .good .1 .1 .1 .1 .1 .1 .1 .0 .0 in
     omega (arith, long, middle (c .before .before .before .before .before .before .before) .lay-script .ensures .reached, entry .pre .0 .text-room)
 
 returns : tie.Need-returns

@@ -10,12 +10,12 @@ use Rattle.edit_steps.proofs.laying.lay_script.Statement.{statement}
 use Rattle.edit_steps.proofs.laying.lay_script.Tie as tie
 
 abbrev Inv-loop : tie.InvT-loop
-Inv-loop text starts ends to script table out₀ out-starts₀ out-ends₀ at until progress₀ i₀ out out-starts out-ends progress i =
+Inv-loop text starts ends to script out₀ out-starts₀ out-ends₀ at until progress₀ i₀ out out-starts out-ends progress i =
     (i ≤ length script)
     × Going text starts ends (to .0) (progress₀ .position .0) (commandsOf script) out₀ out-starts₀ out-ends₀ at progress (commandsOf (drop i script)) out out-starts out-ends
 
 abbrev μ-loop : tie.MeasureT-loop
-μ-loop text starts ends to script table out₀ out-starts₀ out-ends₀ at until progress₀ i₀ out out-starts out-ends progress i =
+μ-loop text starts ends to script out₀ out-starts₀ out-ends₀ at until progress₀ i₀ out out-starts out-ends progress i =
     length script - i
 
 -- the places that others are told by: the entry, the turn's beginning, where its command is read, and where it is laid
@@ -42,7 +42,7 @@ advanced-requires : tie.Need-advanced-requires Inv-loop μ-loop
 advanced-requires c κs =
     let laid = c .before .before .before .before .before .before in
     let turn = turn (there laid) in
-    let long : length (entry turn .args .out .now) < 2 ^ 64 = entry turn .good .1 .1 .1 .1 .1 .1 .1 .0 .0 in
+    let long : length (entry turn .args .out .now) < 2 ^ 64 = entry turn .good .1 .1 .1 .1 .1 .1 .0 .0 in
     counting (entry turn .pre .0) (turn .loop .inv .1) (step (there laid) .commands) long
 
 loop-again : tie.Need-loop-again Inv-loop μ-loop

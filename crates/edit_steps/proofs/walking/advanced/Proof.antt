@@ -25,9 +25,8 @@ use denote.RattleType.{RattleType, owns}
 use denote.Memory.{mem, cellAt, partAt, partOf}
 use denote.Laws.{Is, shows}
 use denote.Plain.{Nothing}
-use denote.Builtin.{u8, ArrayOf}
-use denote.Array.{Array}
-use denote.Ref.{RefT, MutRef, ShrRef, ptr-vals, shr-tells, shr-copy}
+use denote.Builtin.{u8}
+use denote.Ref.{RefT, MutRef}
 use denote.Slice.{sliceVal, ShrSlice, slice-vals, shr-slice-tells, shr-slice-lawful, shr-slice-copy}
 use denote.Lend.{lends-ref, ref-back}
 use denote.Steps.{only, owned, facts, heard, nothing}
@@ -39,7 +38,7 @@ use denote.Triple.Statement.{Contract, Triple}
 use denote.Triple.Call.{calls-at}
 use denote.Triple.Clauses.{ensured, lasts}
 use denote.Triple.Table.{entered, cited}
-use denote.Triple.Walked.{says, needs, Stays, stay-none, stay-none-ref, stay-none-slice, walkOf, AllGo, goes-none, goes-none-ref, goes-none-slice, Walks, ends-at, walked, walk-meets}
+use denote.Triple.Walked.{says, needs, Stays, stay-none, stay-none-slice, walkOf, AllGo, goes-none, goes-none-slice, Walks, ends-at, walked, walk-meets}
 use denote.Exit.{yes}
 use denote.Signature.{plain}
 use Rattle.note.specs.declared.NormalizedByte.{NormalizedByte}
@@ -64,11 +63,8 @@ use Rattle.edit_steps.proofs.walking.advanced.Code as code
 abbrev P : RattleType
 P = T.the-row
 
-abbrev Arr : RattleType
-Arr = Array u8 256
-
 abbrev stayed : Stays (f.ended .signature .params) (f.ended .kept)
-stayed = (stay-none-slice (0 ∷ []) tt (plain (λ _. u8)) yes, (stay-none (λ _. N.the-row) yes, (stay-none (λ _. P) yes, (stay-none (λ _. K.the-row) yes, (stay-none-ref (1 ∷ []) tt (ArrayOf (plain (λ _. u8)) (λ _. tt) 256) yes, tt)))))
+stayed = (stay-none-slice (0 ∷ []) tt (plain (λ _. u8)) yes, (stay-none (λ _. N.the-row) yes, (stay-none (λ _. P) yes, (stay-none (λ _. K.the-row) yes, tt))))
 
 -- the contract that the proof cites
 abbrev Advance : {M : Type 1} (𝓤 : URA M) (H : Heap 𝓤) (A : Atoms 𝓤) (at-mem : Memory → SProp 𝓤) (run : Routine → Fun 𝓤) → Contract 𝓤
@@ -91,7 +87,7 @@ module _ {M : Type 1} (𝓤 : URA M) (H : Heap 𝓤) (A : Atoms 𝓤) (W : Given
       qed W (‵ (partAt P fullShare r l 0) ∷ []) ∵ fpick ! (λ vs. fsplit ! $ spelt ! P (Is P) (shows 𝓤 H A P) (LL.vals T.the-type T′.the-laws) (LL.tells T.the-type T′.the-laws) fullShare r vs l 0 $
       move ! (1 ∷ []) $ facts ! P (Is P) (shows 𝓤 H A P) r (T′.lowered r ∷ []) (λ is. check ! is $ use1 W (‵ cell) (W .laws .raw-at fullShare T′.mir l 0 (T′.lowered r)) $ done !))
 
-module _ {M : Type 1} (𝓤 : URA M) (H : Heap 𝓤) (A : Atoms 𝓤) (W : Given 𝓤 H A) (at-mem : Memory → SProp 𝓤) (run : Routine → Fun 𝓤) (κ₁ κ₂ : Lft) (q₁ q₂ : Share) (text : RefT (List ℕ)) (n : NormalizedByte) (g : Progress) (c : Command) (tab : RefT (List ℕ))
+module _ {M : Type 1} (𝓤 : URA M) (H : Heap 𝓤) (A : Atoms 𝓤) (W : Given 𝓤 H A) (at-mem : Memory → SProp 𝓤) (run : Routine → Fun 𝓤) (κ₁ : Lft) (q₁ : Share) (text : RefT (List ℕ)) (n : NormalizedByte) (g : Progress) (c : Command)
     (n-is : Is N.the-row n (LL.vals N.the-type N′.the-laws n)) (g-is : Is P g (LL.vals T.the-type T′.the-laws g)) (c-is : Is K.the-row c (LL.vals K.the-type K′.the-laws c)) where
   -- the machine values
   abbrev tv : Val
@@ -106,120 +102,113 @@ module _ {M : Type 1} (𝓤 : URA M) (H : Heap 𝓤) (A : Atoms 𝓤) (W : Given
   abbrev cv : Val
   cv = K′.lowered c
 
-  abbrev bv : Val
-  bv = vptr (tab .ptr .0) (tab .ptr .1)
-
   abbrev Arg : Type 0
-  Arg = RefT (List ℕ) × (NormalizedByte × (Progress × (Command × (RefT (List ℕ) × Unit {0}))))
+  Arg = RefT (List ℕ) × (NormalizedByte × (Progress × (Command × Unit {0})))
 
   abbrev a : Arg
-  a = (text, (n, (g, (c, (tab, tt)))))
+  a = (text, (n, (g, (c, tt))))
 
-  abbrev Five : Type 0
-  Five = List Val × (List Val × (List Val × (List Val × (List Val × Unit {0}))))
+  abbrev Four : Type 0
+  Four = List Val × (List Val × (List Val × (List Val × Unit {0})))
 
-  abbrev vals : Five
-  vals = (tv ∷ [], (nv ∷ [], (gv ∷ [], (cv ∷ [], (bv ∷ [], tt)))))
+  abbrev vals : Four
+  vals = (tv ∷ [], (nv ∷ [], (gv ∷ [], (cv ∷ [], tt))))
 
   abbrev bound : walkOf 𝓤 H A f.ended stayed (f.clauses 𝓤 H A at-mem run) .Ghost
-  bound = (((κ₁, (κ₂, tt)), (q₁, (q₂, tt)), tt, a, vals), tt)
+  bound = (((κ₁, tt), (q₁, tt), tt, a, vals), tt)
 
   abbrev Post : Val → SProp 𝓤
   Post = walkOf 𝓤 H A f.ended stayed (f.clauses 𝓤 H A at-mem run) .post bound
 
-  -- what the two shared references own
+  -- what the shared reference owns
   abbrev S : Fml
   S = ShrSlice (named 0) κ₁ u8 .own text (tv ∷ [])
 
-  abbrev B : Fml
-  B = ShrRef (named 1) κ₂ Arr .own tab (bv ∷ [])
-
   -- the call of `advance`: what it is lent and passed, and what it asks
   abbrev Lent : Type 0
-  Lent = RefT Progress × (RefT (List ℕ) × (NormalizedByte × (Command × (RefT (List ℕ) × Unit {0}))))
+  Lent = RefT Progress × (RefT (List ℕ) × (NormalizedByte × (Command × Unit {0})))
 
   abbrev lent : ℕ → GName → Lent
-  lent l δ = (record { ptr = (l, 0); name = δ; now = g }, (text, (n, (c, (tab, tt)))))
+  lent l δ = (record { ptr = (l, 0); name = δ; now = g }, (text, (n, (c, tt))))
 
-  abbrev passed : ℕ → Five
-  passed l = (vptr l 0 ∷ [], (tv ∷ [], (nv ∷ [], (cv ∷ [], (bv ∷ [], tt)))))
+  abbrev passed : ℕ → Four
+  passed l = (vptr l 0 ∷ [], (tv ∷ [], (nv ∷ [], (cv ∷ [], tt))))
 
   abbrev to-advance : ℕ → ℕ → GName → Advance 𝓤 H A at-mem run .Ghost
-  to-advance ν l δ = (((ν ∷ [], (κ₁, (κ₂, tt))), (fullShare, (q₁, (q₂, tt))), tt, lent l δ, passed l), tt)
+  to-advance ν l δ = (((ν ∷ [], (κ₁, tt)), (fullShare, (q₁, tt)), tt, lent l δ, passed l), tt)
 
-  goes : (ν l : ℕ) (δ : GName) → Counting (text .now) (n .0) g c (tab .now) → ent 𝓤 (onEntry 𝓤 H A advance.signature (ν ∷ [], (κ₁, (κ₂, tt))) (fullShare, (q₁, (q₂, tt))) (lent l δ) (passed l)) (Advance 𝓤 H A at-mem run .pre (to-advance ν l δ))
+  goes : (ν l : ℕ) (δ : GName) → Counting (text .now) (n .0) g c → ent 𝓤 (onEntry 𝓤 H A advance.signature (ν ∷ [], (κ₁, tt)) (fullShare, (q₁, tt)) (lent l δ) (passed l)) (Advance 𝓤 H A at-mem run .pre (to-advance ν l δ))
   goes ν l δ need =
-      qed W ((‵ (flft (ν ∷ []) fullShare) ⊛ ‵ (flft κ₁ q₁) ⊛ ‵ (flft κ₂ q₂) ⊛ ‵ ftrue) ∷ ‵ (owns (MutRef (named 0) (ν ∷ []) P ∷ ShrSlice (named 1) κ₁ u8 ∷ N.the-row ∷ K.the-row ∷ ShrRef (named 2) κ₂ Arr ∷ []) (lent l δ) (passed l)) ∷ []) ∵
+      qed W ((‵ (flft (ν ∷ []) fullShare) ⊛ ‵ (flft κ₁ q₁) ⊛ ‵ ftrue) ∷ ‵ (owns (MutRef (named 0) (ν ∷ []) P ∷ ShrSlice (named 1) κ₁ u8 ∷ N.the-row ∷ K.the-row ∷ []) (lent l δ) (passed l)) ∷ []) ∵
       says ! need $ frame ! $ done !
 
-  exits : (r : Progress) → Is P r (T′.lowered r ∷ []) → r ≡ progressAfter (text .now) (n .0) g c → ent 𝓤 (⋆ 𝓤 H A ((‵ (flft κ₁ q₁) ⊛ ‵ (flft κ₂ q₂) ⊛ ‵ ftrue) ∷ ‵ B ∷ ‵ S ∷ [])) (Post (T′.lowered r))
+  exits : (r : Progress) → Is P r (T′.lowered r ∷ []) → r ≡ progressAfter (text .now) (n .0) g c → ent 𝓤 (⋆ 𝓤 H A ((‵ (flft κ₁ q₁) ⊛ ‵ ftrue) ∷ ‵ S ∷ [])) (Post (T′.lowered r))
   exits r is e =
-      qed W ((‵ (flft κ₁ q₁) ⊛ ‵ (flft κ₂ q₂) ⊛ ‵ ftrue) ∷ ‵ B ∷ ‵ S ∷ []) ∵
-      suffices ! _ (ends-at 𝓤 H A f.ended stayed (f.clauses 𝓤 H A at-mem run) W bound (T′.lowered r) r (tt, (tt, (tt, (tt, (tt, tt))))) (tt, (tt, (tt, (tt, (tt, tt)))))) $ says ! e $
-      frame ! $ nothing ! $ move ! (1 ∷ 0 ∷ []) $ fjoin ! $ owned ! K.the-row (Is K.the-row) (LL.makes K.the-type K′.the-plain 𝓤 H A) c _ c-is $ fjoin ! $ owned ! P (Is P) (LL.makes T.the-type T′.the-plain 𝓤 H A) g _ g-is $ fjoin ! $
+      qed W ((‵ (flft κ₁ q₁) ⊛ ‵ ftrue) ∷ ‵ S ∷ []) ∵
+      suffices ! _ (ends-at 𝓤 H A f.ended stayed (f.clauses 𝓤 H A at-mem run) W bound (T′.lowered r) r (tt, (tt, (tt, (tt, tt)))) (tt, (tt, (tt, (tt, tt))))) $ says ! e $
+      frame ! $ nothing ! $ owned ! K.the-row (Is K.the-row) (LL.makes K.the-type K′.the-plain 𝓤 H A) c _ c-is $ fjoin ! $ owned ! P (Is P) (LL.makes T.the-type T′.the-plain 𝓤 H A) g _ g-is $ fjoin ! $
       owned ! N.the-row (Is N.the-row) (LL.makes N.the-type N′.the-plain 𝓤 H A) n _ n-is $ fjoin ! $ move ! (1 ∷ 0 ∷ []) $ fjoin ! $ frame ! $ owned ! P (Is P) (LL.makes T.the-type T′.the-plain 𝓤 H A) r _ is $ done !
 
   module _ (C : Calls 𝓤 H) (Λ : Loops 𝓤 H) (fm : FmC 𝓤 H (W .laws) C) (known : Triple 𝓤 (C #advance) (Advance 𝓤 H A at-mem run)) (text-is : Is (ShrSlice (named 0) κ₁ u8) text (tv ∷ [])) where
-    walk : Counting (text .now) (n .0) g c (tab .now) → ent 𝓤 (onEntry 𝓤 H A f.signature (κ₁, (κ₂, tt)) (q₁, (q₂, tt)) a vals) (WpFn 𝓤 H C Λ code.function (tv ∷ nv ∷ gv ∷ cv ∷ bv ∷ []) Post)
+    walk : Counting (text .now) (n .0) g c → ent 𝓤 (onEntry 𝓤 H A f.signature (κ₁, tt) (q₁, tt) a vals) (WpFn 𝓤 H C Λ code.function (tv ∷ nv ∷ gv ∷ cv ∷ []) Post)
     walk need =
-        qed W ((‵ (flft κ₁ q₁) ⊛ ‵ (flft κ₂ q₂) ⊛ ‵ ftrue) ∷ ‵ (owns (ShrSlice (named 0) κ₁ u8 ∷ N.the-row ∷ P ∷ K.the-row ∷ ShrRef (named 1) κ₂ Arr ∷ []) a vals) ∷ []) ∵
-        enter ! C Λ code.function (tv ∷ nv ∷ gv ∷ cv ∷ bv ∷ []) _ $
-        alloc1 ! (λ l₀. alloc1 ! (λ l₁. alloc1 ! (λ l₂. alloc1 ! (λ l₃. alloc1 ! (λ l₄. alloc1 ! (λ l₅. alloc1 ! (λ l₆. alloc1 ! (λ l₇. alloc1 ! (λ l₈. alloc0 ! $ params1 ! $
-        pass1 ! (init ! 14 refl (shr-slice-lawful 𝓤 H A W (named 0) κ₁ u8 .typed text (tv ∷ []) text-is .0)) $ pass1 ! (init ! 12 refl (LL.lawful N.the-type N′.the-laws 𝓤 H A W .typed n _ n-is .0)) $
-        pass1 ! (init ! 10 refl (LL.lawful T.the-type T′.the-laws 𝓤 H A W .typed g _ g-is .0)) $ pass1 ! (init ! 8 refl (LL.lawful K.the-type K′.the-laws 𝓤 H A W .typed c _ c-is .0)) $ pass1 ! (init ! 6 refl (tt, tt)) $ pass0 ! $
-        -- [_8; …; _7; …; _6; …; _5; …; _4; …; _3; …; _2; …; _1; …; room for _0; …; the tokens; what the parameters own]: the shared references are kept and passed on
-        move ! (19 ∷ []) $ fsplit ! $ use1 W (‵ S ⊛ ‵ S) (shr-slice-copy 𝓤 H A W (named 0) κ₁ u8 .twice text (tv ∷ [])) $ split ! $
-        move ! (2 ∷ []) $ fsplit ! $ drop ! $ fsplit ! $ drop ! $ fsplit ! $ drop ! $ fsplit ! $ use1 W (‵ B ⊛ ‵ B) (shr-copy 𝓤 H A W (named 1) κ₂ Arr .twice tab (bv ∷ [])) $ split ! $
-        -- [B; B; true; S; S; _8; …; _7; …; _6; …; _5; …; _4; …; _3; …; _2; …; _1; …; room for _0; …; the tokens]
-        assigns ! (of-opd ! (load ! (from ! (stop !)) (look ! 15 refl))) (from ! (stop !)) (init ! 9 refl (LL.lawful T.the-type T′.the-laws 𝓤 H A W .typed g _ g-is .0)) $
-        assigns ! (addr ! (from ! (stop !))) (from ! (stop !)) (init ! 5 refl (tt, tt)) $
+        qed W ((‵ (flft κ₁ q₁) ⊛ ‵ ftrue) ∷ ‵ (owns (ShrSlice (named 0) κ₁ u8 ∷ N.the-row ∷ P ∷ K.the-row ∷ []) a vals) ∷ []) ∵
+        enter ! C Λ code.function (tv ∷ nv ∷ gv ∷ cv ∷ []) _ $
+        alloc1 ! (λ l₀. alloc1 ! (λ l₁. alloc1 ! (λ l₂. alloc1 ! (λ l₃. alloc1 ! (λ l₄. alloc1 ! (λ l₅. alloc1 ! (λ l₆. alloc1 ! (λ l₇. alloc0 ! $ params1 ! $
+        pass1 ! (init ! 12 refl (shr-slice-lawful 𝓤 H A W (named 0) κ₁ u8 .typed text (tv ∷ []) text-is .0)) $ pass1 ! (init ! 10 refl (LL.lawful N.the-type N′.the-laws 𝓤 H A W .typed n _ n-is .0)) $
+        pass1 ! (init ! 8 refl (LL.lawful T.the-type T′.the-laws 𝓤 H A W .typed g _ g-is .0)) $ pass1 ! (init ! 6 refl (LL.lawful K.the-type K′.the-laws 𝓤 H A W .typed c _ c-is .0)) $ pass0 ! $
+        -- [_7; …; _6; …; _5; …; _4; …; _3; …; _2; …; _1; …; room for _0; …; the tokens; what the parameters own]: the shared reference is kept and passed on
+        move ! (17 ∷ []) $ fsplit ! $ use1 W (‵ S ⊛ ‵ S) (shr-slice-copy 𝓤 H A W (named 0) κ₁ u8 .twice text (tv ∷ [])) $ split ! $
+        move ! (2 ∷ []) $ fsplit ! $ drop ! $ fsplit ! $ drop ! $ fsplit ! $ drop ! $
+        -- [true; S; S; _7; …; _6; …; _5; …; _4; …; _3; …; _2; …; _1; …; room for _0; …; the tokens]
+        assigns ! (of-opd ! (load ! (from ! (stop !)) (look ! 11 refl))) (from ! (stop !)) (init ! 7 refl (LL.lawful T.the-type T′.the-laws 𝓤 H A W .typed g _ g-is .0)) $
+        assigns ! (addr ! (from ! (stop !))) (from ! (stop !)) (init ! 3 refl (tt, tt)) $
         -- the local is lent for a lifetime ν of the call
-        move ! (9 ∷ []) $ use1 W (‵ (partAt P fullShare g l₆ 0)) (lies-in 𝓤 H A W l₆ g g-is) $ lft-new ! tt (λ ν. move ! (1 ∷ []) $
-        use1 W (later (some (λ (δ : GName). ‵ (MutRef (named 0) (ν ∷ []) P .own (lent l₆ δ .0) (vptr l₆ 0 ∷ [])) ⊛ ‵ (flent (ν ∷ []) (Body (mem P) l₆ 0 δ))))) (lends-ref 𝓤 H A W P (named 0) (ν ∷ []) g l₆ 0) $ await ! tt $ pick ! (λ δ. split ! $
-        -- [the reference; the lender's part; the new token; B; B; true; S; S; _8; …; _7; …; …; _5; …; _4; …; _3; …; _2; …; _1; …; room for _0; …; the tokens]
-        move ! (3 ∷ 5 ∷ []) $ fjoin ! $ owned ! K.the-row (Is K.the-row) (LL.makes K.the-type K′.the-plain 𝓤 H A) c _ c-is $ fjoin ! $ owned ! N.the-row (Is N.the-row) (LL.makes N.the-type N′.the-plain 𝓤 H A) n _ n-is $ fjoin ! $
-        move ! (5 ∷ 0 ∷ []) $ fjoin ! $ move ! (1 ∷ 0 ∷ []) $ fjoin ! $ move ! (2 ∷ 22 ∷ []) $ join ! $ use2 W (raw (Advance 𝓤 H A at-mem run .pre (to-advance ν l₆ δ))) (goes ν l₆ δ need) $
-        -- [what `advance` asks; the lender's part; B; S; _8; …; _7; …; …; _5; …; _4; …; _3; …; _2; …; _1; …; room for _0; …]
-        calls-at ! fm (Advance 𝓤 H A at-mem run) known (to-advance ν l₆ δ)
-        (and-then ! (load ! (from ! (stop !)) (look ! 4 refl)) (and-then ! (load ! (from ! (stop !)) (look ! 17 refl))
-        (and-then ! (load ! (from ! (stop !)) (look ! 15 refl)) (and-then ! (load ! (from ! (stop !)) (look ! 11 refl))
-        (and-then ! (load ! (from ! (stop !)) (look ! 9 refl)) (no-more !))))))
+        move ! (7 ∷ []) $ use1 W (‵ (partAt P fullShare g l₅ 0)) (lies-in 𝓤 H A W l₅ g g-is) $ lft-new ! tt (λ ν. move ! (1 ∷ []) $
+        use1 W (later (some (λ (δ : GName). ‵ (MutRef (named 0) (ν ∷ []) P .own (lent l₅ δ .0) (vptr l₅ 0 ∷ [])) ⊛ ‵ (flent (ν ∷ []) (Body (mem P) l₅ 0 δ))))) (lends-ref 𝓤 H A W P (named 0) (ν ∷ []) g l₅ 0) $ await ! tt $ pick ! (λ δ. split ! $
+        -- [the reference; the lender's part; the new token; true; S; S; _7; …; _6; …; …; _4; …; _3; …; _2; …; _1; …; room for _0; …; the tokens]
+        move ! (3 ∷ []) $ owned ! K.the-row (Is K.the-row) (LL.makes K.the-type K′.the-plain 𝓤 H A) c _ c-is $ fjoin ! $ owned ! N.the-row (Is N.the-row) (LL.makes N.the-type N′.the-plain 𝓤 H A) n _ n-is $ fjoin ! $
+        move ! (4 ∷ 0 ∷ []) $ fjoin ! $ move ! (1 ∷ 0 ∷ []) $ fjoin ! $ move ! (2 ∷ 19 ∷ []) $ join ! $ use2 W (raw (Advance 𝓤 H A at-mem run .pre (to-advance ν l₅ δ))) (goes ν l₅ δ need) $
+        -- [what `advance` asks; the lender's part; S; _7; …; _6; …; …; _4; …; _3; …; _2; …; _1; …; room for _0; …]
+        calls-at ! fm (Advance 𝓤 H A at-mem run) known (to-advance ν l₅ δ)
+        (and-then ! (load ! (from ! (stop !)) (look ! 3 refl)) (and-then ! (load ! (from ! (stop !)) (look ! 14 refl))
+        (and-then ! (load ! (from ! (stop !)) (look ! 12 refl)) (and-then ! (load ! (from ! (stop !)) (look ! 8 refl)) (no-more !)))))
         (λ v.
         use1 W
-        (later (some (λ (u : Unit {0}). ((‵ (flft (ν ∷ []) fullShare) ⊛ ‵ (flft κ₁ q₁) ⊛ ‵ (flft κ₂ q₂) ⊛ ‵ ftrue) ⊛ ‵ (Nothing .own u (v ∷ []))) ⊛ raw (ensured 𝓤 H A advance.ended (advance.clauses 𝓤 H A at-mem run) (ν ∷ [], (κ₁, (κ₂, tt))) (lent l₆ δ) tt u))))
+        (later (some (λ (u : Unit {0}). ((‵ (flft (ν ∷ []) fullShare) ⊛ ‵ (flft κ₁ q₁) ⊛ ‵ ftrue) ⊛ ‵ (Nothing .own u (v ∷ []))) ⊛ raw (ensured 𝓤 H A advance.ended (advance.clauses 𝓤 H A at-mem run) (ν ∷ [], (κ₁, tt)) (lent l₅ δ) tt u))))
         (id⊢ 𝓤 _) $ await ! tt $ pick ! (λ u.
-        split ! $ move ! (1 ∷ []) $ use1 W (some (λ (ws : Progress × (Unit {0} × (Unit {0} × (Unit {0} × (Unit {0} × Unit {0}))))). ‵ (lasts advance.ended (ν ∷ [], (κ₁, (κ₂, tt))) (lent l₆ δ) ws) ⊛ raw (fact 𝓤 (ws .0 ≡ progressAfter (text .now) (n .0) g c)))) (id⊢ 𝓤 _) $ pick ! (λ ws.
+        split ! $ move ! (1 ∷ []) $ use1 W (some (λ (ws : Progress × (Unit {0} × (Unit {0} × (Unit {0} × Unit {0})))). ‵ (lasts advance.ended (ν ∷ [], (κ₁, tt)) (lent l₅ δ) ws) ⊛ raw (fact 𝓤 (ws .0 ≡ progressAfter (text .now) (n .0) g c)))) (id⊢ 𝓤 _) $ pick ! (λ ws.
         split ! $ move ! (1 ∷ []) $ heard ! (ws .0 ≡ progressAfter (text .now) (n .0) g c) (λ e. fsplit ! $ move ! (2 ∷ []) $ split ! $ move ! (1 ∷ []) $ feqL ! (λ none.
-        -- [the tokens; the last value; …; the lender's part; B; S; _8; …; _7; …; …; _5; …; _4; …; _3; …; _2; …; _1; …; room for _0; …]
-        land ! (from ! (stop !)) (init ! 8 refl (subst (λ (y : Val). Holds (hasTy tyUnit y) × WT y) (sym (ap only none)) (tt, tt))) $
+        -- [the tokens; the last value; …; the lender's part; S; _7; …; _6; …; …; _4; …; _3; …; _2; …; _1; …; room for _0; …]
+        land ! (from ! (stop !)) (init ! 7 refl (subst (λ (y : Val). Holds (hasTy tyUnit y) × WT y) (sym (ap only none)) (tt, tt))) $
         -- the lifetime is ended, and the local comes back at its last value
-        split ! $ lft-end ! tt $ move ! (0 ∷ 4 ∷ 2 ∷ []) $ use3 W (later (‵ (partAt P fullShare (ws .0) l₆ 0))) (ref-back 𝓤 H A W P (ν ∷ []) δ (ws .0) l₆ 0) $ await ! tt $
-        use1 W (given (Is P (ws .0) (T′.lowered (ws .0) ∷ [])) (‵ (cell 𝓤 H A W l₆ (ws .0)))) (lies-out 𝓤 H A W l₆ (ws .0)) $ learn ! (λ is.
-        -- [_6; the tokens; …; B; S; _8; …; _7; …; …; _5; …; _4; …; _3; …; _2; …; _1; …; room for _0; …]
-        assigns ! (of-opd ! (load ! (from ! (stop !)) (look ! 0 refl))) (from ! (stop !)) (init ! 20 refl (LL.lawful T.the-type T′.the-laws 𝓤 H A W .typed (ws .0) _ is .0)) $
-        returns ! (look ! 20 refl) $ forget ! 0 refl $ forget ! 5 refl $ forget ! 7 refl $ forget ! 10 refl $ forget ! 12 refl $ forget ! 14 refl $ forget ! 16 refl $ forget ! 18 refl $ forget ! 20 refl $
-        move ! (20 ∷ 21 ∷ []) $ free1 ! $ move ! (18 ∷ 19 ∷ []) $ free1 ! $ move ! (16 ∷ 17 ∷ []) $ free1 ! $ move ! (14 ∷ 15 ∷ []) $ free1
-        ! $ move ! (12 ∷ 13 ∷ []) $ free1 ! $ move ! (10 ∷ 11 ∷ []) $ free1 ! $ move ! (0 ∷ 9 ∷ []) $ free1 ! $ move ! (6 ∷ 7 ∷ []) $ free1
-        ! $ move ! (4 ∷ 5 ∷ []) $ free1 ! $ free0 ! $
-        keep ! (0 ∷ 2 ∷ 3 ∷ []) $ by ! (exits (ws .0) is e))))))))))))))))))
+        split ! $ lft-end ! tt $ move ! (0 ∷ 4 ∷ 2 ∷ []) $ use3 W (later (‵ (partAt P fullShare (ws .0) l₅ 0))) (ref-back 𝓤 H A W P (ν ∷ []) δ (ws .0) l₅ 0) $ await ! tt $
+        use1 W (given (Is P (ws .0) (T′.lowered (ws .0) ∷ [])) (‵ (cell 𝓤 H A W l₅ (ws .0)))) (lies-out 𝓤 H A W l₅ (ws .0)) $ learn ! (λ is.
+        -- [_5; the tokens; …; S; _7; …; _6; …; …; _4; …; _3; …; _2; …; _1; …; room for _0; …]
+        assigns ! (of-opd ! (load ! (from ! (stop !)) (look ! 0 refl))) (from ! (stop !)) (init ! 17 refl (LL.lawful T.the-type T′.the-laws 𝓤 H A W .typed (ws .0) _ is .0)) $
+        returns ! (look ! 17 refl) $ forget ! 0 refl $ forget ! 4 refl $ forget ! 6 refl $ forget ! 9 refl $ forget ! 11 refl $ forget ! 13 refl $ forget ! 15 refl $ forget ! 17 refl $
+        move ! (17 ∷ 18 ∷ []) $ free1 ! $ move ! (15 ∷ 16 ∷ []) $ free1 ! $ move ! (13 ∷ 14 ∷ []) $ free1 ! $ move ! (11 ∷ 12 ∷ []) $ free1
+        ! $ move ! (9 ∷ 10 ∷ []) $ free1 ! $ move ! (0 ∷ 8 ∷ []) $ free1 ! $ move ! (5 ∷ 6 ∷ []) $ free1 ! $ move ! (3 ∷ 4 ∷ []) $ free1
+        ! $ free0 ! $
+        keep ! (0 ∷ 2 ∷ []) $ by ! (exits (ws .0) is e)))))))))))))))))
 
 module _ {M : Type 1} (𝓤 : URA M) (H : Heap 𝓤) (A : Atoms 𝓤) (W : Given 𝓤 H A) (at-mem : Memory → SProp 𝓤) (run : Routine → Fun 𝓤) where
   walks : (C : Calls 𝓤 H) (Λ : Loops 𝓤 H) → FmC 𝓤 H (W .laws) C → Triple 𝓤 (C #advance) (Advance 𝓤 H A at-mem run) → Walks 𝓤 H A f.ended stayed (WpFn 𝓤 H C Λ code.function) (f.clauses 𝓤 H A at-mem run)
-  walks C Λ fm known = walked 𝓤 H A f.ended stayed (f.clauses 𝓤 H A at-mem run) (WpFn 𝓤 H C Λ code.function) (λ κs. (slice-vals, (LL.vals N.the-type N′.the-laws, (LL.vals T.the-type T′.the-laws, (LL.vals K.the-type K′.the-laws, (ptr-vals, tt))))))
-      (λ κs. (shr-slice-tells (named 0) (κs .0) u8, (LL.tells N.the-type N′.the-laws, (LL.tells T.the-type T′.the-laws, (LL.tells K.the-type K′.the-laws, (shr-tells (named 1) (κs .1 .0) Arr, tt))))))
-      (λ κs qs bounds a g are. needs 𝓤 (Counting (a .0 .now) (a .1 .0 .0) (a .1 .1 .0) (a .1 .1 .1 .0) (a .1 .1 .1 .1 .0 .now)) _
-      (walk 𝓤 H A W at-mem run (κs .0) (κs .1 .0) (qs .0) (qs .1 .0) (a .0) (a .1 .0) (a .1 .1 .0) (a .1 .1 .1 .0) (a .1 .1 .1 .1 .0) (are .1 .0) (are .1 .1 .0) (are .1 .1 .1 .0) C Λ fm known (are .0)))
+  walks C Λ fm known = walked 𝓤 H A f.ended stayed (f.clauses 𝓤 H A at-mem run) (WpFn 𝓤 H C Λ code.function) (λ κs. (slice-vals, (LL.vals N.the-type N′.the-laws, (LL.vals T.the-type T′.the-laws, (LL.vals K.the-type K′.the-laws, tt)))))
+      (λ κs. (shr-slice-tells (named 0) (κs .0) u8, (LL.tells N.the-type N′.the-laws, (LL.tells T.the-type T′.the-laws, (LL.tells K.the-type K′.the-laws, tt)))))
+      (λ κs qs bounds a g are. needs 𝓤 (Counting (a .0 .now) (a .1 .0 .0) (a .1 .1 .0) (a .1 .1 .1 .0)) _
+      (walk 𝓤 H A W at-mem run (κs .0) (qs .0) (a .0) (a .1 .0) (a .1 .1 .0) (a .1 .1 .1 .0) (are .1 .0) (are .1 .1 .0) (are .1 .1 .1 .0) C Λ fm known (are .0)))
 
-  goes-all : AllGo 𝓤 H A W 2 (f.signature .params) (f.ended .kept) stayed
+  goes-all : AllGo 𝓤 H A W 1 (f.signature .params) (f.ended .kept) stayed
   goes-all = (
-    goes-none-slice 𝓤 H A W 2 (0 ∷ []) tt (plain (λ _. u8)) yes,
+    goes-none-slice 𝓤 H A W 1 (0 ∷ []) tt (plain (λ _. u8)) yes,
     (
-      goes-none 𝓤 H A W 2 (λ _. N.the-row) yes (λ κs x f. refl),
+      goes-none 𝓤 H A W 1 (λ _. N.the-row) yes (λ κs x f. refl),
       (
-        goes-none 𝓤 H A W 2 (λ _. P) yes (λ κs x f. refl),
+        goes-none 𝓤 H A W 1 (λ _. P) yes (λ κs x f. refl),
         (
-          goes-none 𝓤 H A W 2 (λ _. K.the-row) yes (λ κs x f. refl),
-          (goes-none-ref 𝓤 H A W 2 (1 ∷ []) tt (ArrayOf (plain (λ _. u8)) (λ _. tt) 256) yes, tt),
+          goes-none 𝓤 H A W 1 (λ _. K.the-row) yes (λ κs x f. refl),
+          tt,
         ),
       ),
     ),

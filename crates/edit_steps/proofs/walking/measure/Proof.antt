@@ -9,10 +9,10 @@ use Rattle.edit_steps.proofs.walking.measure.Statement.{statement}
 use Rattle.edit_steps.proofs.walking.measure.Tie as tie
 
 abbrev Inv-loop : tie.InvT-loop
-Inv-loop text to script table progress₀ i₀ progress i = Measuring text (to .0) (progress₀ .position .0) script progress i
+Inv-loop text to script progress₀ i₀ progress i = Measuring text (to .0) (progress₀ .position .0) script progress i
 
 abbrev μ-loop : tie.MeasureT-loop
-μ-loop text to script table progress₀ i₀ progress i = length script - i
+μ-loop text to script progress₀ i₀ progress i = length script - i
 
 returns : tie.Need-returns Inv-loop μ-loop
 returns c =
@@ -26,7 +26,7 @@ advanced-requires c κs =
     let read = there .before .before in
     let entry = read .before .before .before .before .before in
     let long : length (entry .args .script .now) < 2 ^ 64 = entry .good .1 .1 .1 .0 .0 in
-    counting (read .before .before .loop .inv) (read .entry-at .ensures) (there .command .given .1) (entry .pre) long
+    counting (read .before .before .loop .inv) (read .entry-at .ensures) (there .command .given .1) long
 
 loop-less : tie.Need-loop-less Inv-loop μ-loop
 loop-less c =
@@ -46,7 +46,7 @@ measure-spec =
     (tie.spec
     Inv-loop
     μ-loop
-    (λ c. none-measured (c .before .before .pre .standing))
+    (λ c. none-measured (c .before .before .pre))
     (λ c κs. search needs) (λ c. search needs)
     advanced-requires
     returns

@@ -7,19 +7,19 @@ use Rattle.edit_steps.proofs.walking.skip.Statement.{statement}
 use Rattle.edit_steps.proofs.walking.skip.Tie as tie
 
 abbrev Inv-loop : tie.InvT-loop
-Inv-loop text count table end p₀ k₀ p k = Skipping text end count p₀ k p
+Inv-loop text count end p₀ k₀ p k = Skipping text end count p₀ k p
 
 abbrev μ-loop : tie.MeasureT-loop
-μ-loop text count table end p₀ k₀ p k = count - k
+μ-loop text count end p₀ k₀ p k = count - k
 
 loop-holds : tie.Need-loop-holds Inv-loop μ-loop
-loop-holds c = none-skipped (c .before .before .before .pre .standing)
+loop-holds c = none-skipped (c .before .before .before .pre)
 
 char-len-requires : tie.Need-char-len-requires Inv-loop μ-loop
-char-len-requires c κs = char-begins (c .before .before .before .before .before .before .pre) (c .before .before .loop .inv .standing) (c .if1 .left)
+char-len-requires c κs = char-begins (c .before .before .loop .inv .standing) (c .if1 .left)
 
-cast-t11 : tie.Need-cast-t11 Inv-loop μ-loop
-cast-t11 c = omega (arith, c .before .loop .inv .standing .most)
+cast-t10 : tie.Need-cast-t10 Inv-loop μ-loop
+cast-t10 c = omega (arith, c .before .loop .inv .standing .most)
 
 returns : tie.Need-returns Inv-loop μ-loop
 returns c = let inv = c .before .loop .inv in ⊎-elim (λ w. all-skipped inv (w .left)) (λ w. range-ends inv (w .1 .taken)) (c .loop-test .came)
@@ -36,5 +36,5 @@ skip-spec =
     (λ c. omega (arith, c .char-len .ensures .inside))
     (λ c. omega arith) (λ c. omega arith)
     (λ c. one-skipped (c .before .before .before .loop .inv) (c .before .before .loop-test .taken) (c .before .if1 .left) (c .char-len .ensures))
-    cast-t11
+    cast-t10
     returns)
