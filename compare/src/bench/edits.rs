@@ -25,8 +25,11 @@ const LOWERCASE_DOTTED: Table =
     Table::new("`lowercase` of a note with each literal replaced by U+0130, check included", UNAIMED);
 const FILTER: Table =
     Table::new("`filter`, about a third dropped, check included", &[RUST.at_most([0.16, 0.21, 0.22, 0.16]), COPYING]);
-const FILTER_HEADED: Table =
-    Table::new("`filter` of a note with a head, about a third dropped, check included", UNAIMED);
+const FILTER_HEADED: Table = Table::new(
+    "`filter` of a note with a head, about a third dropped, check included",
+    &[RUST.at_most([1.0; 4]), COPYING],
+)
+.because(NOT_SLOWER);
 const FILTER_ALL_KEPT: Table =
     Table::new("`filter`, all kept, check included", &[RUST.at_most([0.039, 0.039, 0.078, 0.06]), COPYING]);
 const PREPEND: Table = Table::new("`prepend` of 8 bytes, check included", UNAIMED).because(IN_PLACE);
@@ -38,6 +41,7 @@ const UNAIMED: &[Other] = &[RUST, COPYING];
 const BY_COMMANDS: &str = "slower than the Rust: a script is read three times, and each command is a step of its own";
 const IN_PLACE: &str =
     "slower than the Rust where its heap has room to edit in place: ours checks the note and writes the whole result";
+const NOT_SLOWER: &str = "the aim is the Rust's own time, since one kind of machine was measured";
 const ONE_KIND: &str = "the aim is what was seen on one kind of machine, and a half of it to spare";
 
 /// What is put before or after a text.
