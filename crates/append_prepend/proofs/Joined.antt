@@ -82,9 +82,9 @@ pub column-laid : (front count wide : ℕ) (xs d₀ : List ℕ) {d₁ d₂ : Lis
 column-laid front count wide xs d₀ first second =
     pair-laid (replicate (count + wide) front) (drop wide xs) d₀ (sym (length-replicate (count + wide) front)) first (rw (part-end xs wide) at second)
 
--- the first character is inside a column
-pub front-room : {s starts ends string out starts₀ ends₀ xs d : List ℕ} {wide : ℕ} → PrependRoom s starts ends string out starts₀ ends₀ → wide ≡ announced (getD s 0 0) → length xs ≡ length s → length s + length string ≤ length d → FrontRoom (length string) xs wide d
-front-room {s} r is one room =
+-- the first character is inside a column, and there is room for the column after the string
+pub front-fits : {s starts ends string out starts₀ ends₀ xs d : List ℕ} {wide : ℕ} → PrependRoom s starts ends string out starts₀ ends₀ → wide ≡ announced (getD s 0 0) → length xs ≡ length s → length s + length string ≤ length d → FrontRoom (length string) xs wide d
+front-fits {s} r is one room =
     record { inside = omega (arith, char-at s 0 (r .formed) (boundary-zero s (r .formed)) (r .some) .inside); room = omega arith }
 
 pub prepend-laid : {s starts ends string out₀ starts₀ ends₀ : List ℕ} {wide x y : ℕ} {out₁ out starts₁ ends₁ : List ℕ} → wide ≡ announced (getD s 0 0)

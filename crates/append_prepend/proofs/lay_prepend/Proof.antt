@@ -3,7 +3,7 @@ use Prim.Native.Nat.{_^_, _<_}
 use lib.ListN.{length}
 use native.Mathlib.Omega.{arith}
 use borrow.Author.Needs.{needs}
-use Rattle.append_prepend.proofs.Joined.{front-room, prepend-laid}
+use Rattle.append_prepend.proofs.Joined.{front-fits, prepend-laid}
 use Rattle.append_prepend.proofs.lay_prepend.Statement.{statement}
 use Rattle.append_prepend.proofs.lay_prepend.Tie as tie
 
@@ -21,13 +21,13 @@ lay-column-requires : tie.Need-lay-column-requires
 lay-column-requires c κs =
     let told = told (c .before .before .before .before) in
     let room = entry told .pre in
-    front-room room (told .announced-length .ensures) (room .rooms .one-start) (room .rooms .starts-room)
+    front-fits room (told .announced-length .ensures) (room .rooms .one-start) (room .rooms .starts-room)
 
 lay-column-requires-2 : tie.Need-lay-column-requires-2
 lay-column-requires-2 c κs =
     let told = told (copied (c .before .before .before .before)) in
     let room = entry told .pre in
-    front-room room (told .announced-length .ensures) (room .rooms .one-end) (room .rooms .ends-room)
+    front-fits room (told .announced-length .ensures) (room .rooms .one-end) (room .rooms .ends-room)
 
 add-result : tie.Need-add-result
 add-result c =
