@@ -10,7 +10,7 @@
  * TWO WAYS TO CALL
  *   Most calls are here twice. First come the calls as the library has them, on plain pointers and numbers
  *   (zulmyren_replace), with what each of them does. After them come inline functions on structs
- *   (zulmyren_note_replace), which pass the parts on. Prefer these: a plain call takes up to 25 pointers and numbers,
+ *   (zulmyren_note_replace), which pass the parts on. Prefer these: a plain call takes up to 31 pointers and numbers,
  *   and no compiler sees where two of one type are exchanged.
  *
  * WORDS
@@ -25,6 +25,7 @@
  *   code point  the number of a character in Unicode: 0 to 0x10FFFF, without 0xD800 to 0xDFFF. 0x78 is the letter x.
  *   literal     the bytes that are searched for.
  *   filler      content: the bytes that take the place of what is blanked.
+ *   scratch     buffers that a call works in. What they hold after it is no part of the result.
  *   start..end  a range: the bytes from start up to end, the one at end not included. start == end is an empty range.
  *   _len        how many elements the pointer before it points to.
  *   len         in an answer: how many elements the result has. Of a text or a match list these are bytes; of a list
@@ -66,7 +67,8 @@
  *                        removal of 0; or zulmyren_map is passed a number that is no code point
  *      7  nothing left   an edit is to replace a character, and its range has none any more
  *      8  broken list    a match list (below) does not cover the cleaned text
- *      9  no room        a buffer is too small for the result, or the resulting text has more than 65,535 bytes
+ *      9  no room        a buffer is too small for the result, or the resulting text has more than 65,535 bytes; or
+ *                        scratch is too small
  *     10  nothing there  a range or a pair has no answer; each call says when
  *     11  miscounted     code points or flags are not one for each character of the cleaned text
  *   A comment names the refusals of its call in the order in which they are checked. That is always 2, 3, 1, 4, 6, 8,
@@ -75,16 +77,18 @@
  *
  * WHAT A CALL WRITES
  *   Nothing where it refuses. Where it accepts, it writes its result to the front of each buffer. What comes after the
- *   result stays as it was.
+ *   result stays as it was. Scratch is the exception: where the call accepts, all of it may have changed. Only
+ *   zulmyren_replace_by_edits takes scratch.
  *
  * TIME, STACK AND THREADS
  *   No call allocates anything, or keeps anything from one call to the next. Calls may run on any threads at once, as
  *   long as none of them writes a buffer that another one was passed.
- *   The time is at most proportional to what is passed and written, with three exceptions. Finding a literal
+ *   The time is at most proportional to what is passed and written, with four exceptions. Finding a literal
  *   (zulmyren_find_matches, and every zulmyren_redact...) can at worst take the length of the text times that of the
  *   literal. In zulmyren_convert_all each range can at worst go over the whole note again. zulmyren_redact_all checks
  *   and searches the whole note again for each pair; and for each pair it clears some 1,000,000 bytes of its stack,
- *   however short the note is.
+ *   however short the note is. zulmyren_replace_by_edits writes the whole text and its alignments again for each
+ *   matched place.
  *   Stack: zulmyren_redact_all takes some 1,600,000 bytes and zulmyren_char_offsets_all some 70,000, whatever they are
  *   passed. Every other call takes a few thousand at most. In zulmyren_lowercase 1,536 of these are a table that the
  *   call makes. Some systems give a thread less than zulmyren_redact_all takes. Give such a thread a stack of 2 MiB or
@@ -98,16 +102,17 @@
 #include <stdint.h>
 
 #define ZULMYREN_VERSION_MAJOR 0
-#define ZULMYREN_VERSION_MINOR 11
+#define ZULMYREN_VERSION_MINOR 12
 #define ZULMYREN_VERSION_PATCH 0
-#define ZULMYREN_VERSION "0.11.0"
+#define ZULMYREN_VERSION "0.12.0"
 
 #ifdef __cplusplus
 extern "C" {
 #endif
 
 /* The most bytes of a text, of a shift and a transcript together, and the most pairs. A buffer with so many elements
- * has room for any text, for any column of alignments, and for the counts of any pairs. */
+ * has room for any text, for any column of alignments, and for the counts of any pairs. Scratch with twice as many is
+ * always large enough. */
 enum { ZULMYREN_LIMIT = 65535 };
 
 /* The refusals, by their words. */
@@ -384,6 +389,31 @@ zulmyren_written zulmyren_replace(
     const uint8_t *list, size_t list_len, const uint8_t *content, size_t content_len,
     uint8_t *out, size_t out_len,
     uint16_t *out_starts, size_t out_starts_len, uint16_t *out_ends, size_t out_ends_len);
+
+/* The same by a second road, for whoever wants to check the first: FOR WORK, CALL zulmyren_replace. The matched places
+ * are edited one by one, the last of the list first. Each is edited as a range of the cleaned text (Rust:
+ * transform_range): all its characters are passed over, and each character of the filler is added. Where the scratch is
+ * large enough, the answer is that of zulmyren_replace, and so is what out, out_starts and out_ends hold afterwards
+ * (proved: RoadIsReplaced).
+ * THIS IS SLOW where many places are matched, even empty ones: the time is their number times the length of the texts.
+ * SCRATCH is two sets of three buffers: first with its two columns, and second with its two columns. An edit reads one
+ * set and writes the other. Between edits the text may have more than 65,535 bytes. Where the call accepts, all six
+ * hold anything afterwards. Where it refuses, they are as they were.
+ * Refusals: 2, 3, 1 (either text or the filler), 4, 8, 9 (any of the first three buffers is too small, or len would be
+ * over 65,535; or any of the six scratch buffers has fewer elements than normalized_len + len, even where nothing is
+ * matched).
+ * Room, always enough: in each of the first three as in zulmyren_replace; in each of the six 131,070. In each of the
+ * six normalized_len + len are needed and enough. */
+zulmyren_written zulmyren_replace_by_edits(
+    const uint8_t *original, size_t original_len, const uint8_t *normalized, size_t normalized_len,
+    const uint16_t *starts, size_t starts_len, const uint16_t *ends, size_t ends_len, uint32_t original_shift,
+    const uint8_t *list, size_t list_len, const uint8_t *content, size_t content_len,
+    uint8_t *out, size_t out_len,
+    uint16_t *out_starts, size_t out_starts_len, uint16_t *out_ends, size_t out_ends_len,
+    uint8_t *first, size_t first_len,
+    uint16_t *first_starts, size_t first_starts_len, uint16_t *first_ends, size_t first_ends_len,
+    uint8_t *second, size_t second_len,
+    uint16_t *second_starts, size_t second_starts_len, uint16_t *second_ends, size_t second_ends_len);
 
 /* Whether two notes are published alike: whether zulmyren_replace, with the same match list and the same filler, gives
  * the same bytes and the same alignments for both. That is so exactly when two things hold. The two notes have the same
@@ -783,7 +813,7 @@ typedef struct {
     size_t ends_len;
 } zulmyren_answers_output;
 
-/* Buffers for a published or edited note. */
+/* Buffers for a published or edited note, or a set of scratch. */
 typedef struct {
     uint8_t *text;
     size_t text_len;
@@ -1037,6 +1067,20 @@ static inline zulmyren_written zulmyren_note_replace(
         note->starts, note->starts_len, note->ends, note->ends_len, note->original_shift,
         list.bytes, list.len, filler.bytes, filler.len,
         out->text, out->text_len, out->starts, out->starts_len, out->ends, out->ends_len);
+}
+
+/* Each of the last two is a set of scratch. */
+static inline zulmyren_written zulmyren_note_replace_by_edits(
+    const zulmyren_note *note, zulmyren_list list, zulmyren_filler filler, const zulmyren_output *out,
+    const zulmyren_output *first, const zulmyren_output *second)
+{
+    return zulmyren_replace_by_edits(
+        note->original, note->original_len, note->normalized, note->normalized_len,
+        note->starts, note->starts_len, note->ends, note->ends_len, note->original_shift,
+        list.bytes, list.len, filler.bytes, filler.len,
+        out->text, out->text_len, out->starts, out->starts_len, out->ends, out->ends_len,
+        first->text, first->text_len, first->starts, first->starts_len, first->ends, first->ends_len,
+        second->text, second->text_len, second->starts, second->starts_len, second->ends, second->ends_len);
 }
 
 static inline zulmyren_comparison zulmyren_note_published_alike(

@@ -66,8 +66,10 @@ static uint16_t starts[ZULMYREN_LIMIT], ends[ZULMYREN_LIMIT];
 static uint32_t numbers[3][ZULMYREN_LIMIT];
 static uint16_t columns[6][ZULMYREN_LIMIT];
 static uint32_t shifts[ZULMYREN_LIMIT];
+static uint8_t scratch_text[2][2 * ZULMYREN_LIMIT];
+static uint16_t scratch_columns[4][2 * ZULMYREN_LIMIT];
 
-static zulmyren_output out;
+static zulmyren_output out, first, second;
 static zulmyren_alignments_output alignments;
 static zulmyren_list_output list_out;
 
@@ -237,6 +239,37 @@ static void replace(void)
 {
     zulmyren_written answer = zulmyren_note_replace(&nest, found("12"), filler("**"), &out);
     EXPECT(answer.refusal == 0 && answer.len == 7 && wrote("nest **", 6, 7));
+}
+
+/* A place of the list. */
+static void write_place(size_t index, int kind, size_t start, size_t end)
+{
+    zulmyren_place place;
+    place.kind = (uint8_t)kind, place.start = (uint16_t)start, place.end = (uint16_t)end;
+    zulmyren_write_place(list, index, place);
+}
+
+/* Then the longest note: its first character and its last one, and nothing straight after it. */
+static void replace_by_edits(void)
+{
+    size_t last = ZULMYREN_LIMIT - 3;
+    zulmyren_list places = found("12");
+    zulmyren_output small = second;
+    zulmyren_written answer = zulmyren_note_replace_by_edits(&nest, places, filler("**"), &out, &first, &second);
+    EXPECT(answer.refusal == 0 && answer.len == 7 && wrote("nest **", 6, 7));
+    small.ends_len = 13;
+    answer = zulmyren_note_replace_by_edits(&nest, places, filler("#"), &out, &first, &small);
+    EXPECT(answer.refusal == 0 && answer.len == 6 && wrote("nest #", 6, 7));
+    answer = zulmyren_note_replace_by_edits(&nest, places, filler("**"), &out, &first, &small);
+    EXPECT(answer.refusal == ZULMYREN_NO_ROOM && answer.len == 0 && wrote("nest #", 6, 7));
+    write_place(0, ZULMYREN_MATCHED, 0, 2);
+    write_place(1, ZULMYREN_UNMATCHED, 2, last);
+    write_place(2, ZULMYREN_MATCHED, last, last + 2);
+    write_place(3, ZULMYREN_MATCHED, last + 2, last + 2);
+    places = zulmyren_list_of(list, 4 * ZULMYREN_PLACE_LEN);
+    answer = zulmyren_note_replace_by_edits(&longest, places, filler("x"), &out, &first, &second);
+    EXPECT(answer.refusal == 0 && answer.len == last + 1 && wrote("x\xC3\xA9", 2, 4));
+    EXPECT(memcmp(text + answer.len - 2, "xx", 2) == 0 && starts[answer.len - 1] == last);
 }
 
 static void published_alike(void)
@@ -417,6 +450,10 @@ static void prepare(void)
     make_note(&capitals, "A\xC3\x89\xC4\xB0\xE2\x84\xAA", 8);
     out.text = text, out.starts = starts, out.ends = ends;
     out.text_len = out.starts_len = out.ends_len = ZULMYREN_LIMIT;
+    first.text = scratch_text[0], first.starts = scratch_columns[0], first.ends = scratch_columns[1];
+    second.text = scratch_text[1], second.starts = scratch_columns[2], second.ends = scratch_columns[3];
+    first.text_len = first.starts_len = first.ends_len = 2 * ZULMYREN_LIMIT;
+    second.text_len = second.starts_len = second.ends_len = 2 * ZULMYREN_LIMIT;
     alignments.starts = starts, alignments.ends = ends;
     alignments.starts_len = alignments.ends_len = ZULMYREN_LIMIT;
     list_out.bytes = list, list_out.len = sizeof list;
@@ -441,6 +478,7 @@ int main(void)
     RUN(slice, FEW);
     RUN(find_matches, FEW);
     RUN(replace, FEW);
+    RUN(replace_by_edits, FEW);
     RUN(published_alike, FEW);
     RUN(redact, FEW);
     RUN(redact_note, FEW);

@@ -6,7 +6,7 @@
 #include <string.h>
 #include <zulmyren.h>
 
-enum { MOST = 25 };
+enum { MOST = 31 };
 
 static uintptr_t kept[MOST];
 static size_t kept_len;
@@ -147,6 +147,16 @@ zulmyren_written zulmyren_find_matches(BYTES, const uint8_t *q, size_t q_len, ui
 zulmyren_written zulmyren_replace(NOTE, BYTES, const uint8_t *q, size_t q_len, OUT)
 {
     KEEP(NOTE_PASSED, BYTES_PASSED, P(q), q_len, OUT_PASSED);
+    return written();
+}
+
+zulmyren_written zulmyren_replace_by_edits(
+    NOTE, BYTES, const uint8_t *q, size_t q_len, OUT,
+    uint8_t *t1, size_t t1_len, uint16_t *a1, size_t a1_len, uint16_t *b1, size_t b1_len,
+    uint8_t *t2, size_t t2_len, uint16_t *a2, size_t a2_len, uint16_t *b2, size_t b2_len)
+{
+    KEEP(NOTE_PASSED, BYTES_PASSED, P(q), q_len, OUT_PASSED, P(t1), t1_len, P(a1), a1_len, P(b1), b1_len,
+         P(t2), t2_len, P(a2), a2_len, P(b2), b2_len);
     return written();
 }
 
@@ -495,7 +505,7 @@ static void matches(void)
     zulmyren_literal literal;
     zulmyren_filler filler;
     zulmyren_list_output list_out;
-    zulmyren_output out;
+    zulmyren_output out, first, second;
     zulmyren_pairs pairs;
     zulmyren_counts_output counts;
     zulmyren_redactions answer;
@@ -505,6 +515,8 @@ static void matches(void)
     CHECK(is_written(zulmyren_note_find_matches(&note, literal, list_out)) && in_order(0));
     at = 1, note = next_note(), list = next_list(), filler = next_filler(), out = next_output();
     CHECK(is_written(zulmyren_note_replace(&note, list, filler, &out)) && in_order(0));
+    first = next_output(), second = next_output();
+    CHECK(is_written(zulmyren_note_replace_by_edits(&note, list, filler, &out, &first, &second)) && in_order(0));
     at = 1, note = next_note(), other = next_note(), list = next_list(), filler = next_filler();
     alike = zulmyren_note_published_alike(&note, &other, list, filler);
     CHECK(alike.refusal == 71 && alike.alike && in_order(0));

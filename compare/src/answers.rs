@@ -7,6 +7,7 @@ mod calls;
 mod cutting;
 mod editing;
 mod printing;
+mod replacing;
 mod slicing;
 
 use crate::characters::{self, sequences};
@@ -29,7 +30,8 @@ const FOLDER: &str = "crates/replay/data";
 pub fn write() -> ExitCode {
     let lists = [well_formed(), letter_counts(), starting_notes(), checked_notes()];
     let cut = [slicing::slices()].into_iter().chain(cutting::answers()).chain([printing::printed()]);
-    let all: Vec<Answers> = lists.into_iter().chain(calls::answers()).chain(cut).chain(editing::answers()).collect();
+    let edited = editing::answers().into_iter().chain([replacing::replaced_by_edits()]);
+    let all: Vec<Answers> = lists.into_iter().chain(calls::answers()).chain(cut).chain(edited).collect();
     for call in Replayed::ALL {
         assert!(all.iter().any(|answers| answers.call == *call), "{} has no answers", call.name());
     }

@@ -71,12 +71,12 @@ const LINEAR: f64 = 2.0;
 
 /// The columns of the table: who else is measured. A row says in its name what exactly.
 const OTHERS: [&str; 5] =
-    ["The Rust", "simdutf8 and the Rust or memmem", "memmem alone", "Copying", "Ours, an eighth of the pieces"];
+    ["The Rust", "simdutf8 and the Rust or memmem", "memmem alone", "Copying", "Ours, as the row says"];
 const RUST: Other = Other::in_column(0);
 const SIMDUTF8: Other = Other::in_column(1);
 const MEMMEM: Other = Other::in_column(2);
 const COPYING: Other = Other::in_column(3);
-const FEWER: Other = Other::in_column(4);
+const OURS: Other = Other::in_column(4);
 
 #[derive(Clone, Copy)]
 enum Layout {
@@ -188,7 +188,7 @@ impl Bench {
             table.print(&mut self.report, &regular);
             table.print(&mut self.report, &rotation);
         }
-        self.reasons.extend(table.reason.map(|reason| format!("- {}: {reason}.", table.name)));
+        self.explain(table);
         let growth = growth(&mut sides(&self.sizes)[0], &self.sizes);
         self.grown(table.name, growth);
     }
@@ -203,13 +203,18 @@ impl Bench {
         self.growth.push(format!("| {name} | {} | {worst} |", times.join(" | ")));
     }
 
-    /// A row of a table on one text of its own, for which no aims are given.
-    fn row(&mut self, table: &Table, text: &str, sides: Vec<Side>) {
+    /// A row of a table on one text, with its place among those that aims are given for, if it has one.
+    fn row(&mut self, table: &Table, text: &str, kind: Option<usize>, sides: Vec<Side>) {
         if self.begins(table) {
             let [times] = table.times([(sides, 1)]);
-            let line = Line { text, kind: None, layout: Layout::Regular, times, of_regular: None };
+            let line = Line { text, kind, layout: Layout::Regular, times, of_regular: None };
             table.print(&mut self.report, &line);
+            self.explain(table);
         }
+    }
+
+    fn explain(&mut self, table: &Table) {
+        self.reasons.extend(table.reason.map(|reason| format!("- {}: {reason}.", table.name)));
     }
 
     /// The reasons, the second table, and how many aims were held.

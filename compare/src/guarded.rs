@@ -1,6 +1,8 @@
 //! Buffers that are passed to a call. Around the passed part, and in it at entry, is a known pattern, so that every
 //! write outside the result is seen.
 
+use crate::library::Publishing;
+use crate::note::{Note, Offset};
 use std::sync::OnceLock;
 
 const GUARD: usize = 128;
@@ -55,11 +57,47 @@ impl<T: Number> Guarded<T> {
         self.memory[GUARD..].starts_with(result) && self.untouched(0, GUARD) && self.untouched(end, self.memory.len())
     }
 
+    /// Whether all around the passed part keeps its entry contents.
+    pub fn guards_hold(&self) -> bool {
+        self.untouched(0, GUARD) && self.untouched(GUARD + self.len, self.memory.len())
+    }
+
     fn untouched(&self, from: usize, to: usize) -> bool {
         let kept = to.min(KEPT).max(from);
         let front = T::kept().get(from..kept).unwrap_or_default();
         self.memory[from..from + front.len()] == *front
             && (from + front.len()..to).all(|i| self.memory[i] == pattern(i))
+    }
+}
+
+/// The three buffers for a note that a call publishes, or works on.
+pub struct Output {
+    text: Guarded<u8>,
+    starts: Guarded<Offset>,
+    ends: Guarded<Offset>,
+}
+
+impl Output {
+    pub fn new([text, starts, ends]: [usize; 3]) -> Self {
+        Output { text: Guarded::new(text), starts: Guarded::new(starts), ends: Guarded::new(ends) }
+    }
+
+    pub fn passed(&mut self) -> Publishing<'_> {
+        Publishing { text: self.text.part(), starts: self.starts.part(), ends: self.ends.part() }
+    }
+
+    /// Which of them begin with what a note has, or with nothing, and are untouched after it.
+    pub fn hold(&self, note: Option<&Note>) -> [bool; 3] {
+        let (text, starts, ends): (&[u8], &[Offset], &[Offset]) = match note {
+            Some(note) => (&note.normalized, &note.starts, &note.ends),
+            None => (&[], &[], &[]),
+        };
+        [self.text.holds(text), self.starts.holds(starts), self.ends.holds(ends)]
+    }
+
+    /// Which of them have untouched guards.
+    pub fn guards_hold(&self) -> [bool; 3] {
+        [self.text.guards_hold(), self.starts.guards_hold(), self.ends.guards_hold()]
     }
 }
 

@@ -75,6 +75,10 @@ calls! {
     fn zulmyren_char_offsets_all(read u8, read u32, read u32, write u8, write u32, write u32) -> u32;
     fn zulmyren_find_matches(read u8, read u8, write u8) -> Written;
     fn zulmyren_replace(note, read u8, read u8, write u8, write Offset, write Offset) -> Written;
+    fn zulmyren_replace_by_edits(
+        note, read u8, read u8, write u8, write Offset, write Offset,
+        write u8, write Offset, write Offset, write u8, write Offset, write Offset
+    ) -> Written;
     fn zulmyren_redact(read u8, read u8, read u8, write u8, write Offset, write Offset) -> Redaction;
     fn zulmyren_redact_note(note, read u8, read u8, write u8, write u8, write Offset, write Offset) -> Redaction;
     fn zulmyren_redact_all(
@@ -345,6 +349,21 @@ pub fn lowercase(note: &Note, out: Publishing) -> Written {
 pub fn replace(note: &Note, list: &[u8], filler: &[u8], out: Publishing) -> Written {
     unsafe {
         pass!(zulmyren_replace; note note, read list, read filler, write out.text, write out.starts, write out.ends)
+    }
+}
+
+/// The last two are scratch.
+pub fn replace_by_edits(
+    note: &Note,
+    list: &[u8],
+    filler: &[u8],
+    out: Publishing,
+    [first, second]: [Publishing; 2],
+) -> Written {
+    unsafe {
+        pass!(zulmyren_replace_by_edits; note note, read list, read filler, write out.text, write out.starts,
+            write out.ends, write first.text, write first.starts, write first.ends, write second.text,
+            write second.starts, write second.ends)
     }
 }
 

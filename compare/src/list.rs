@@ -6,6 +6,8 @@
 //! - packed case: fields, each a part: times (4 bytes), a unit, which is there that many times
 //! - case: fields; what the call is passed, in the order of its arguments, a buffer to be written with what it holds at
 //!   entry; then the answer's numbers, and each of those buffers, whole, with what it holds then
+//! - scratch: the number of elements of each buffer, before the buffers to be written; it holds zeros at entry, and what
+//!   it holds then is left out
 //! - number: 4 bytes
 //! - text: as it is
 //! - column, numbers: the differences of its elements, each a number, the first from 0; modulo 2 to its bits
@@ -71,6 +73,7 @@ replayed! {
     Prepend "prepend",
     Clear "clear",
     Lowercase "lowercase",
+    ReplaceByEdits "replace_by_edits",
 }
 
 /// The answers of one call.

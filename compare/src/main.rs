@@ -29,6 +29,7 @@ mod redact_all;
 mod redact_note;
 mod refusals;
 mod replace;
+mod replace_by_edits;
 mod samples;
 mod slice;
 mod split;
@@ -62,6 +63,7 @@ fn compare(word: &str) -> ExitCode {
     positions::compare(&mut report);
     find::compare(&mut report);
     replace::compare(&mut report);
+    replace_by_edits::compare(&mut report);
     blanking::compare(&mut report);
     edits::compare(&mut report);
     redact::compare(&mut report);

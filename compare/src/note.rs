@@ -19,7 +19,7 @@ pub fn position(offset: Offset) -> usize {
     offset as usize
 }
 
-#[derive(Clone, Default)]
+#[derive(Clone, Default, PartialEq)]
 pub struct Note {
     pub original: Vec<u8>,
     pub normalized: Vec<u8>,

@@ -79,6 +79,11 @@ pub fn every(text: &str, empty: usize) -> Vec<Vec<Place>> {
     lists
 }
 
+/// Every list of up to `most` places that covers the text.
+pub fn up_to(text: &str, most: usize) -> Vec<Vec<Place>> {
+    every(text, most).into_iter().filter(|places| places.len() <= most).collect()
+}
+
 fn go_on(text: &str, empty: usize, begun: &mut Vec<Place>, lists: &mut Vec<Vec<Place>>) {
     let at = begun.last().map_or(0, |&((_, end), _)| end);
     if at == text.len() {

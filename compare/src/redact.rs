@@ -3,8 +3,8 @@
 
 use crate::every;
 use crate::find;
-use crate::guarded::Guarded;
-use crate::library::{self, Publishing, Redaction};
+use crate::guarded::Output;
+use crate::library::{self, Redaction};
 use crate::note::Note;
 use crate::places;
 use crate::random::Random;
@@ -46,11 +46,9 @@ fn expected([text, literal, filler]: [&[u8]; 3]) -> Result<(Note, usize), u32> {
 
 /// Our answer in these rooms, and which of the three buffers hold what they are to.
 fn in_rooms([text, literal, filler]: [&[u8]; 3], rooms: Rooms, wanted: &Note) -> (Redaction, [bool; 3]) {
-    let mut out = Guarded::new(rooms[0]);
-    let [mut starts, mut ends] = [1, 2].map(|i| Guarded::new(rooms[i]));
-    let passed = Publishing { text: out.part(), starts: starts.part(), ends: ends.part() };
-    let ours = library::redact(text, literal, filler, passed);
-    (ours, [out.holds(&wanted.normalized), starts.holds(&wanted.starts), ends.holds(&wanted.ends)])
+    let mut out = Output::new(rooms);
+    let ours = library::redact(text, literal, filler, out.passed());
+    (ours, out.hold(Some(wanted)))
 }
 
 fn redact(tally: &mut Tally, strings: [&[u8]; 3], rooms: impl FnOnce(Rooms) -> Vec<Rooms>) {

@@ -1,9 +1,10 @@
-//! Replacing beside `NormalizedString::replace`, on lists from outside, and refusals beside a second judge.
+//! Replacing beside `NormalizedString::replace`, on lists from outside, and refusals beside a second judge. The families
+//! that are passed a call are those of replacing by edits too.
 
 use crate::characters::sequences;
 use crate::every;
-use crate::guarded::Guarded;
-use crate::library::{self, Publishing, Written};
+use crate::guarded::Output;
+use crate::library::{self, Written};
 use crate::note::{Note, Offset};
 use crate::notes;
 use crate::places::{self, Given, Place};
@@ -18,20 +19,32 @@ use tokenizers::NormalizedString;
 
 pub fn compare(report: &mut Report) {
     report.call("zulmyren_replace", "NormalizedString::replace and a second judge", |tally| {
-        worked_notes(tally);
+        worked_notes(tally, replace);
         every_list(tally);
         every_room(tally);
-        any_lists(tally);
-        long_lists(tally);
-        results_around_the_limit(tally);
-        fillers_and_lists_past_the_limit(tally);
-        damaged_lists(tally);
-        ill_formed_fillers(tally);
-        every_set_of_faults(tally);
-        damaged_notes(tally);
-        nothing_anywhere(tally);
+        any_lists(tally, replace);
+        tally.family("notes of any make up to the limit, any list to one place more than the limit, in 9 rooms");
+        long_notes(tally, replace, 240, [100, 3_000, LIMIT + 1]);
+        one_filler_around_the_limit(tally, replace);
+        many_fillers_around_the_limit(tally);
+        fillers_and_lists_past_the_limit(tally, replace);
+        damaged_lists(tally, replace);
+        ill_formed_fillers(tally, replace);
+        every_set_of_faults(tally, replace);
+        damaged_notes(tally, replace);
+        nothing_anywhere(tally, |text, column, out, written| unsafe {
+            library::zulmyren_replace(
+                text, 0, text, 0, column, 0, column, 0, 0, text, 0, text, 0, out, 0, written, 0, written, 0,
+            )
+        });
     });
 }
+
+/// A note, a list and a filler.
+pub type Asked<'a> = (&'a Note, &'a [u8], &'a [u8]);
+
+/// A call that replaces, compared in the rooms that belong to the result's length; and in words how its input was made.
+pub type Call = fn(&mut Tally, Asked, fn(usize) -> Rooms, &dyn Fn() -> String);
 
 /// The note that the Rust original makes, or the refusal that docs/RULES.md gives in any room.
 pub fn expected(note: &Note, list: &[u8], filler: &[u8]) -> Result<Note, u32> {
@@ -95,49 +108,61 @@ pub fn rooms(len: usize) -> Rooms {
     ]
 }
 
-/// A note, a list and a filler in the rooms that belong to the result's length.
-fn replace(
-    tally: &mut Tally,
-    (note, list, filler): (&Note, &[u8], &[u8]),
-    rooms: impl FnOnce(usize) -> Rooms,
-    made: impl Fn() -> String,
-) {
-    let published = expected(note, list, filler);
-    let len = match &published {
+/// The length that rooms belong to: the result's, and some other where there is none.
+pub fn len_for_rooms(note: &Note, published: &Result<Note, u32>) -> usize {
+    match published {
         Ok(published) => published.normalized.len(),
         Err(NO_ROOM) => LIMIT + 9,
         Err(_) => note.normalized.len().min(300),
-    };
+    }
+}
+
+/// The published note or the refusal, where the room is enough or not.
+pub fn in_room(published: &Result<Note, u32>, enough: bool) -> Result<&Note, u32> {
+    match published {
+        Err(refusal) => Err(*refusal),
+        Ok(_) if !enough => Err(NO_ROOM),
+        Ok(published) => Ok(published),
+    }
+}
+
+/// What the call answers.
+pub fn written(left: Result<&Note, u32>) -> Written {
+    match left {
+        Err(refusal) => Written { refusal, len: 0 },
+        Ok(left) => Written { refusal: 0, len: left.normalized.len() },
+    }
+}
+
+pub fn replace(tally: &mut Tally, (note, list, filler): Asked, rooms: fn(usize) -> Rooms, made: &dyn Fn() -> String) {
+    let published = expected(note, list, filler);
+    let len = len_for_rooms(note, &published);
     for room in rooms(len) {
-        let (mut out, mut starts, mut ends) = (Guarded::new(room[0]), Guarded::new(room[1]), Guarded::new(room[2]));
-        let passed = Publishing { text: out.part(), starts: starts.part(), ends: ends.part() };
-        let ours = library::replace(note, list, filler, passed);
-        let (refusal, text, their_starts, their_ends): (u32, &[u8], &[Offset], &[Offset]) = match &published {
-            Err(refusal) => (*refusal, &[], &[], &[]),
-            Ok(_) if room.iter().any(|&room| room < len) => (NO_ROOM, &[], &[], &[]),
-            Ok(published) => (0, &published.normalized, &published.starts, &published.ends),
-        };
-        let theirs = Written { refusal, len: text.len() };
-        let held = [out.holds(text), starts.holds(their_starts), ends.holds(their_ends)];
+        let mut out = Output::new(room);
+        let ours = library::replace(note, list, filler, out.passed());
+        let left = in_room(&published, room.iter().all(|&room| room >= len));
+        let (theirs, held) = (written(left), out.hold(left.ok()));
         tally.case(tally::refusal(ours.refusal), ours != theirs || held != [true; 3], || {
-            let (list, filler, made) = (hex(list), hex(filler), made());
-            format!(
-                "ours {ours:?}, theirs {theirs:?}, text, starts, ends equal {held:?}, in rooms {room:?}, {made}: \
-                 list {list}, filler {filler}, {note}"
-            )
+            let input = described((note, list, filler), made);
+            format!("ours {ours:?}, theirs {theirs:?}, text, starts, ends equal {held:?}, in rooms {room:?}, {input}")
         });
     }
 }
 
-pub fn plainly(tally: &mut Tally, note: &Note, places: &[Place], filler: &str, rooms: impl FnOnce(usize) -> Rooms) {
-    replace(tally, (note, &places::bytes(places), filler.as_bytes()), rooms, || "whole".into());
+/// An input in words.
+pub fn described((note, list, filler): Asked, made: &dyn Fn() -> String) -> String {
+    format!("{}: list {}, filler {}, {note}", made(), hex(list), hex(filler))
+}
+
+pub fn plainly(tally: &mut Tally, call: Call, note: &Note, places: &[Place], filler: &str, rooms: fn(usize) -> Rooms) {
+    call(tally, (note, &places::bytes(places), filler.as_bytes()), rooms, &|| "whole".into());
 }
 
 /// Text, places, filler; the result's text and alignments.
 type Worked<'a> = (&'a str, &'a [Place], &'a str, &'a str, &'a [(Offset, Offset)]);
 
 /// The answers are written down here, and both sides give them.
-fn worked_notes(tally: &mut Tally) {
+pub fn worked_notes(tally: &mut Tally, call: Call) {
     tally.family("worked notes");
     let stars = [(0, 1), (1, 2), (2, 3), (3, 4), (4, 5), (6, 7), (6, 7)];
     let digits: &[Place] = &[((0, 5), false), ((5, 7), true)];
@@ -149,7 +174,7 @@ fn worked_notes(tally: &mut Tally) {
     ];
     for (text, places, filler, result, alignments) in worked {
         let note = Note::from(&NormalizedString::from(text));
-        plainly(tally, &note, places, filler, rooms);
+        plainly(tally, call, &note, places, filler, rooms);
         let theirs = expected(&note, &places::bytes(places), filler.as_bytes()).expect("a worked note is accepted");
         let differs = theirs.normalized != result.as_bytes() || !theirs.alignments().eq(alignments.iter().copied());
         tally.case("accepted", differs, || format!("wanted {result} at {alignments:?}, theirs {theirs}"));
@@ -166,7 +191,7 @@ fn every_list(tally: &mut Tally) {
         for places in places::every(text, 2) {
             for note in &notes {
                 for filler in FILLERS {
-                    plainly(tally, note, &places, filler, ample);
+                    plainly(tally, replace, note, &places, filler, ample);
                 }
             }
         }
@@ -180,7 +205,7 @@ fn every_room(tally: &mut Tally) {
         for places in places::every(text, 1) {
             for filler in FILLERS {
                 let every = |_| every::list(&[0, 1, 2, 3, 4, 5, 6], 3).map(|r| [r[0], r[1], r[2]]).collect();
-                plainly(tally, &note, &places, filler, every);
+                plainly(tally, replace, &note, &places, filler, every);
             }
         }
     }
@@ -190,7 +215,7 @@ fn any_filler(random: &mut Random) -> String {
     (0..random.below(6)).map(|_| texts::any_scalar(random)).collect()
 }
 
-fn any_lists(tally: &mut Tally) {
+pub fn any_lists(tally: &mut Tally, call: Call) {
     tally.family("notes of any make to 300 bytes, any list to 60 places, any filler to 5 characters, in 9 rooms");
     let mut random = Random::new(41);
     for _ in 0..20_000 {
@@ -198,69 +223,86 @@ fn any_lists(tally: &mut Tally) {
         let note = samples::any(len, &mut random);
         let cuts = random.below(60);
         let places = places::any(note.get(), cuts, &mut random);
-        plainly(tally, &Note::from(&note), &places, &any_filler(&mut random), rooms);
+        plainly(tally, call, &Note::from(&note), &places, &any_filler(&mut random), rooms);
     }
 }
 
-fn long_lists(tally: &mut Tally) {
-    tally.family("notes of any make up to the limit, any list to one place more than the limit, in 9 rooms");
+/// Long notes of any make, and any lists of up to so many places, by turns.
+pub fn long_notes(tally: &mut Tally, call: Call, turns: usize, most: [usize; 3]) {
     let mut random = Random::new(42);
-    for turn in 0..240 {
+    for turn in 0..turns {
         let len = samples::long_len(turn, 3, &mut random);
         let note = samples::any(len, &mut random);
-        let most = [100, 3_000, LIMIT + 1][turn % 3];
-        let cuts = random.below(most);
+        let cuts = random.below(most[turn % 3]);
         let places = places::any(note.get(), cuts, &mut random);
-        plainly(tally, &Note::from(&note), &places, &any_filler(&mut random), rooms);
+        plainly(tally, call, &Note::from(&note), &places, &any_filler(&mut random), rooms);
     }
 }
 
-fn results_around_the_limit(tally: &mut Tally) {
-    tally.family("results about the limit in 9 rooms: one filler or many, in the place of bytes or of nothing");
+/// A text, places and a filler.
+pub type Input = (String, Vec<Place>, String);
+
+/// Inputs whose results have every size about the limit.
+pub fn around_the_limit(tally: &mut Tally, call: Call, of_size: fn(usize) -> Vec<Input>) {
     for size in LIMIT - 2..=LIMIT + 3 {
-        let mut made = |text: String, places: Vec<Place>, filler: String| {
+        for (text, places, filler) in of_size(size) {
             assert_eq!(places::size(&places, filler.len()), size as u64);
-            plainly(tally, &Note::from(&NormalizedString::from(text)), &places, &filler, rooms);
-        };
-        for unit in ["a", "é", "漢", "😀"] {
+            plainly(tally, call, &Note::from(&NormalizedString::from(text)), &places, &filler, rooms);
+        }
+    }
+}
+
+pub fn one_filler_around_the_limit(tally: &mut Tally, call: Call) {
+    tally.family("results about the limit in 9 rooms: one filler, in the place of bytes or of nothing");
+    around_the_limit(tally, call, |size| {
+        let of_unit = |unit: &str| {
             let text = texts::repeated(unit, 1_200);
             let kept = vec![((0, 600), false), ((600, 600), true), ((600, 1_200), false)];
-            made(text.clone(), kept, texts::repeated(unit, size - 1_200));
-            made(text, vec![((0, 1_200), true)], texts::repeated(unit, size));
+            let inserted = (text.clone(), kept, texts::repeated(unit, size - 1_200));
+            [inserted, (text, vec![((0, 1_200), true)], texts::repeated(unit, size))]
+        };
+        let mut inputs = ["a", "é", "漢", "😀"].map(of_unit).concat();
+        if size >= LIMIT {
+            let last = vec![((0, LIMIT - 1), false), ((LIMIT - 1, LIMIT), true)];
+            inputs.push(("a".repeat(LIMIT), last, "x".repeat(1 + size - LIMIT)));
         }
+        inputs
+    });
+}
+
+fn many_fillers_around_the_limit(tally: &mut Tally) {
+    tally.family("results about the limit in 9 rooms: many fillers, in the place of bytes or of nothing");
+    around_the_limit(tally, replace, |size| {
         // The filler is 1 byte longer than what it replaces, `grown` times.
         let grown = size - 50_000;
         let every_third = (0..grown).flat_map(|i| [((3 * i, 3 * i + 2), false), ((3 * i + 2, 3 * i + 3), true)]);
-        let rest = ((3 * grown, 50_000), false);
-        made("a".repeat(50_000), every_third.chain([rest]).collect(), "é".into());
-        let first = (0..grown).map(|i| ((i, i + 1), true));
-        made("a".repeat(50_000), first.chain([((grown, 50_000), false)]).collect(), "é".into());
-        // Many in the place of nothing, and one in the place of the last byte.
-        let nothing = vec![((0, 0), true); size - 3];
-        made("漢".into(), nothing.into_iter().chain([((0, 3), false)]).collect(), "x".into());
-        if size >= LIMIT {
-            let last = vec![((0, LIMIT - 1), false), ((LIMIT - 1, LIMIT), true)];
-            made("a".repeat(LIMIT), last, "x".repeat(1 + size - LIMIT));
-        }
-    }
+        let every_third = every_third.chain([((3 * grown, 50_000), false)]).collect();
+        let first = (0..grown).map(|i| ((i, i + 1), true)).chain([((grown, 50_000), false)]).collect();
+        let nothing = vec![((0, 0), true); size - 3].into_iter().chain([((0, 3), false)]).collect();
+        vec![
+            ("a".repeat(50_000), every_third, "é".into()),
+            ("a".repeat(50_000), first, "é".into()),
+            ("漢".into(), nothing, "x".into()),
+        ]
+    });
 }
 
-fn fillers_and_lists_past_the_limit(tally: &mut Tally) {
+pub fn fillers_and_lists_past_the_limit(tally: &mut Tally, call: Call) {
     tally.family("fillers of up to 200000 bytes and lists of up to 1000000, sums past 16 and 32 bits");
     let note = Note::from(&NormalizedString::from("aéb"));
     let nothing = Note::from(&NormalizedString::from(""));
     for len in [LIMIT, LIMIT + 1, LIMIT + 5, 70_000, 131_072, 200_000] {
         for unit in ["x", "é", "漢"] {
             let filler = texts::repeated(unit, len);
-            plainly(tally, &note, &[((0, 4), false)], &filler, rooms);
-            plainly(tally, &note, &[((0, 3), false), ((3, 3), false), ((3, 4), false)], &filler, rooms);
-            plainly(tally, &note, &[((0, 4), true)], &filler, rooms);
-            plainly(tally, &note, &[((0, 4), false), ((4, 4), true)], &filler, rooms);
-            plainly(tally, &nothing, &[], &filler, rooms);
-            plainly(tally, &nothing, &[((0, 0), false)], &filler, rooms);
-            plainly(tally, &nothing, &[((0, 0), true)], &filler, rooms);
+            plainly(tally, call, &note, &[((0, 4), false)], &filler, rooms);
+            plainly(tally, call, &note, &[((0, 3), false), ((3, 3), false), ((3, 4), false)], &filler, rooms);
+            plainly(tally, call, &note, &[((0, 4), true)], &filler, rooms);
+            plainly(tally, call, &note, &[((0, 4), false), ((4, 4), true)], &filler, rooms);
+            plainly(tally, call, &nothing, &[], &filler, rooms);
+            plainly(tally, call, &nothing, &[((0, 0), false)], &filler, rooms);
+            plainly(tally, call, &nothing, &[((0, 0), true)], &filler, rooms);
             let damaged = [filler.as_bytes(), &[0xC3]].concat();
-            replace(tally, (&note, &places::bytes(&[((0, 4), false)]), &damaged), ample, || "ill-formed filler".into());
+            call(tally, (&note, &places::bytes(&[((0, 4), false)]), &damaged), ample, &|| "ill-formed filler".into());
         }
     }
     // Sizes that are 0 or 65,536 modulo 2 to the 32, and long lists.
@@ -268,23 +310,23 @@ fn fillers_and_lists_past_the_limit(tally: &mut Tally) {
         [(1 << 16, 1 << 16), (1 << 16, (1 << 16) + 1), (1 << 15, 1 << 17), (200_000, 0), (200_000, 1)]
     {
         let list = [vec![((0, 0), true); places], vec![((0, 4), false)]].concat();
-        plainly(tally, &note, &list, &"x".repeat(filler), rooms);
+        plainly(tally, call, &note, &list, &"x".repeat(filler), rooms);
     }
     let unmatched = [vec![((0, 4), false)], vec![((4, 4), false); 200_000]].concat();
-    plainly(tally, &note, &unmatched, "x", rooms);
+    plainly(tally, call, &note, &unmatched, "x", rooms);
 }
 
-fn damaged_lists(tally: &mut Tally) {
+pub fn damaged_lists(tally: &mut Tally, call: Call) {
     tally.family("every byte of a list changed, cut off, added, left out; every place left out, doubled, swapped");
     for (note, list) in places::lists_to_damage() {
         let rooms = if list.len() > 15 { ample } else { ample_or_none };
         for (made, list) in places::damaged(&list) {
-            replace(tally, (&note, &list, b"x"), rooms, || made.clone());
+            call(tally, (&note, &list, b"x"), rooms, &|| made.clone());
         }
     }
 }
 
-fn ill_formed_fillers(tally: &mut Tally) {
+pub fn ill_formed_fillers(tally: &mut Tally, call: Call) {
     tally.family(
         "fillers with a character, or a wrong or cut one, anywhere, beside notes and lists that are whole or not",
     );
@@ -300,27 +342,27 @@ fn ill_formed_fillers(tally: &mut Tally) {
             for sequence in sequences() {
                 for (before, after) in [(0, 0), (1, 1), (63, 70), (126, 0), (128, 131)] {
                     let filler = [&b"a".repeat(before), &sequence[..], &b"a".repeat(after)].concat();
-                    replace(tally, (&note, list, &filler), ample_or_none, || "whole or not".into());
+                    call(tally, (&note, list, &filler), ample_or_none, &|| "whole or not".into());
                 }
             }
         }
     }
 }
 
-fn every_set_of_faults(tally: &mut Tally) {
+pub fn every_set_of_faults(tally: &mut Tally, call: Call) {
     tally.family("every set of faults out of nine of the note, an ill-formed filler, a bad list and each short room");
     let whole = places::bytes(&[((0, 1), false), ((1, 3), true), ((3, 4), false)]);
     for (set, note) in notes::with_faults() {
         for filler in [&b"**"[..], b"*\xFF"] {
             for list in [&whole[..], &whole[1..]] {
                 let in_every_room = |_| every::list(&[3, 4], 3).map(|r| [r[0], r[1], r[2]]).collect();
-                replace(tally, (&note, list, filler), in_every_room, || format!("faults {set:09b}"));
+                call(tally, (&note, list, filler), in_every_room, &|| format!("faults {set:09b}"));
             }
         }
     }
 }
 
-fn damaged_notes(tally: &mut Tally) {
+pub fn damaged_notes(tally: &mut Tally, call: Call) {
     tally.family("notes of any make, with every damage, beside lists and fillers that are whole or not");
     let mut random = Random::new(44);
     for turn in 0..600 {
@@ -330,9 +372,9 @@ fn damaged_notes(tally: &mut Tally) {
         let note = Note::from(&note);
         let list = places::bytes(&places);
         let mut beside = |note: &Note, made: &str| {
-            replace(tally, (note, &list, "é".as_bytes()), ample_or_none, || made.into());
-            replace(tally, (note, &list[1..], b"x"), ample, || made.into());
-            replace(tally, (note, &list, b"\xC3"), ample, || made.into());
+            call(tally, (note, &list, "é".as_bytes()), ample_or_none, &|| made.into());
+            call(tally, (note, &list[1..], b"x"), ample, &|| made.into());
+            call(tally, (note, &list, b"\xC3"), ample, &|| made.into());
         };
         for (name, damaged) in samples::damaged(&note) {
             beside(&damaged, name);
@@ -348,16 +390,13 @@ fn damaged_notes(tally: &mut Tally) {
     }
 }
 
-fn nothing_anywhere(tally: &mut Tally) {
+/// A call whose pointers to read and to write at are these, and whose lengths are all 0.
+pub type Unpassed = fn(*const u8, *const Offset, *mut u8, *mut Offset) -> Written;
+
+pub fn nothing_anywhere(tally: &mut Tally, call: Unpassed) {
     tally.family("nothing passed, at any pointer");
     for address in ADDRESSES {
-        let (text, column) = (address as *const u8, address as *const Offset);
-        let (out, written) = (address as *mut u8, address as *mut Offset);
-        let ours = unsafe {
-            library::zulmyren_replace(
-                text, 0, text, 0, column, 0, column, 0, 0, text, 0, text, 0, out, 0, written, 0, written, 0,
-            )
-        };
+        let ours = call(address as *const u8, address as *const Offset, address as *mut u8, address as *mut Offset);
         let accepted = Written { refusal: 0, len: 0 };
         tally.case(tally::refusal(ours.refusal), ours != accepted, || format!("ours {ours:?} at {address:#x}"));
     }

@@ -4,7 +4,7 @@ use crate::blanking;
 use crate::convert::{self, Call, CONVERT_OFFSETS, GET_RANGE, GET_RANGE_ORIGINAL};
 use crate::every;
 use crate::find;
-use crate::library::Offsets;
+use crate::library::{Offsets, Written};
 use crate::list::{Answers, Replayed};
 use crate::lists::List;
 use crate::note::Note;
@@ -242,18 +242,20 @@ fn found() -> Answers {
 /// A note, a list, a content, the passed text, starts and ends; the refusal, the size, the three buffers.
 fn replace(answers: &mut Answers, note: &Note, list: &[u8], content: &[u8], rooms: fn(usize) -> [usize; 3]) {
     let result = replace::expected(note, list, content);
-    let room = rooms(result.as_ref().map_or(0, |result| result.normalized.len()));
-    let (refusal, result) = match &result {
-        Err(refusal) => (*refusal, None),
-        Ok(result) if room.iter().any(|&room| room < result.normalized.len()) => (NO_ROOM, None),
-        Ok(result) => (0, Some(result)),
-    };
+    let len = result.as_ref().map_or(0, |result| result.normalized.len());
+    let room = rooms(len);
     answers.answer().note(note).text(list).text(content);
+    published(answers, replace::in_room(&result, room.iter().all(|&room| room >= len)), room);
+}
+
+/// The passed text, starts and ends; the refusal, the size, the three buffers.
+pub fn published(answers: &mut Answers, left: Result<&Note, u32>, room: [usize; 3]) {
+    let Written { refusal, len } = replace::written(left);
+    let nothing = Note::default();
+    let left = left.unwrap_or(&nothing);
     answers.passed_text(room[0]).passed_column(room[1]).passed_column(room[2]);
-    answers.number(refusal).number(result.map_or(0, |result| result.normalized.len() as u32));
-    answers.left_text(room[0], result.map_or(&[], |result| &result.normalized));
-    answers.left_column(room[1], result.map_or(&[], |result| &result.starts));
-    answers.left_column(room[2], result.map_or(&[], |result| &result.ends));
+    answers.number(refusal).number(len as u32).left_text(room[0], &left.normalized);
+    answers.left_column(room[1], &left.starts).left_column(room[2], &left.ends);
 }
 
 fn replaced() -> Answers {

@@ -13,8 +13,12 @@ pub struct Buffers {
 impl Buffers {
     /// Room for any result.
     pub fn new() -> Self {
-        let [out_starts, out_ends] = [(); 2].map(|()| vec![0; LIMIT]);
-        Buffers { out: vec![0; LIMIT], out_starts, out_ends }
+        Buffers::of(LIMIT)
+    }
+
+    pub fn of(len: usize) -> Self {
+        let [out_starts, out_ends] = [(); 2].map(|()| vec![0; len]);
+        Buffers { out: vec![0; len], out_starts, out_ends }
     }
 
     pub fn out(&mut self) -> Publishing<'_> {

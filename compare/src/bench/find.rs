@@ -23,7 +23,7 @@ pub fn bench(bench: &mut Bench) {
     let text = "a".repeat(LEN);
     for len in [2, 20, 200] {
         let literal = "a".repeat(len - 1) + "b";
-        bench.row(&NEARLY, &format!("a..a, and {len} bytes a..ab"), find(|_| &text, &literal));
+        bench.row(&NEARLY, &format!("a..a, and {len} bytes a..ab"), None, find(|_| &text, &literal));
     }
 }
 

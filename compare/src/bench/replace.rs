@@ -1,11 +1,12 @@
-//! Replacing, the three calls one after the other, and blanking in one call.
+//! Replacing, also by edits, the three calls one after the other, and blanking in one call.
 
 use super::buffers::Buffers;
 use super::layouts::{self, any_list, Marked, FILLER, LITERAL};
-use super::{side, timed, Bench, Other, Side, Table, COPYING, RUST};
+use super::{side, timed, Bench, Other, Side, Table, COPYING, OURS, RUST};
 use crate::library::{self, Written};
 use crate::note::Note;
-use crate::places::Handed;
+use crate::places::{self, Handed, Place};
+use crate::texts::{self, LIMIT};
 use std::hint::black_box;
 use std::time::Duration;
 use tokenizers::pattern::Pattern;
@@ -16,6 +17,12 @@ const REPLACE: Table = Table::new(
     "`replace` of a list on a ready note, which it checks",
     &[RUST.at_most([0.27, 0.33, 0.34, 0.36]).in_rotation([0.26, 0.33, 0.3, 0.34]), COPYING],
 );
+
+const BY_EDITS: Table = Table::new("`replace_by_edits` of 100 matched places beside `replace`", &[OURS]);
+
+const BY_TWICE_THE_EDITS: Table =
+    Table::new("`replace_by_edits` of 200 matched places beside 100", &[OURS.at_most([2.2; 4])])
+        .because("the aim is twice the time of half the places, with a tenth to spare");
 
 const FROM_TEXT_AND_REPLACE: Table = Table::new("`from_text` and `replace` of a list", FROM_AND_REPLACE);
 
@@ -40,6 +47,7 @@ const REDACTIONS: [(&str, &str, &str); 3] = [
 
 pub fn bench(bench: &mut Bench) {
     bench.table(&REPLACE, replace);
+    by_edits(bench);
     bench.table(&FROM_TEXT_AND_REPLACE, from_text_and_replace);
     bench.table(&THREE_CALLS, three_calls);
     bench.table(&REDACT, |texts| redact(texts, LITERAL, FILLER));
@@ -87,6 +95,43 @@ fn replace(texts: &[Marked]) -> Vec<Side<'_>> {
         }),
         copying(texts, LITERAL, FILLER),
     ]
+}
+
+/// On one text, since it takes milliseconds.
+fn by_edits(bench: &mut Bench) {
+    let mixed = 1;
+    let (name, text) = (bench.texts[mixed].name, bench.texts[mixed].regular[0].text.clone());
+    bench.row(&BY_EDITS, name, Some(mixed), vec![our_edits(&text, 100), our_replacement(&text, 100)]);
+    bench.row(&BY_TWICE_THE_EDITS, name, Some(mixed), [200, 100].map(|count| our_edits(&text, count)).into());
+}
+
+/// A text's note, and a list with so many matched places, about as long as the literal and evenly spread.
+fn spread(text: &str, count: usize) -> (Note, Vec<u8>) {
+    let at = |i: usize| texts::boundary_before(text, i);
+    let places = (0..count).flat_map(|i| {
+        let (start, next) = (at(i * text.len() / count), at((i + 1) * text.len() / count));
+        let end = at(start + LITERAL.len());
+        [((start, end), true), ((end, next), false)]
+    });
+    (Note::from(&NormalizedString::from(text)), places::bytes(&places.collect::<Vec<Place>>()))
+}
+
+fn our_edits<'a>(text: &str, count: usize) -> Side<'a> {
+    let (note, list) = spread(text, count);
+    let [mut out, mut first, mut second] = [LIMIT, 2 * LIMIT, 2 * LIMIT].map(Buffers::of);
+    let mut ours = move || {
+        let scratch = [first.out(), second.out()];
+        library::replace_by_edits(black_box(&note), black_box(&list), black_box(FILLER.as_bytes()), out.out(), scratch)
+    };
+    assert_eq!(ours().refusal, 0);
+    side(move |_| timed(&mut ours))
+}
+
+fn our_replacement<'a>(text: &str, count: usize) -> Side<'a> {
+    let (note, list) = spread(text, count);
+    let mut buffers = Buffers::new();
+    assert_eq!(replace_of(&note, &list, &mut buffers).refusal, 0);
+    side(move |_| timed(|| replace_of(&note, &list, &mut buffers)))
 }
 
 fn from_text_and_replace(texts: &[Marked]) -> Vec<Side<'_>> {

@@ -1,7 +1,7 @@
 //! Splitting and split offsets.
 
 use super::layouts::{self, Marked, LEN};
-use super::{side, timed, Bench, Side, Table, FEWER, RUST};
+use super::{side, timed, Bench, Side, Table, OURS, RUST};
 use crate::library::{self, Cut, Cutting, Written};
 use crate::note::{Note, Offset};
 use crate::places::{self, Handed, Place};
@@ -22,7 +22,7 @@ const CONTIGUOUS: Table = Table::new("`split` of 10,000 places that are by turns
 
 const MERGED: Table = Table::new("`split` of 10,000 places into 5,000 pieces, MergedWithPrevious", &[RUST]);
 
-const GROWTH: Table = Table::new("`split` into 10,000 pieces beside 1,250", &[FEWER.at_most([3.2, 2.5, 2.5, 2.3])]);
+const GROWTH: Table = Table::new("`split` into 10,000 pieces beside 1,250", &[OURS.at_most([3.2, 2.5, 2.5, 2.3])]);
 
 /// Beside `PreTokenizedString::split` of a list, and `get_splits`.
 const CHARACTERS: Table = Table::new(
@@ -33,7 +33,7 @@ const CHARACTERS: Table = Table::new(
 const BYTES: Table = Table::new("`get_splits` of 10,000 pieces, transcript, in bytes, check included", &[RUST]);
 
 const OFFSETS_GROWTH: Table =
-    Table::new("`get_splits` of 10,000 pieces, in characters, beside 1,250", &[FEWER.at_most([3.2, 2.9, 2.8, 2.6])]);
+    Table::new("`get_splits` of 10,000 pieces, in characters, beside 1,250", &[OURS.at_most([3.2, 2.9, 2.8, 2.6])]);
 
 pub fn bench(bench: &mut Bench) {
     bench.table(&SPLIT, |texts| split(texts, Isolated));

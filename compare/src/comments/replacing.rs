@@ -6,10 +6,11 @@ use crate::made;
 use crate::note::Note;
 use crate::places::{self, Given, Place};
 use crate::refusals::BAD_MATCHES;
+use crate::replace::{ample, plainly};
+use crate::replace_by_edits::{edited, replace_by_edits, Order};
 use crate::samples::{sound_notes, FILLERS};
 use crate::tally::Tally;
 use regex::Regex;
-use tokenizers::normalizer::Range;
 use tokenizers::pattern::{Invert, Pattern};
 use tokenizers::{NormalizedString, Offsets};
 
@@ -24,21 +25,6 @@ pub fn compare(tally: &mut Tally) {
     empty_literal(tally);
     expressions_on_the_empty_text(tally);
     inverted(tally);
-}
-
-/// What `replace`'s comment says, for each matched place; `moved` adds the earlier changes of length to its range.
-fn transformed(note: &NormalizedString, places: &[Place], content: &str, moved: bool) -> NormalizedString {
-    let mut note = note.clone();
-    let mut change = 0;
-    for &((start, end), _) in places.iter().filter(|&&(_, matched)| matched) {
-        let range = start.strict_add_signed(change)..end.strict_add_signed(change);
-        let removed_chars = note.get()[range.clone()].chars().count();
-        note.transform_range(Range::Normalized(range), content.chars().map(|c| (c, 1)), removed_chars);
-        if moved {
-            change += content.len() as isize - (end - start) as isize;
-        }
-    }
-    note
 }
 
 fn replaced(note: &NormalizedString, pattern: impl Pattern, content: &str) -> NormalizedString {
@@ -66,7 +52,7 @@ fn replaces(tally: &mut Tally, note: &NormalizedString, places: &[Place], conten
 }
 
 fn as_transforming(tally: &mut Tally) {
-    tally.family("replace equals transform_range on each matched range, moved by the earlier changes of length");
+    tally.family("replace equals transform_range on each matched range, last first, or moved by what came before");
     for text in ["", "é", "aé", "éa", "aéb"] {
         let notes = ["", "ů", "qů"].iter().flat_map(|transcript| sound_notes(transcript, text));
         let notes: Vec<NormalizedString> = notes.map(|note| note.of_the_original()).collect();
@@ -74,8 +60,10 @@ fn as_transforming(tally: &mut Tally) {
             for note in &notes {
                 for filler in FILLERS {
                     let code = replaced_by(note, &places, filler);
-                    let said = transformed(note, &places, filler, true);
-                    code_answers(tally, &format!("{note:?}, {places:?}, {filler}"), fields(&said), fields(&code));
+                    for order in [Order::LastFirst, Order::FirstMoved] {
+                        let said = edited(note, &places, filler, order);
+                        code_answers(tally, &format!("{note:?}, {places:?}, {filler}"), fields(&said), fields(&code));
+                    }
                 }
             }
         }
@@ -85,9 +73,13 @@ fn as_transforming(tally: &mut Tally) {
 fn on_ranges_as_they_are(tally: &mut Tally) {
     tally.family("replace differs from transform_range on each matched range as it is, where a length changed before");
     let (note, places) = (NormalizedString::from("ab"), [((0, 1), true), ((1, 2), true)]);
-    replaces(tally, &note, &places, "**", ("****", &[(0, 1), (0, 1), (1, 2), (1, 2)]));
-    let comment = transformed(&note, &places, "**", false);
-    code_answers(tally, "ab by ranges", ("***b", &[(0, 1), (0, 1), (0, 1), (1, 2)][..]), fields(&comment));
+    let replaced: Fields = ("****", &[(0, 1), (0, 1), (1, 2), (1, 2)]);
+    replaces(tally, &note, &places, "**", replaced);
+    plainly(tally, replace_by_edits, &Note::from(&note), &places, "**", ample);
+    let unmoved: Fields = ("***b", &[(0, 1), (0, 1), (0, 1), (1, 2)]);
+    for (order, said) in [(Order::LastFirst, replaced), (Order::FirstMoved, replaced), (Order::FirstUnmoved, unmoved)] {
+        code_answers(tally, "ab by ranges", said, fields(&edited(&note, &places, "**", order)));
+    }
 }
 
 fn alignment_of_the_last(tally: &mut Tally) {

@@ -16,7 +16,8 @@ use crate::ranges::Sample;
 use crate::redact_all;
 use crate::redact_note::{self, literal_of};
 use crate::refusals::{EXHAUSTED, MISSING, NO_ROOM};
-use crate::replace::{self, ample_or_none};
+use crate::replace::{self, ample_or_none, Call};
+use crate::replace_by_edits;
 use crate::samples::{self, FILLERS};
 use crate::slice;
 use crate::split;
@@ -198,7 +199,10 @@ fn passed_on(tally: &mut Tally, [note, left]: [&Note; 2], turn: usize, random: &
     let (literal, filler) = (literal_of(text, random), *random.choose(&FILLERS));
     let places = places::any(text, 5, random);
     let list = places::bytes(&places);
-    replace::plainly(tally, left, &places, filler, ample_or_none);
+    let calls: [Call; 2] = [replace::replace, replace_by_edits::replace_by_edits];
+    for call in calls {
+        replace::plainly(tally, call, left, &places, filler, ample_or_none);
+    }
     split::by_turns(tally, &sample, &list, turn, &|| "lowercased".into());
     splits::by_turns(tally, &sample, &list, turn, |len| vec![(len, len)]);
     redact_note::plainly(tally, left, &literal, filler, redact_note::ample_or_none);

@@ -2,7 +2,7 @@
 //! refusals are judged a second time, from docs/RULES.md.
 
 use super::lowercase;
-use crate::guarded::Guarded;
+use crate::guarded::Output;
 use crate::library::{self, Cleared, Publishing, Written};
 use crate::note::Note;
 use crate::refusals::{
@@ -298,15 +298,15 @@ pub fn check_beside(
     };
     let nothing = Note::default();
     for room in rooms(len) {
-        let (mut text, mut starts, mut ends) = (Guarded::new(room[0]), Guarded::new(room[1]), Guarded::new(room[2]));
-        let ours = edit.ours(note, Publishing { text: text.part(), starts: starts.part(), ends: ends.part() });
+        let mut out = Output::new(room);
+        let ours = edit.ours(note, out.passed());
         let (refusal, before, left) = match &expected {
             Err(refusal) => (*refusal, 0, &nothing),
             Ok(_) if room.iter().any(|&room| room < len) => (NO_ROOM, 0, &nothing),
             Ok(left) => (0, left.before, &left.note),
         };
         let theirs = Cleared { refusal, before_len: before, len: left.normalized.len() };
-        let held = [text.holds(&left.normalized), starts.holds(&left.starts), ends.holds(&left.ends)];
+        let held = out.hold(Some(left));
         let unsound = refusal == 0 && left.refusal() != 0;
         let longer = left.normalized.len() > edit.enough(note);
         tally.case(tally::refusal(ours.refusal), ours != theirs || held != [true; 3] || unsound || longer, || {

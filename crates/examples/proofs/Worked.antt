@@ -32,6 +32,8 @@ use Rattle.edits.specs.Characters.{codeAt, codesFrom, codesOf}
 use Rattle.edits.specs.Whole.{allAdding, prependEdit, clearEdit}
 use Rattle.lowercase.specs.Images.{run, twins, lowercaseTable, lowerImage, images}
 use Rattle.lowercase.specs.Lowering.{lowerCommands, lowercaseEdit}
+use Rattle.utf8.specs.Chars.{chars, charsFrom}
+use Rattle.replace_by_edits.specs.Road.{placeEdit, roadBack, takenBytes, addedBytes, editedNext, roadAfter}
 use Rattle.examples.specs.Worked.{aéb, nest, blank, final, worked, every, WorkedNotes, aé, AÉ漢, İA, kelvinÉ, prependedNothing}
 
 pub worked-notes : WorkedNotes
@@ -45,4 +47,5 @@ unfolding every worked aéb nest blank final foundBytes foundPlaces matchesFrom 
     prependedNothing scalar encoded bytesOf lenUtf8 skipped starves stepTo starved carriedValue produced charRange
     firstPosition relaid edited transformed codeAt codesFrom codesOf allAdding prependEdit clearEdit
     AÉ漢 İA kelvinÉ run twins lowercaseTable lowerImage images lowerCommands lowercaseEdit
+    chars charsFrom placeEdit roadBack takenBytes addedBytes editedNext roadAfter
 worked-notes = refl

@@ -1,5 +1,5 @@
--- Worked notes of RULES 4, 8, 10, 11 and 12, of what the calls answer: one list, and one claim about the list.
-use Prim.Native.Nat.{ℕ}
+-- Worked notes of RULES 4, 8, 10, 11, 12 and 16, of what the calls answer: one list, and one claim about the list.
+use Prim.Native.Nat.{ℕ, _+_}
 use mathlib.Core.Path.{_≡_}
 use mathlib.Core.Bool.{Bool, true, false, _&&_}
 use mathlib.Core.List.{List, [], _∷_}
@@ -38,6 +38,8 @@ use Rattle.note.specs.Faults.{stringFaults}
 use Rattle.transform.specs.Transforming.{callFaults}
 use Rattle.edits.specs.Whole.{prependEdit, clearEdit, clearFaults}
 use Rattle.lowercase.specs.Lowering.{lowercaseEdit, lowercaseFaults}
+use Rattle.replace_by_edits.specs.Road.{roadBack, roadOn}
+use Rattle.replace_by_edits.specs.ByEdits.{byEditsFaults}
 
 -- whether an answer is this range, of this text
 abbrev pub sameRange : Range → Range → Bool
@@ -94,6 +96,14 @@ holds n text starts ends = same (n .normalized) text && same (n .starts) starts 
 abbrev pub clears : Clearing → ℕ → ℕ → Bool
 clears (Cleared before left) a b = eqb before a && eqb left b
 clears (Uncleared k) a b = false
+
+-- whether replacing by edits accepts, in buffers as long as the result and scratch as long as both texts, and leaves this
+-- text with these alignments, from the last place to the first and from the first to the last
+abbrev pub edits : Note → List ℕ → List ℕ → List ℕ → List ℕ → List ℕ → Bool
+edits n list content text starts ends =
+    accepts (verdict (byEditsFaults limit n list content (length text) (length (n .normalized) + length text)))
+    && holds (roadBack (placesOf list) content n) text starts ends
+    && holds (roadOn (placesOf list) content n) text starts ends
 
 -- whether lowercase accepts, in buffers as long as the result, and leaves this text with these alignments
 abbrev pub lowers : Note → List ℕ → List ℕ → List ℕ → Bool
@@ -178,6 +188,17 @@ worked =
     ∷ lowers kelvinÉ (0xE2 ∷ 0x84 ∷ 0xAA ∷ 0xC3 ∷ 0xA9 ∷ []) (0 ∷ 0 ∷ 0 ∷ 3 ∷ 3 ∷ []) (3 ∷ 3 ∷ 3 ∷ 5 ∷ 5 ∷ [])
     ∷ refuses (verdict (lowercaseFaults limit prependedNothing 3)) 7
     ∷ refuses (verdict (lowercaseFaults limit İA 3)) 9
+    -- by edits, last place first and first place first: `nest 12` as above; `ab` with 0..1 and 1..2 by `**`; `ab` with 0..1
+    -- and the empty place straight after it by `x`; and scratch of one element less than both texts have is 9
+    ∷ edits (nest 0x31 0x32) blank (0x2A ∷ 0x2A ∷ [])
+    (0x6E ∷ 0x65 ∷ 0x73 ∷ 0x74 ∷ 0x20 ∷ 0x2A ∷ 0x2A ∷ [])
+    (0 ∷ 1 ∷ 2 ∷ 3 ∷ 4 ∷ 6 ∷ 6 ∷ []) (1 ∷ 2 ∷ 3 ∷ 4 ∷ 5 ∷ 7 ∷ 7 ∷ [])
+    ∷ edits (starting (0x61 ∷ 0x62 ∷ [])) (12 ∷ 0 ∷ 0 ∷ 1 ∷ 0 ∷ 12 ∷ 1 ∷ 0 ∷ 2 ∷ 0 ∷ []) (0x2A ∷ 0x2A ∷ [])
+    (0x2A ∷ 0x2A ∷ 0x2A ∷ 0x2A ∷ []) (0 ∷ 0 ∷ 1 ∷ 1 ∷ []) (1 ∷ 1 ∷ 2 ∷ 2 ∷ [])
+    ∷ edits (starting (0x61 ∷ 0x62 ∷ []))
+    (12 ∷ 0 ∷ 0 ∷ 1 ∷ 0 ∷ 12 ∷ 1 ∷ 0 ∷ 1 ∷ 0 ∷ 11 ∷ 1 ∷ 0 ∷ 2 ∷ 0 ∷ []) (0x78 ∷ [])
+    (0x78 ∷ 0x78 ∷ 0x62 ∷ []) (0 ∷ 0 ∷ 1 ∷ []) (1 ∷ 1 ∷ 2 ∷ [])
+    ∷ refuses (verdict (byEditsFaults limit (nest 0x31 0x32) blank (0x2A ∷ 0x2A ∷ []) 7 13)) 9
     ∷ []
 
 unfoldable pub every : List Bool → Bool

@@ -22,7 +22,7 @@ use Rattle.note.specs.Notes.{Note, fits, Sound}
 use Rattle.note.specs.Faults.{noteFaults}
 use Rattle.note.proofs.FirstMet.{accepted-first, accepted-second, both-accepted}
 use Rattle.note.proofs.Sound.{length-starts, length-ends, normalized-formed, shared-at}
-use Rattle.note.proofs.Faults.{accepted-sound}
+use Rattle.note.proofs.Faults.{accepted-sound, sound-accepted}
 use Rattle.code_point_blocks.specs.Codes.{textOf, allScalar}
 use Rattle.map_columns.specs.Spreading.{ofChars, spread}
 use Rattle.map_columns.specs.Laying.{Steady}
@@ -197,10 +197,6 @@ grown-headless s starts ends one two none =
     (λ some.
     sym (first-head (grown s starts) (grown s ends) (omega (arith, a, b)) (λ is. absurd (omega (arith, a, is))))
     ∙ rw (grown-first s starts one, grown-first s ends two) (first-head starts ends (omega arith) (λ is. absurd (omega (arith, is))) ∙ none))
-
-sound-accepted : (most : ℕ) (n : Note) → Sound n → fits most n ≡ true → verdict (noteFaults most n) ≡ Accepted
-unfolding verdict
-sound-accepted most n s f = simp (f, s .has-pairs, s .has-texts, s .has-alignments)
 
 -- A NOTE WITHOUT A HEAD whose code points are their own images
 module _ (most : ℕ) (m : Note) (room : ℕ) (sound : Sound m) (within : fits most m ≡ true) (headless : ltb 0 (widthless (m .starts) (m .ends)) ≡ false)

@@ -1,7 +1,8 @@
 -- Laws of the refusal conditions of a passed note and a passed text.
 use Prim.Native.Nat.{ℕ, _≤_, _<_}
 use mathlib.Core.Path.{_≡_}
-use mathlib.Core.Bool.{true}
+use mathlib.Core.Bool.{true, _&&_}
+use mathlib.Mathlib.Data.Bool.Basic.{and-elim-left, and-elim-right}
 use mathlib.Core.List.{List}
 use lib.Dec.{leb}
 use lib.ListN.{length}
@@ -10,7 +11,7 @@ use Rattle.utf8.specs.Formed.{wellFormed}
 use Rattle.note.specs.declared.Refusal.the-variants.{IllFormed, TooLong, LengthMismatch, Misaligned, NoRoom}
 use Rattle.note.specs.declared.Verdict.the-variants.{Accepted, Refused}
 use Rattle.note.specs.Refusals.{verdict}
-use Rattle.note.specs.Notes.{fits, paired, textsFormed, aligned}
+use Rattle.note.specs.Notes.{Note, fits, paired, textsFormed, aligned, Sound}
 use Rattle.note.specs.Faults.{noteFaults, textFaults, stringFaults, roomFaults, AcceptedSound}
 use Rattle.note.proofs.FirstMet.{accepted-meets}
 
@@ -24,6 +25,15 @@ accepted-sound most n e =
       },
       not-false (fits most n) (no TooLong),
     )
+
+pub sound-accepted : (most : ℕ) (n : Note) → Sound n → fits most n ≡ true → verdict (noteFaults most n) ≡ Accepted
+unfolding verdict
+sound-accepted most n s f = simp (f, s .has-pairs, s .has-texts, s .has-alignments)
+
+pub normalized-short : (most : ℕ) (n : Note) → fits most n ≡ true → length (n .normalized) ≤ most
+unfolding fits
+normalized-short most n within =
+    leb-true (length (n .normalized)) most (and-elim-right (leb (length (n .original)) most) _ (and-elim-left (leb (length (n .original)) most && leb (length (n .normalized)) most) _ within))
 
 -- an accepted text, string and room
 pub text-short : (most : ℕ) (s : List ℕ) → verdict (textFaults most s) ≡ Accepted → length s ≤ most

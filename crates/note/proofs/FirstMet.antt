@@ -117,7 +117,7 @@ met-second : (ks : List Refusal) (f g : Refusal → Bool) → unmet ks f ≡ tru
 met-second [] f g u = refl
 met-second (k ∷ ks) f g u = rw (not-true (f k) (and-elim-left (not (f k)) (unmet ks f) u), met-second ks f g (and-elim-right (not (f k)) _ u))
 
-then-accepted : (v : Verdict) → then v Accepted ≡ v
+pub then-accepted : (v : Verdict) → then v Accepted ≡ v
 then-accepted Accepted = refl
 then-accepted (Refused k) = refl
 
@@ -139,6 +139,22 @@ module _ (r : ℕ) (f g : Refusal → Bool) (low : unmet (drop r order) f ≡ tr
 
   pub accepted-then : {v w : Verdict} → v ≡ verdict f → v ≡ Accepted → w ≡ verdict g → w ≡ verdict (also f g)
   accepted-then e is w = w ∙ sym (verdict-then ∙ rw (← e, is))
+
+-- one more condition of the last refusal, which the first input may meet as well
+then-then : (u v w : Verdict) → then (then u v) w ≡ then u (then v w)
+then-then Accepted v w = refl
+then-then (Refused k) v w = refl
+
+pub last-then : (f g : Refusal → Bool) → unmet (take (rank NoRoom) order) g ≡ true → verdict (also f g) ≡ then (verdict f) (verdict g)
+unfolding verdict
+last-then f g high =
+    let front : List Refusal = take (rank NoRoom) order in
+    let last : firstMet (NoRoom ∷ []) (also f g) ≡ then (firstMet (NoRoom ∷ []) f) (firstMet (NoRoom ∷ []) g) =
+    true-or-false (f NoRoom) (λ t. rw t) (λ u. rw u) in
+    let cut : (h : Refusal → Bool) → firstMet order h ≡ then (firstMet front h) (firstMet (NoRoom ∷ []) h) = λ h. met-append front (NoRoom ∷ []) h in
+    cut (also f g)
+    ∙ rw (met-first front f g high, last)
+    (sym (rw (cut f, cut g, met-unmet front g high) (then-then (firstMet front f) (firstMet (NoRoom ∷ []) f) (firstMet (NoRoom ∷ []) g))))
 
 -- BOTH AT ONCE: the earlier refusal of two verdicts
 said-met : (ks : List Refusal) (f : Refusal → Bool) (k : Refusal) → says (firstMet ks f) k ≡ true → f k ≡ true

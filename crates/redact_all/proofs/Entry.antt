@@ -19,9 +19,8 @@ use Rattle.note.specs.Rank.{upTo}
 use Rattle.note.specs.Notes.{Note, lent, limit}
 use Rattle.note.specs.Faults.{noteFaults}
 use Rattle.note.proofs.FirstMet.{accepted-meets, accepted-first, accepted-second, refused-then, accepted-then}
-use Rattle.note.proofs.Faults.{accepted-sound}
+use Rattle.note.proofs.Faults.{accepted-sound, normalized-short}
 use Rattle.note.proofs.Sound.{length-starts, length-ends}
-use Rattle.redact_note.proofs.Redacting.{normalized-short}
 use Rattle.redact_in_place.specs.InPlace.{held}
 use Rattle.redact_in_place.proofs.Holding.{text-within, starts-within, ends-within}
 use Rattle.word_pairs.specs.declared.Word.the-variants.{Literal}

@@ -14,10 +14,10 @@ use Rattle.note.specs.declared.Refusal.{Refusal}
 use Rattle.note.specs.declared.Verdict.{Verdict}
 use Rattle.note.specs.declared.Verdict.the-variants.{Accepted, Refused as Rejected}
 use Rattle.note.specs.Refusals.{also, least, verdict}
-use Rattle.note.specs.Notes.{Note, fits, limit, Sound}
+use Rattle.note.specs.Notes.{Note, limit}
 use Rattle.note.specs.Faults.{noteFaults, stringFaults, roomFaults}
 use Rattle.note.proofs.FirstMet.{both-accepted}
-use Rattle.note.proofs.Faults.{accepted-sound, enough-room}
+use Rattle.note.proofs.Faults.{accepted-sound, sound-accepted, normalized-short, enough-room}
 use Rattle.pattern.specs.Encoding.{roomFor}
 use Rattle.pattern.proofs.Encoding.{room-enough}
 use Rattle.find.specs.Matching.{foundPlaces}
@@ -30,7 +30,7 @@ use Rattle.redact_note.specs.declared.Redaction.{Redaction}
 use Rattle.redact_note.specs.declared.Redaction.the-variants.{Published, Refused}
 use Rattle.redact_note.specs.Redacting.{noteRedactFaults, noteInputFaults, roomsFaults, matchCount}
 use Rattle.redact_note.specs.Chain.{Pair, leftBy, stepOf}
-use Rattle.redact_note.proofs.Redacting.{normalized-short, replaces}
+use Rattle.redact_note.proofs.Redacting.{replaces}
 use Rattle.redact_note.proofs.Moved.{parts, counted, says-refused}
 use Rattle.redact_in_place.specs.InPlace.{held, InPlace}
 
@@ -40,10 +40,6 @@ string-accepted s f = rw f
 
 refusal-clash : {k : Refusal} {P : Type 0} → Accepted ≡ Rejected k → P
 refusal-clash e = let z : _≡_ {A = ℕ} 0 1 = cc in absurd (omega arith)
-
-sound-accepted : (n : Note) → Sound n → fits limit n ≡ true → verdict (noteFaults limit n) ≡ Accepted
-unfolding verdict
-sound-accepted n s f = simp (f, s .has-pairs, s .has-texts, s .has-alignments)
 
 -- a text within the limit has no more places than `roomFor` is asked for
 list-short : (text literal : List ℕ) → length text ≤ limit → length (foundPlaces text literal) ≤ 2 * limit + 1
@@ -78,7 +74,7 @@ module _ (n : Note) (p : Pair) (noted : verdict (noteFaults limit n) ≡ Accepte
     pub next-accepted : verdict (noteFaults limit next) ≡ Accepted
     next-accepted =
         let left = replaced-sound limit n (foundBytes (n .normalized) (p .literal)) (p .content) limit step-replaces in
-        sound-accepted next (left .0) (left .1)
+        sound-accepted limit next (left .0) (left .1)
 
 -- a step in place
 module _ {original : List ℕ} {shift size : ℕ} {literal content text₀ starts₀ ends₀ : List ℕ} {r : Redaction} {text starts ends : List ℕ} (place : InPlace original shift size literal content text₀ starts₀ ends₀ r text starts ends) where

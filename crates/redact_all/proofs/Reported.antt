@@ -11,8 +11,7 @@ use Rattle.note.specs.declared.Verdict.the-variants.{Accepted}
 use Rattle.note.specs.Refusals.{after}
 use Rattle.note.specs.Notes.{Note, limit}
 use Rattle.note.proofs.Sound.{length-starts, length-ends}
-use Rattle.note.proofs.Faults.{accepted-sound}
-use Rattle.redact_note.proofs.Redacting.{normalized-short}
+use Rattle.note.proofs.Faults.{accepted-sound, normalized-short}
 use Rattle.word_pairs.specs.declared.Word.the-variants.{Literal, Filler}
 use Rattle.word_pairs.specs.Words.{pairsOf, evenWords}
 use Rattle.word_pairs.proofs.Words.{length-pairs}

@@ -3,12 +3,11 @@
 use Prim.Native.Nat.{ℕ, _≤_, min}
 use mathlib.Core.Path.{_≡_, _∙_, ap, refl, sym}
 use mathlib.Core.Bool.{Bool, true, false, cond, not, _&&_}
-use mathlib.Mathlib.Data.Bool.Basic.{and-elim-left, and-elim-right}
 use mathlib.Core.List.{List}
 use native.Mathlib.Omega.{arith}
 use lib.Dec.{leb}
 use lib.ListN.{length, take}
-use borrow.Author.Tests.{not-true, not-false, leb-true}
+use borrow.Author.Tests.{not-true, not-false}
 use Rattle.buffers.specs.Splice.{overlay}
 use Rattle.buffers.proofs.Booleans.{and-false-l}
 use Rattle.buffers.proofs.Splice.{take-overlay, overlay-long}
@@ -19,11 +18,11 @@ use Rattle.note.specs.declared.Verdict.{Verdict}
 use Rattle.note.specs.declared.Verdict.the-variants.{Accepted, Refused as Rejected}
 use Rattle.note.specs.Refusals.{none, meets, also, least, verdict, after, unlessRefused}
 use Rattle.note.specs.Rank.{earlier}
-use Rattle.note.specs.Notes.{Note, limit, fits}
+use Rattle.note.specs.Notes.{Note, limit}
 use Rattle.note.specs.Faults.{noteFaults, stringFaults, roomFaults}
 use Rattle.note.specs.Rank.{upTo}
 use Rattle.note.proofs.FirstMet.{earlier-of, refused-then, accepted-then, accepted-first, accepted-second, both-accepted}
-use Rattle.note.proofs.Faults.{accepted-sound, string-formed, room-enough}
+use Rattle.note.proofs.Faults.{accepted-sound, normalized-short, string-formed, room-enough}
 use Rattle.note.proofs.Sound.{normalized-formed}
 use Rattle.pattern.specs.Entries.{placesOf}
 use Rattle.pattern.specs.Places.{listFaults}
@@ -68,11 +67,6 @@ pub record Formed (n : Note) (literal content : List ℕ) : Type 0 where
   pub literal-formed : wellFormed literal ≡ true
   pub content-formed : wellFormed content ≡ true
   pub noted : verdict (noteFaults limit n) ≡ Accepted
-
-pub normalized-short : (most : ℕ) (n : Note) → fits most n ≡ true → length (n .normalized) ≤ most
-unfolding fits
-normalized-short most n within =
-    leb-true (length (n .normalized)) most (and-elim-right (leb (length (n .original)) most) _ (and-elim-left (leb (length (n .original)) most && leb (length (n .normalized)) most) _ within))
 
 pub inputs-formed : (n : Note) (literal content : List ℕ) {v : Verdict} → v ≡ verdict (noteInputFaults limit n literal content) → v ≡ Accepted → Formed n literal content
 inputs-formed n literal content says is =

@@ -24,6 +24,7 @@ use stored_answers::calls::PREPEND;
 use stored_answers::calls::PUBLISHED_ALIKE;
 use stored_answers::calls::REDACT;
 use stored_answers::calls::REPLACE;
+use stored_answers::calls::REPLACE_BY_EDITS;
 use stored_answers::calls::SLICE;
 use stored_answers::calls::SPLIT;
 use stored_answers::calls::TRANSFORM;
@@ -73,6 +74,7 @@ fn called(call: u8, case: &[u8], starts: &[Offset], ends: &[Offset]) -> bool {
         TRANSFORM => on_publishing(call, case, 7, starts, ends),
         MAP | FILTER | APPEND | PREPEND => on_publishing(call, case, 6, starts, ends),
         CLEAR | LOWERCASE => on_publishing(call, case, 5, starts, ends),
+        REPLACE_BY_EDITS => on_publishing(call, case, 13, starts, ends),
         _ => false,
     }
 }

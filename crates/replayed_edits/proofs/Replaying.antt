@@ -18,6 +18,7 @@ use Rattle.stored_answers.specs.Calls.{
   lowercaseNumber,
   mapNumber,
   redactNumber,
+  replaceByEditsNumber,
   replaceNumber,
   transformNumber,
   transformRangeNumber,
@@ -25,13 +26,16 @@ use Rattle.stored_answers.specs.Calls.{
 use Rattle.stored_answers.specs.Framing.{fieldOf}
 use Rattle.stored_answers.specs.Lending.{numberAt, noteAt}
 use Rattle.stored_answers.proofs.Splice.{take-laid}
+use Rattle.replace_by_edits.specs.ByEdits.{Scratch}
 use Rattle.zulmyren.specs.declared.answers.Written.{Written}
 use Rattle.zulmyren.specs.declared.answers.Blanked.{Blanked}
 use Rattle.zulmyren.specs.declared.answers.Lengths.{Lengths}
 use Rattle.zulmyren.specs.Calls.{sideOf}
-use Rattle.zulmyren.specs.Contracts.{RedactCall, ReplaceCall}
+use Rattle.zulmyren.specs.Contracts.{RedactCall, ReplaceByEditsCall, ReplaceCall}
 use Rattle.zulmyren.specs.Edits.{AppendTold, ClearTold, FilterTold, PrependTold, TransformTold}
 use Rattle.replayed_edits.specs.Replaying.{
+  ByEditsCase,
+  ByEditsPassed,
   CallAnswered,
   LowercaseCase,
   MapCase,
@@ -58,6 +62,10 @@ module _ (case : List ℕ) {out₀ s₀ e₀ : List ℕ} {a : Written} {out s e 
   module _ (starts ends : List ℕ) {original normalized : List ℕ} {shift : ℕ} (o : original ≡ fieldOf 0 case) (n : normalized ≡ fieldOf 1 case) (k : shift ≡ numberAt case 4) where
     pub replace-lent : {list content : List ℕ} → list ≡ fieldOf 5 case → content ≡ fieldOf 6 case → ReplaceCall (lent original normalized starts ends shift) list content out₀ s₀ e₀ a out s e → ReplaceCase case starts ends out₀ s₀ e₀ a out s e
     replace-lent l f call = coe 0 1 (i. ReplaceCall (lent (o i) (n i) starts ends (k i)) (l i) (f i) out₀ s₀ e₀ a out s e) call
+
+    pub by-edits-lent : {list content : List ℕ} {a₀ b₀ c d : Scratch} → list ≡ fieldOf 5 case → content ≡ fieldOf 6 case
+        → ReplaceByEditsCall (lent original normalized starts ends shift) list content out₀ s₀ e₀ a₀ b₀ a out s e c d → ByEditsPassed case starts ends out₀ s₀ e₀ a₀ b₀ a out s e c d
+    by-edits-lent {a₀ = a₀} {b₀} {c} {d} l f call = coe 0 1 (i. ReplaceByEditsCall (lent (o i) (n i) starts ends (k i)) (l i) (f i) out₀ s₀ e₀ a₀ b₀ a out s e c d) call
 
     pub range-lent :
         {side start end offset : ℕ} {script : List ℕ} → side ≡ numberAt case 5 → start ≡ numberAt case 6 → end ≡ numberAt case 7
@@ -118,8 +126,11 @@ module _ {call : ℕ} {case starts ends out₀ s₀ e₀ : List ℕ} {a : Writte
   pub lowercases : call ≡ lowercaseNumber → LowercaseCase case starts ends out₀ s₀ e₀ a out s e → CallAnswered call case starts ends out₀ s₀ e₀ a out s e
   lowercases is met = record { met = rw is met }
 
-  pub edits : (call ≡ replaceNumber → ⊥) → (call ≡ redactNumber → ⊥) → (call ≡ transformRangeNumber → ⊥) → (call ≡ transformNumber → ⊥) → (call ≡ mapNumber → ⊥) → (call ≡ lowercaseNumber → ⊥) → WholeCase call case starts ends out₀ s₀ e₀ a out s e → CallAnswered call case starts ends out₀ s₀ e₀ a out s e
-  edits p b t x m l met = record { met = rw (ne-eqb call replaceNumber p, ne-eqb call redactNumber b, ne-eqb call transformRangeNumber t, ne-eqb call transformNumber x, ne-eqb call mapNumber m, ne-eqb call lowercaseNumber l) met }
+  pub roads : call ≡ replaceByEditsNumber → ByEditsCase case starts ends out₀ s₀ e₀ a out s e → CallAnswered call case starts ends out₀ s₀ e₀ a out s e
+  roads is met = record { met = rw is met }
+
+  pub edits : (call ≡ replaceNumber → ⊥) → (call ≡ redactNumber → ⊥) → (call ≡ transformRangeNumber → ⊥) → (call ≡ transformNumber → ⊥) → (call ≡ mapNumber → ⊥) → (call ≡ lowercaseNumber → ⊥) → (call ≡ replaceByEditsNumber → ⊥) → WholeCase call case starts ends out₀ s₀ e₀ a out s e → CallAnswered call case starts ends out₀ s₀ e₀ a out s e
+  edits p b t x m l y met = record { met = rw (ne-eqb call replaceNumber p, ne-eqb call redactNumber b, ne-eqb call transformRangeNumber t, ne-eqb call transformNumber x, ne-eqb call mapNumber m, ne-eqb call lowercaseNumber l, ne-eqb call replaceByEditsNumber y) met }
 
 module _ {call : ℕ} {case : List ℕ} {at : ℕ} {starts ends out₀ s₀ e₀ : List ℕ} {r : Bool} where
   pub cleared : call ≡ clearNumber → Replayed (ClearTold (noteAt case starts ends) out₀ s₀ e₀) (clearStored case 8) r → Published call case at starts ends out₀ s₀ e₀ r

@@ -1,10 +1,11 @@
 -- The replay of a call that publishes a note: the exported call's own contract is met by some answer and some buffers,
 -- and the result says whether these are what the case stores. The contract leaves no choice of them.
-use Prim.Native.Nat.{ℕ, _+_}
+use Prim.Native.Nat.{ℕ, _+_, min}
 use mathlib.Core.Path.{_≡_}
 use mathlib.Core.Bool.{Bool, cond, _&&_}
 use mathlib.Core.List.{List}
 use lib.Dec.{eqb}
+use lib.ListN.{length}
 use Rattle.buffers.specs.Same.{same}
 use Rattle.note.specs.Notes.{limit}
 use Rattle.note.specs.Refusals.{OnThree}
@@ -17,6 +18,7 @@ use Rattle.stored_answers.specs.Calls.{
   lowercaseNumber,
   mapNumber,
   redactNumber,
+  replaceByEditsNumber,
   replaceNumber,
   transformNumber,
   transformRangeNumber,
@@ -24,11 +26,12 @@ use Rattle.stored_answers.specs.Calls.{
 use Rattle.stored_answers.specs.Framing.{fieldOf, isNumber}
 use Rattle.stored_answers.specs.Differences.{numbersOf, offsetColumn}
 use Rattle.stored_answers.specs.Lending.{flagAt, noteAt, numberAt}
+use Rattle.replace_by_edits.specs.ByEdits.{Scratch}
 use Rattle.zulmyren.specs.declared.answers.Written.{Written}
 use Rattle.zulmyren.specs.declared.answers.Blanked.{Blanked}
 use Rattle.zulmyren.specs.declared.answers.Lengths.{Lengths}
 use Rattle.zulmyren.specs.Calls.{sideOf}
-use Rattle.zulmyren.specs.Contracts.{RedactCall, ReplaceCall, ToldThree}
+use Rattle.zulmyren.specs.Contracts.{RedactCall, ReplaceByEditsCall, ReplaceCall, ToldThree}
 use Rattle.zulmyren.specs.Edits.{AppendTold, ClearTold, FilterTold, LowercaseTold, MapTold, PrependTold, TransformTold}
 
 -- whether the fields from `index` on are a text and its columns
@@ -87,6 +90,30 @@ MapCase case starts ends = MapTold (noteAt case starts ends) (numbersOf (fieldOf
 abbrev pub LowercaseCase : List ℕ → List ℕ → List ℕ → OnThree Written
 LowercaseCase case starts ends = LowercaseTold (noteAt case starts ends)
 
+-- replacing by edits, with scratch
+abbrev pub ByEditsPassed : List ℕ → List ℕ → List ℕ → List ℕ → List ℕ → List ℕ → Scratch → Scratch
+    → Written → List ℕ → List ℕ → List ℕ → Scratch → Scratch → Type 0
+ByEditsPassed case starts ends = ReplaceByEditsCall (noteAt case starts ends) (fieldOf 5 case) (fieldOf 6 case)
+
+-- how long a scratch buffer is: as a field says, but no longer than the replay has room for
+unfoldable pub scratchLen : List ℕ → ℕ → ℕ
+scratchLen case index = min (numberAt case index) (limit + 1)
+
+-- a set of them, by three fields
+pub record ScratchOf (case : List ℕ) (index : ℕ) (a : Scratch) : Type 0 where
+  pub text-len : length (a .text) ≡ scratchLen case index
+  pub starts-len : length (a .starts) ≡ scratchLen case (index + 1)
+  pub ends-len : length (a .ends) ≡ scratchLen case (index + 2)
+
+pub record ByEditsCase (case starts ends out₀ starts₀ ends₀ : List ℕ) (r : Written) (out s e : List ℕ) : Type 0 where
+  pub first₀ : Scratch
+  pub second₀ : Scratch
+  pub first : Scratch
+  pub second : Scratch
+  pub first-is : ScratchOf case 7 first₀
+  pub second-is : ScratchOf case 10 second₀
+  pub met : ByEditsPassed case starts ends out₀ starts₀ ends₀ first₀ second₀ r out s e first second
+
 -- a call by its number: filter, append, and prepend for any other
 pub record WholeCase (call : ℕ) (case starts ends out₀ starts₀ ends₀ : List ℕ) (r : Written)
     (out s e : List ℕ) : Type 0 where
@@ -96,7 +123,7 @@ pub record WholeCase (call : ℕ) (case starts ends out₀ starts₀ ends₀ : L
       (PrependTold (noteAt case starts ends) (fieldOf 5 case)))
       out₀ starts₀ ends₀ r out s e
 
--- and replace, redact, transform_range, transform, map, lowercase
+-- and replace, redact, transform_range, transform, map, lowercase, replace_by_edits
 pub record CallAnswered (call : ℕ) (case starts ends out₀ starts₀ ends₀ : List ℕ) (r : Written)
     (out s e : List ℕ) : Type 0 where
   pub met :
@@ -105,7 +132,8 @@ pub record CallAnswered (call : ℕ) (case starts ends out₀ starts₀ ends₀ 
       (cond (eqb call transformRangeNumber) (RangeCase case starts ends)
       (cond (eqb call transformNumber) (ScriptCase case starts ends)
       (cond (eqb call mapNumber) (MapCase case starts ends)
-      (cond (eqb call lowercaseNumber) (LowercaseCase case starts ends) (WholeCase call case starts ends))))))
+      (cond (eqb call lowercaseNumber) (LowercaseCase case starts ends)
+      (cond (eqb call replaceByEditsNumber) (ByEditsCase case starts ends) (WholeCase call case starts ends)))))))
       out₀ starts₀ ends₀ r out s e
 
 -- the replay of a call by its number, or of clear, whose answer has two lengths; the buffers are in the fields

@@ -2,6 +2,7 @@
 // then the refusal, the size, the three buffers.
 use crate::matches::redact;
 use crate::matches::replace;
+use crate::road::replace_by_edits;
 use crate::scripts::transform;
 use crate::scripts::transform_range;
 use crate::told::is_published;
@@ -15,6 +16,7 @@ use stored_answers::calls::LOWERCASE;
 use stored_answers::calls::MAP;
 use stored_answers::calls::REDACT;
 use stored_answers::calls::REPLACE;
+use stored_answers::calls::REPLACE_BY_EDITS;
 use stored_answers::calls::TRANSFORM;
 use stored_answers::calls::TRANSFORM_RANGE;
 use stored_answers::columns::bytes;
@@ -48,6 +50,7 @@ fn answered(
         TRANSFORM => transform(case, starts, ends, out, out_starts, out_ends),
         MAP => map(case, starts, ends, out, out_starts, out_ends),
         LOWERCASE => lowercase(case, starts, ends, out, out_starts, out_ends),
+        REPLACE_BY_EDITS => replace_by_edits(case, starts, ends, out, out_starts, out_ends),
         _ => edit(call, case, starts, ends, out, out_starts, out_ends),
     }
 }

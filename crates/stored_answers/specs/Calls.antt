@@ -30,3 +30,6 @@ clearNumber = 25
 
 abbrev pub lowercaseNumber : ℕ
 lowercaseNumber = 26
+
+abbrev pub replaceByEditsNumber : ℕ
+replaceByEditsNumber = 27

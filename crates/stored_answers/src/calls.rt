@@ -53,5 +53,7 @@ pub const CLEAR: u8 = 25;
 
 pub const LOWERCASE: u8 = 26;
 
+pub const REPLACE_BY_EDITS: u8 = 27;
+
 // How many calls there are.
-pub const CALLS: u8 = 27;
+pub const CALLS: u8 = 28;

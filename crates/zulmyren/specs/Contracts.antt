@@ -9,6 +9,7 @@ use Rattle.convert.specs.declared.OffsetReferential.{OffsetReferential}
 use Rattle.convert.specs.declared.Range.{Range}
 use Rattle.convert_list.specs.ConvertList.{ConvertedList}
 use Rattle.replace.specs.Replacing.{Replacing}
+use Rattle.replace_by_edits.specs.ByEdits.{Scratch, ReplacingByEdits}
 use Rattle.redact_note.specs.Redacting.{NoteRedacted}
 use Rattle.redact_all.specs.RedactAll.{AllBuffers, AllRedacted}
 use Rattle.redact.specs.Redacting.{Redacted}
@@ -40,6 +41,12 @@ ConvertAllCall n side from to = ToldThree answerOf (ConvertedList limit n side f
 -- a note, a list, a content
 abbrev pub ReplaceCall : Note → List ℕ → List ℕ → OnThree Written
 ReplaceCall n list content = ToldThree publishedOf (Replacing limit n list content)
+
+-- a note, a list, a content; three buffers, and two sets of scratch
+abbrev pub ReplaceByEditsCall : Note → List ℕ → List ℕ → List ℕ → List ℕ → List ℕ → Scratch → Scratch
+    → Written → List ℕ → List ℕ → List ℕ → Scratch → Scratch → Type 0
+ReplaceByEditsCall n list content out₀ starts₀ ends₀ a₀ b₀ r out starts ends a b =
+    Told publishedOf (λ v. ReplacingByEdits limit n list content out₀ starts₀ ends₀ a₀ b₀ v out starts ends a b) r
 
 -- a text, a literal, a content
 abbrev pub RedactCall : List ℕ → List ℕ → List ℕ → OnThree Blanked

@@ -6,10 +6,10 @@ use Rattle.replay.proofs.replay_all.Statement.{statement}
 use Rattle.replay.proofs.replay_all.Tie as tie
 
 abbrev Inv-loop : tie.InvT-loop
-Inv-loop calls call₀ call = call ≤ 27
+Inv-loop calls call₀ call = call ≤ 28
 
 abbrev μ-loop : tie.MeasureT-loop
-μ-loop calls call₀ call = 27 - call
+μ-loop calls call₀ call = 28 - call
 
 pub replay-all-spec : {M : Type 1} → statement M
 replay-all-spec =
