@@ -71,13 +71,14 @@ TakenWithin =
     (n : Note) (content : List ℕ) (before : List Place) (p : Place) (ps : List Place)
     → Given n content (before ++ (p ∷ ps)) → takenBytes before ≤ p .start .0
 
--- CLAIM: each edit of either road is made of a sound note, and is refused neither for its range (5) nor for want of
--- characters (7); it leaves a sound note.
+-- an edit of a sound note that is refused neither for its range (5) nor for want of characters (7), and that leaves a
+-- sound note
 pub record RoadEdit (n : Note) (e : Edit) (made : Note) : Type 0 where
   pub of-sound : Sound n
   pub makes : Makes n e made
   pub leaves-sound : Sound made
 
+-- CLAIM: each edit of either road is so, whichever matched place it is of.
 abbrev pub RoadEdits : Type 0
 RoadEdits =
     (n : Note) (content : List ℕ) (before : List Place) (p : Place) (ps : List Place)

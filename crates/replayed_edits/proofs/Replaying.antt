@@ -1,10 +1,12 @@
 -- A call that was passed what its case's fields hold, by its number; buffers that hold what their fields do.
-use Prim.Native.Nat.{ℕ, _+_}
+use Prim.Native.Nat.{ℕ, _+_, _≤_, min}
 use mathlib.Core.Path.{_≡_, _∙_, ap, refl, sym}
 use mathlib.Core.Bool.{Bool}
 use mathlib.Core.List.{List}
+use native.Mathlib.Omega.{arith}
 use lib.Dec.{eqb}
 use lib.ListN.{length, take}
+use lib.Seq.{length-take-le}
 use borrow.Author.Tests.{ne-eqb}
 use Rattle.buffers.specs.Splice.{Laid}
 use Rattle.note.specs.Notes.{Note, lent, limit}
@@ -49,6 +51,7 @@ use Rattle.replayed_edits.specs.Replaying.{
   clearStored,
   editStored,
   lenOf,
+  scratchLen,
 }
 
 -- a literal, a content
@@ -96,6 +99,17 @@ module _ (case starts ends : List ℕ) {original normalized : List ℕ} {shift :
         met = coe 0 1 (i. ClearTold (lent (o i) (n i) starts ends (k i)) out₀ s₀ e₀ a out s e) call;
         says = told;
       }
+
+-- the front of a buffer, as long as a field says
+module _ (case : List ℕ) (index : ℕ) (d : List ℕ) {n : ℕ} (is : n ≡ scratchLen case index) (long : limit + 1 ≡ length d) where
+  pub scratch-inside : n ≤ length d
+  scratch-inside = omega (arith, is, long)
+
+  pub scratch-cut : n ≡ length (take n d)
+  scratch-cut = sym (length-take-le n d scratch-inside)
+
+  pub scratch-long : length (take n d) ≡ scratchLen case index
+  scratch-long = sym scratch-cut ∙ is
 
 -- a call by its number
 module _ {call : ℕ} {case starts ends out₀ s₀ e₀ : List ℕ} {a : Written} {out s e : List ℕ} where

@@ -96,7 +96,7 @@ abbrev pub ByEditsPassed : List ℕ → List ℕ → List ℕ → List ℕ → L
 ByEditsPassed case starts ends = ReplaceByEditsCall (noteAt case starts ends) (fieldOf 5 case) (fieldOf 6 case)
 
 -- how long a scratch buffer is: as a field says, but no longer than the replay has room for
-unfoldable pub scratchLen : List ℕ → ℕ → ℕ
+abbrev pub scratchLen : List ℕ → ℕ → ℕ
 scratchLen case index = min (numberAt case index) (limit + 1)
 
 -- a set of them, by three fields

@@ -18,7 +18,7 @@ check-by-edits-spec =
     (λ c κs. search needs)
     (λ c. search needs)
     add-if1
-    (λ c. scratch-short limit _ _ _ _ _ (c .before .before .before .before .check-replace .ensures) (c .before .before .size .given .1) (c .if1 .taken))
+    (λ c. scratch-short limit _ _ _ _ _ (c .before .before .before .before .check-replace .ensures) (c .before .before .size .given .1) (omega (arith, c .if1 .taken)))
     (λ c. search needs)
-    (λ c. scratch-ample limit _ _ _ _ _ (c .before .before .before .before .check-replace .ensures) (c .before .before .size .given .1) (c .if1 .left))
+    (λ c. scratch-ample limit _ _ _ _ _ (c .before .before .before .before .check-replace .ensures) (c .before .before .size .given .1) (omega (arith, c .if1 .left)))
     (λ c. still-refused limit _ _ _ _ _ (c .before .before .before .check-replace .ensures) (c .before .k .given .1)))

@@ -24,20 +24,20 @@ entry c = c .before .before .before .before .before .before .before .before .bef
 edit-held-requires : tie.Need-edit-held-requires Inv-loop μ-loop
 edit-held-requires c κs =
     let there = c .before .before .before .before .before .before .before .before in
-    step-ready (entry there .pre .0) (there .before .loop .inv) (there .loop-test .taken) (c .before .before .before .before .before .before .before .place-at .ensures) (c .before .before .before .before .before .before .if1 .taken)
+    step-ready (entry there .pre .0) (there .before .loop .inv) (omega (arith, there .loop-test .taken)) (c .before .before .before .before .before .before .before .place-at .ensures) (c .before .before .before .before .before .before .if1 .taken)
 
 loop-again : tie.Need-loop-again Inv-loop μ-loop
 loop-again c =
     let edited = c .before .before .before .before .before .before .before .before .before .before .before .before in
     let test = edited .before .before .before .before .before .before .before in
     let there = test .before .before in
-    next-edited (entry there .pre .0) (there .before .loop .inv) (there .loop-test .taken) (test .before .place-at .ensures) (test .if1 .taken)
+    next-edited (entry there .pre .0) (there .before .loop .inv) (omega (arith, there .loop-test .taken)) (test .before .place-at .ensures) (test .if1 .taken)
     (edited .edit-held .ensures)
 
 loop-again-2 : tie.Need-loop-again-2 Inv-loop μ-loop
 loop-again-2 c =
     let there = c .before .before in
-    next-kept (entry there .pre .0) (there .before .loop .inv) (there .loop-test .taken) (c .before .place-at .ensures) (c .if1 .left)
+    next-kept (entry there .pre .0) (there .before .loop .inv) (omega (arith, there .loop-test .taken)) (c .before .place-at .ensures) (c .if1 .left)
 
 pub take-road-spec : {M : Type 1} → statement M
 take-road-spec =
@@ -60,4 +60,4 @@ take-road-spec =
     (λ c. c .before .loop .inv .rooms .second-same .text-left)
     (λ c. c .before .loop .inv .rooms .second-same .starts-left)
     (λ c. c .before .loop .inv .rooms .second-same .ends-left)
-    (λ c. all-edited (c .before .before .before .before .before .before .before .before .before .before .before .pre .0) (c .before .loop .inv) (c .loop-test .left)))
+    (λ c. all-edited (c .before .before .before .before .before .before .before .before .before .before .before .pre .0) (c .before .loop .inv) (omega (arith, c .loop-test .left))))
