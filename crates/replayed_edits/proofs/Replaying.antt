@@ -1,5 +1,5 @@
 -- A call that was passed what its case's fields hold, by its number; buffers that hold what their fields do.
-use Prim.Native.Nat.{ℕ, _+_, _≤_, min}
+use Prim.Native.Nat.{ℕ, _+_, _≤_}
 use mathlib.Core.Path.{_≡_, _∙_, ap, refl, sym}
 use mathlib.Core.Bool.{Bool}
 use mathlib.Core.List.{List}

@@ -2,7 +2,6 @@
 use mathlib.Core.Path.{_∙_, ap}
 use Prim.Native.Nat.{ℕ, min}
 use borrow.Author.Needs.{needs}
-use Rattle.note.specs.Notes.{limit}
 use Rattle.replayed_edits.proofs.road.scratch_len.Statement.{statement}
 use Rattle.replayed_edits.proofs.road.scratch_len.Tie as tie
 
