@@ -1,4 +1,6 @@
 // Whether a note's alignments are sound, for a note whose texts and numbers of alignments were judged before.
+#![tactic(auto)]
+
 pub mod starting;
 
 ghost use Rattle.std.specs.Prelude.{◌≡◌, length};

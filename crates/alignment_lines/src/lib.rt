@@ -1,5 +1,7 @@
 // The alignments of a text as lines (RULES 14.1).
 // Each function here is an inner one: columns and room were judged before.
+#![tactic(auto)]
+
 ghost use Rattle.std.specs.Prelude.{◌≡◌, ◌+◌, ◌*◌, ◌≤◌, ◌<◌, length, get_or, drop};
 ghost use Rattle.buffers.specs.Splice.{overlay, Laid};
 ghost use Rattle.note.specs.Notes.{limit};

@@ -1,4 +1,6 @@
 // A string after the cleaned text and before it (RULES 8; Rust: `append`, `prepend`).
+#![tactic(auto)]
+
 ghost use Rattle.std.specs.Prelude.{◌≡◌, ◌+◌, ◌≤◌, leb, ◌++◌, length, drop, replicate};
 ghost use Rattle.buffers.specs.Splice.{overlay};
 ghost use Rattle.note.specs.Notes.{lent};

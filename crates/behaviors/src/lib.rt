@@ -1,5 +1,7 @@
 // The behaviours of splitting (RULES 11; Rust: `SplitDelimiterBehavior`): which stretches of the cleaned text a match
 // list cuts out, told place by place and measured.
+#![tactic(auto)]
+
 ghost use Rattle.std.specs.Prelude.{◌≡◌};
 ghost use Rattle.note.specs.Notes.{limit};
 ghost use Rattle.behaviors.specs.Splits.{is_dropped};
@@ -10,7 +12,7 @@ ghost use Rattle.behaviors.specs.Runs.{onward_if, sizes_with, is_kept_run};
 use pattern::{Entry, Place, entry_at};
 
 // What becomes of the delimiters, the matched places.
-#[derive(Drop)]
+#[derive(Clone, Copy)]
 pub enum SplitDelimiterBehavior {
     Removed,
     Isolated,
@@ -20,14 +22,14 @@ pub enum SplitDelimiterBehavior {
 }
 
 // Whether pieces without a byte stay (Rust: `NormalizedString::split`) or go (`PreTokenizedString::split`).
-#[derive(Drop)]
+#[derive(Clone, Copy)]
 pub enum EmptyPieces {
     Kept,
     Dropped,
 }
 
 // How many pieces there are, and how many bytes they have together.
-#[derive(Drop)]
+#[derive(Clone, Copy)]
 pub struct Sizes {
     pub pieces: usize,
     pub bytes: usize,

@@ -1,6 +1,8 @@
 // Whether alignments cut no character of the transcript, for alignments that never go back. In a block of 64 the byte
 // at each start is read; where each alignment is the one whole character that this byte leads, as in most notes, no end
 // is looked up.
+#![tactic(auto)]
+
 ghost use Rattle.std.specs.Prelude.{◌≡◌, true, ◌≤◌, length, get_or};
 ghost use Rattle.buffers.specs.Columns.{Filled};
 ghost use Rattle.utf8.specs.Formed.{well_formed};

@@ -1,5 +1,7 @@
 // Runs of bytes and of 16-bit numbers, copied or filled into passed buffers.
 // Each function here is an inner one: its callers have measured the room before.
+#![tactic(auto)]
+
 pub mod blocks;
 pub mod equality;
 pub mod lanes;

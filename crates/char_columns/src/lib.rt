@@ -1,5 +1,7 @@
 // Offsets in characters (RULES 13.3): pairs of bytes, in front of two columns, become characters of a text. Each function
 // here is an inner one: the text and the room were judged before.
+#![tactic(auto)]
+
 ghost use Rattle.std.specs.Prelude.{◌≡◌, true, ◌+◌, ◌≤◌, ◌<◌, length};
 ghost use Rattle.buffers.specs.Splice.{part};
 ghost use Rattle.utf8.specs.Chars.{leads};
@@ -19,7 +21,7 @@ use utf8::continues;
 use validity::is_ascii;
 
 // What offsets count (Rust: `OffsetType`).
-#[derive(Drop)]
+#[derive(Clone, Copy)]
 pub enum OffsetType {
     Byte,
     Char,
@@ -27,7 +29,7 @@ pub enum OffsetType {
 
 // A byte of the transcript whose character is known. The loop over pieces goes on from it with plain numbers, since
 // wrapped ones take longer; `in_chars` and `index_from` take wrapped ones.
-#[derive(Drop)]
+#[derive(Clone, Copy)]
 pub struct Cursor {
     pub at: usize,
     pub index: u32,
@@ -35,7 +37,7 @@ pub struct Cursor {
 
 // The offsets of a piece in characters, or the bytes themselves where the transcript has none there; and a byte near
 // each of its ends whose character is known.
-#[derive(Drop)]
+#[derive(Clone, Copy)]
 pub struct Offsets {
     pub start: u32,
     pub end: u32,

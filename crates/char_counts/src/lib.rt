@@ -1,6 +1,8 @@
 // How many characters have begun up to each byte of a text, kept for many look-ups: the count at every 128th byte, and
 // the low byte of the count at each. So a look-up is two reads, wherever the byte is.
 // Each function here is an inner one: the text was judged before.
+#![tactic(auto)]
+
 pub mod low_bytes;
 
 ghost use Rattle.std.specs.Prelude.{◌≡◌, length};

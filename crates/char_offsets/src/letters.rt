@@ -9,7 +9,7 @@ use utf8::count::count_leads;
 use utf8::is_char_range;
 
 // What a letter count answers.
-#[derive(Drop)]
+#[derive(Clone, Copy)]
 pub enum LetterCount {
     Letters(u32),
     Refused(Refusal),

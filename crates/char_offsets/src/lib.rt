@@ -1,6 +1,8 @@
 // Character positions (RULES 12; Rust: `BytesToCharOffsetConverter::convert`): the character that a byte belongs to.
 // A walk over the text: from a byte whose character is known, the bytes between that begin a character are counted.
 // For a list the walk is made once, and the count at each byte kept.
+#![tactic(auto)]
+
 pub mod letters;
 
 ghost use Rattle.std.specs.Prelude.{◌≡◌, ◌≤◌, ◌<◌, length};
@@ -18,7 +20,7 @@ use note::{CharIndex, OriginalByte, Refusal, Verdict};
 use utf8::count::count_leads;
 
 // What converting a pair answers.
-#[derive(Drop)]
+#[derive(Clone, Copy)]
 pub enum CharOffsets {
     Chars(CharIndex, CharIndex),
     Refused(Refusal),
@@ -40,7 +42,7 @@ pub fn index_from(text: &[u8], at: OriginalByte, index: CharIndex, to: OriginalB
 }
 
 // The byte by which a pair's end is told, and how much is added to its index.
-#[derive(Drop)]
+#[derive(Clone, Copy)]
 pub struct EndByte {
     pub byte: OriginalByte,
     pub more: u32,
@@ -68,7 +70,7 @@ fn end_byte(size: usize, start: OriginalByte, end: OriginalByte) -> EndByte
 }
 
 // A pair's answer in numbers.
-#[derive(Drop)]
+#[derive(Clone, Copy)]
 pub struct Pair {
     pub number: u8,
     pub start: u32,

@@ -1,4 +1,6 @@
 // What every call on a passed note, a passed text or passed buffers judges first (RULES 2).
+#![tactic(auto)]
+
 ghost use Rattle.std.specs.Prelude.{◌≡◌, true, ◌&&◌, min};
 ghost use Rattle.utf8.specs.Formed.{well_formed};
 ghost use Rattle.validity.specs.Texts.{ascii};

@@ -1,5 +1,7 @@
 // The bytes of 64 code points of at most three bytes each, without a branch for each.
 // Each function here is an inner one: its callers have judged the code points and measured the room before.
+#![tactic(auto)]
+
 ghost use Rattle.std.specs.Prelude.{◌≡◌, cond, ◌+◌, ◌≤◌, length, get_or};
 ghost use Rattle.buffers.specs.Columns.{Filled};
 ghost use Rattle.buffers.specs.Splice.{splice};

@@ -1,4 +1,6 @@
 // Code points: judged, measured, and their bytes laid down.
+#![tactic(auto)]
+
 ghost use Rattle.std.specs.Prelude.{◌≡◌, true, ◌+◌, ◌≤◌, length};
 ghost use Rattle.buffers.specs.Over.{Over};
 ghost use Rattle.utf8.specs.Scalar.{bytes_of};
@@ -13,7 +15,7 @@ use utf8::encode_utf8;
 use utf8::lead::len_utf8;
 
 // Whether numbers are scalar values, and how many bytes those that are have.
-#[derive(Drop)]
+#[derive(Clone, Copy)]
 pub struct Judged {
     pub scalar: bool,
     pub size: usize,

@@ -1,4 +1,6 @@
 // Converting (RULES 4): a range of the transcript as a range of the cleaned text, and back.
+#![tactic(auto)]
+
 ghost use Rattle.std.specs.Prelude.{◌≡◌, ◌≤◌, ◌<◌, length, get_or};
 ghost use Rattle.note.specs.Notes.{lent, limit};
 ghost use Rattle.convert.specs.Converting.{as_normalized, as_original, converted, convert_offsets, end_of, expanded};
@@ -12,14 +14,14 @@ use note::rewrap::{same_in_normalized, same_in_original};
 use note::{NormalizedByte, OriginalByte, Refusal, Verdict};
 
 // The text that numbers are of (Rust: `OffsetReferential`).
-#[derive(Drop)]
+#[derive(Clone, Copy)]
 pub enum OffsetReferential {
     Original,
     Normalized,
 }
 
 // A range start..end, in the bytes of the one text or of the other (Rust: `Range`).
-#[derive(Drop)]
+#[derive(Clone, Copy)]
 pub enum Range {
     Original(OriginalByte, OriginalByte),
     Normalized(NormalizedByte, NormalizedByte),
@@ -57,14 +59,14 @@ pub fn end_of(range: Range) -> u32
 }
 
 // What a call that answers a range says; the range names its text.
-#[derive(Drop)]
+#[derive(Clone, Copy)]
 pub enum Converted {
     Found(Range),
     Refused(Refusal),
 }
 
 // The first and the last place that a walk over the alignments has found so far (Rust: `(start, end)`, two options).
-#[derive(Drop)]
+#[derive(Clone, Copy)]
 pub enum Places {
     Neither,
     Last(NormalizedByte),

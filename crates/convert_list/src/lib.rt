@@ -1,4 +1,6 @@
 // Converting a list of ranges over one note (RULES 15.3), which is checked once.
+#![tactic(auto)]
+
 ghost use Rattle.std.specs.Prelude.{◌≡◌, true, ◌-◌, ◌≤◌, ◌<◌, length, get_or};
 ghost use Rattle.note.specs.Notes.{lent, limit};
 ghost use Rattle.convert.specs.Converting.{converted, end_in, number_in, start_in};

@@ -11,7 +11,7 @@ use utf8::lead::{char_len, len_utf8};
 
 // How far an edit is: the running position in the cleaned text, how many bytes have been written so far, and whether
 // the last command found no character left. It is passed to each command and advanced there.
-#[derive(Drop)]
+#[derive(Clone, Copy)]
 pub struct Progress {
     pub position: NormalizedByte,
     pub written: usize,
@@ -19,7 +19,7 @@ pub struct Progress {
 }
 
 // How many bytes a script gives; or a replacing command of it finds no character left.
-#[derive(Drop)]
+#[derive(Clone, Copy)]
 pub enum Extent {
     Size(usize),
     Starved,

@@ -1,4 +1,6 @@
 // Whole-note edits (RULES 8; Rust: `filter`, `prepend`, `append`, `map`, `clear`).
+#![tactic(auto)]
+
 pub mod front;
 pub mod mapping;
 
@@ -11,7 +13,7 @@ use front::widthless;
 use note::{Refusal, Verdict};
 
 // What `clear` answers: how many bytes the cleaned text had, and how many are left; or why nothing is cleared.
-#[derive(Drop)]
+#[derive(Clone, Copy)]
 pub enum Clearing {
     Cleared(usize, usize),
     Refused(Refusal),

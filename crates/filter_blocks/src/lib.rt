@@ -1,5 +1,7 @@
 // The whole text filtered: where a note has no head (RULES 8), kept characters keep their alignments.
 // Each function here is an inner one: the text is well-formed, and has a flag for each character.
+#![tactic(auto)]
+
 ghost use Rattle.std.specs.Prelude.{◌≡◌, ◌+◌, ◌≤◌, length};
 ghost use Rattle.buffers.specs.Splice.{part, splice};
 ghost use Rattle.note.specs.Notes.{limit};
@@ -13,7 +15,7 @@ use utf8::continues;
 use utf8::lead::lead_len;
 
 // How far a filter is: the byte of the text and the flag that are next, and how many bytes have been written.
-#[derive(Drop)]
+#[derive(Clone, Copy)]
 pub struct Filtered {
     pub read: usize,
     pub flag: usize,

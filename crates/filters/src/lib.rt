@@ -1,4 +1,6 @@
 // Filtering (RULES 8; Rust: `filter`): a flag for each cleaned character, 0 drops it.
+#![tactic(auto)]
+
 ghost use Rattle.std.specs.Prelude.{◌≡◌, length};
 ghost use Rattle.utf8.specs.Chars.{chars};
 ghost use Rattle.note.specs.Notes.{lent, limit};

@@ -1,6 +1,8 @@
 // Finding a literal (RULES 9.4 to 9.6; Rust: `Pattern for &str`): leftmost matches without overlap, as a list that
 // covers the text. One search writes the list where the given room holds any; where it may not, another one
 // counts its places first.
+#![tactic(auto)]
+
 pub mod search;
 
 ghost use Rattle.std.specs.Prelude.{◌≡◌, ◌+◌, ◌≤◌, leb, length};
@@ -19,7 +21,7 @@ use pattern::writing::{room_for, write_place};
 use search::{first_match, next_match};
 
 // What finding says: how many bytes of the list were written.
-#[derive(Drop)]
+#[derive(Clone, Copy)]
 pub enum Matches {
     Written(usize),
     Refused(Refusal),

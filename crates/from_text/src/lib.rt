@@ -1,4 +1,6 @@
 // The note of a fresh text (RULES 1.6, 15.2; Rust: `NormalizedString::from`): each byte is aligned to its character.
+#![tactic(auto)]
+
 pub mod columns;
 
 ghost use Rattle.note.specs.Notes.{limit};

@@ -1,5 +1,7 @@
 // The characters of a text that cannot be seen (RULES 14.10): controls, white space other than U+0020, and what is
 // ignored by default. Which they are, and where the first one is in a text.
+#![tactic(auto)]
+
 ghost use Rattle.std.specs.Prelude.{◌≡◌, get_or};
 ghost use Rattle.invisible.specs.Ranges.{controls, ignorables, in_some, is_invisible, spaces};
 ghost use Rattle.invisible.specs.Characters.{code_at, code_of, first_invisible};

@@ -1,4 +1,6 @@
 // Lowercase for Latin notes (RULES 8.8; Rust: `lowercase`).
+#![tactic(auto)]
+
 pub mod dotted;
 pub mod table;
 pub mod text;

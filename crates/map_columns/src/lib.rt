@@ -1,6 +1,8 @@
 // Code points in the place of a text's characters: their bytes, and what a column has for each character, given to
 // them.
 // Each function here is an inner one: there are characters enough, and room for the result.
+#![tactic(auto)]
+
 ghost use Rattle.std.specs.Prelude.{◌≡◌, ◌+◌, ◌≤◌, length, replicate};
 ghost use Rattle.buffers.specs.Over.{Over};
 ghost use Rattle.map_columns.specs.Laying.{CodesLaid, CodesRoom, CharsLaid, CharsRoom, same_leads};
@@ -13,7 +15,7 @@ use utf8::continues;
 use utf8::lead::len_utf8;
 
 // How far the code points reach: in the text whose characters they replace, and in the buffers.
-#[derive(Drop)]
+#[derive(Clone, Copy)]
 pub struct Reached {
     pub position: usize,
     pub written: usize,

@@ -1,5 +1,7 @@
 // A names file (RULES 14.8): each line has a literal, a tab and a filler. Its lines are line_judged, and their words are
 // written end to end, with the size of each, as `word_pairs` takes them.
+#![tactic(auto)]
+
 ghost use Rattle.std.specs.Prelude.{◌≡◌, ◌+◌, ◌≤◌, ◌<◌, drop, length};
 ghost use Rattle.buffers.specs.Splice.{overlay};
 ghost use Rattle.name_lines.specs.Names.{line_judged, names_of, NamesRead, sizes_in, tab_at, words_in};
@@ -9,7 +11,7 @@ use buffers::copy_bytes;
 use validity::well_formed;
 
 // What is wrong with a line.
-#[derive(Drop)]
+#[derive(Clone, Copy)]
 pub enum LineFault {
     NotUtf8,
     NoTab,
@@ -18,7 +20,7 @@ pub enum LineFault {
 }
 
 // What is said of a line.
-#[derive(Drop)]
+#[derive(Clone, Copy)]
 enum Line {
     Good,
     Faulty(LineFault),
@@ -26,7 +28,7 @@ enum Line {
 
 // What is said of a names file: how many bytes of words and how many sizes were written; or the number of the first bad
 // line, counted from 1, and what is wrong with it.
-#[derive(Drop)]
+#[derive(Clone, Copy)]
 pub enum Names {
     Read(usize, usize),
     Bad(usize, LineFault),

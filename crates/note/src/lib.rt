@@ -1,4 +1,6 @@
 // The note's numbers, and the refusals of every call on it (RULES 1 and 2).
+#![tactic(auto)]
+
 pub mod rewrap;
 pub mod verdicts;
 
@@ -8,19 +10,19 @@ ghost use Rattle.note.specs.Notes.{before_end};
 use buffers::Offset;
 
 // A byte of the transcript (Rust: an offset in the referential `Original`).
-#[derive(Drop)]
+#[derive(Clone, Copy)]
 pub struct OriginalByte(pub u32);
 
 // A byte of the cleaned text (Rust: an offset in the referential `Normalized`).
-#[derive(Drop)]
+#[derive(Clone, Copy)]
 pub struct NormalizedByte(pub u32);
 
 // A character of a text, counted from 0 (Rust: `OffsetType::Char`).
-#[derive(Drop)]
+#[derive(Clone, Copy)]
 pub struct CharIndex(pub u32);
 
 // Why a call is refused, with its number and the word that the programs print (RULES 2).
-#[derive(Drop)]
+#[derive(Clone, Copy)]
 pub enum Refusal {
     IllFormed, // 1 torn
     TooLong, // 2 overlong
@@ -36,7 +38,7 @@ pub enum Refusal {
 }
 
 // What a call that answers no value says.
-#[derive(Drop)]
+#[derive(Clone, Copy)]
 pub enum Verdict {
     Accepted,
     Refused(Refusal),

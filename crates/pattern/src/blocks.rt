@@ -8,7 +8,7 @@ use numbers::little_endian::get_u16_le;
 use utf8::is_char_boundary;
 
 // Where the judged places of a list end, in the text and in the list.
-#[derive(Drop)]
+#[derive(Clone, Copy)]
 pub struct Judged {
     pub at: usize,
     pub next: usize,

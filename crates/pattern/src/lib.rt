@@ -1,5 +1,7 @@
 // Match lists (RULES 9): the one reader of a place, the one writer, and the judge of a list against a text.
 // No other crate knows how many bytes a place has.
+#![tactic(auto)]
+
 pub mod blocks;
 pub mod writing;
 
@@ -13,7 +15,7 @@ use numbers::little_endian::get_u16_le;
 use utf8::is_char_boundary;
 
 // A place of the cleaned text, and whether the pattern matched there (Rust: `(Offsets, bool)`).
-#[derive(Drop)]
+#[derive(Clone, Copy)]
 pub struct Place {
     pub start: NormalizedByte,
     pub end: NormalizedByte,
@@ -21,7 +23,7 @@ pub struct Place {
 }
 
 // What is at a byte of a list: a place, and where the next one begins; or an unknown command or a cut operand.
-#[derive(Drop)]
+#[derive(Clone, Copy)]
 pub enum Entry {
     At(Place, usize),
     Broken,

@@ -7,7 +7,7 @@ pub const LONGEST: usize = 8192;
 
 // What was seen of the input so far: the lines' lengths, counted up to one more than the longest, and the behaviour's
 // digit.
-#[derive(Drop)]
+#[derive(Clone, Copy)]
 pub enum Seen {
     Literal(usize), // some bytes of the first line
     Behavior(usize), // all of it

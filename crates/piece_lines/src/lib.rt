@@ -1,5 +1,7 @@
 // The program `pieces` (RULES 14.4 to 14.6) without its reading and writing: what it prints, from what is kept of the
 // input. Inner functions of the programs: the buffer passed to them has room for any answer, as `out_buffer` has.
+#![tactic(auto)]
+
 pub mod input;
 pub mod lines;
 

@@ -1,5 +1,7 @@
 // pieces < INPUT (RULES 14.4 to 14.6): the pieces that a literal and a behaviour cut a note into, to standard output.
 // What is printed comes from `piece_lines`; here the input is read to its end, and that is written.
+#![tactic(auto)]
+
 ghost use Rattle.std.specs.Prelude.{◌≡◌, length};
 ghost use Rattle.piece_lines.specs.Scanning.{head_size, Keeps};
 ghost use Rattle.pieces_main.specs.Reading.{ReadOn};
@@ -10,7 +12,7 @@ use piece_lines::{KEPT, answer, out_buffer};
 use standard_input::{Input, fill};
 
 // How far the input was read: more may follow, or it has ended, or it cannot be read.
-#[derive(Drop)]
+#[derive(Clone, Copy)]
 enum Reading {
     More(Seen),
     Ended(Seen),

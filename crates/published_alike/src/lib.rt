@@ -1,5 +1,7 @@
 // Whether two notes publish the same under one list and one content (RULES 15; the blanking claim as a call), found by
 // walking the list.
+#![tactic(auto)]
+
 ghost use Rattle.std.specs.Prelude.{◌≡◌, ℕ};
 ghost use Rattle.note.specs.Notes.{lent, limit};
 ghost use Rattle.note.specs.declared.Verdict.{Verdict};
@@ -16,7 +18,7 @@ use pattern::{Entry, Place, entry_at};
 use replace::{Publication, check_replace};
 
 // What the comparison answers.
-#[derive(Drop)]
+#[derive(Clone, Copy)]
 pub enum Comparison {
     Compared(bool),
     Refused(Refusal),

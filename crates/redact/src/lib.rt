@@ -1,6 +1,7 @@
 // Blanking a literal in a fresh text (RULES 15.5): what `replace` makes of the starting note by the literal's matches,
 // laid straight from the text (`redact_blocks`). All is judged and measured before the first store, and nothing twice:
 // the starting note is accepted (`StartingAccepted`), and what is found covers its text (`FoundCovers`).
+#![tactic(auto)]
 
 ghost use Rattle.std.specs.Prelude.{◌≡◌, ◌+◌, ◌≤◌, ◌<◌, min, leb};
 ghost use Rattle.validity_blocks.specs.Extremes.{largest};

@@ -1,5 +1,7 @@
 // Blanking several literals in a note (RULES 15.10): one after the other, each in what the one before left, and what is
 // left of them in the end. All steps are taken in buffers of the call's own before the first store into a passed one.
+#![tactic(auto)]
+
 ghost use Rattle.std.specs.Prelude.{◌≡◌, ◌≤◌, length};
 ghost use Rattle.buffers.specs.Splice.{overlay};
 ghost use Rattle.note.specs.Notes.{lent, limit};
@@ -19,7 +21,7 @@ use word_pairs::{Word, check_words, count_words, zeros};
 
 // How many bytes are published; how many literals were not found; how many can still be read in what is published; and
 // how many fillers the note had already.
-#[derive(Drop)]
+#[derive(Clone, Copy)]
 pub struct Report {
     pub len: usize,
     pub not_found: usize,
@@ -28,14 +30,14 @@ pub struct Report {
 }
 
 // What is published, or why nothing is.
-#[derive(Drop)]
+#[derive(Clone, Copy)]
 pub enum Redactions {
     Published(Report),
     Refused(Refusal),
 }
 
 // What the steps leave: so many bytes; or one of them has no room.
-#[derive(Drop)]
+#[derive(Clone, Copy)]
 pub enum Steps {
     Left(usize),
     Short,

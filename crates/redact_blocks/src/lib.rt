@@ -3,6 +3,8 @@
 // was laid beyond is overwritten by the content and the next block, and ends within the result. Where a block cannot be
 // laid, what is left is laid byte by byte.
 // Each function here is an inner one: text, literal and room were judged before.
+#![tactic(auto)]
+
 pub mod stretches;
 
 ghost use Rattle.std.specs.Prelude.{◌≡◌, ◌≤◌, ◌<◌, length, take};
@@ -17,7 +19,7 @@ use find::search::{first_candidate, occurs_at};
 use stretches::{fill, fill_exact, lay_block, lay_byte};
 
 // How far a result is laid: the text's bytes before `i` are what it has before `at`.
-#[derive(Drop)]
+#[derive(Clone, Copy)]
 pub struct Reached {
     pub i: usize,
     pub at: usize,

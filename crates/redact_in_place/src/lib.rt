@@ -1,4 +1,6 @@
 // Blanking in place, so that literals are blanked one after the other: each in what the one before left.
+#![tactic(auto)]
+
 ghost use Rattle.std.specs.Prelude.{◌≡◌, length, ◌+◌, ◌*◌};
 ghost use Rattle.note.specs.Notes.{limit};
 ghost use Rattle.pattern.specs.Encoding.{room_for};

@@ -15,7 +15,7 @@ const ROOM: usize = 262144;
 const FIRST: usize = 4;
 
 // How many bytes and how many words there are; or there are none to use, and that was said.
-#[derive(Drop)]
+#[derive(Clone, Copy)]
 pub enum Gathered {
     Words(usize, usize),
     Refused,

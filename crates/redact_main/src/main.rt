@@ -2,6 +2,8 @@
 // script `redact` calls it (RULES 14.1 and 14.2): blanks the literals in a note, one after the other, and writes the
 // text, or the alignments, to standard output. What is blanked and counted comes from `redact_all`, the pairs of a names
 // file from `name_lines`; here the words are gathered, and the result is written, or not.
+#![tactic(auto)]
+
 mod gathering;
 mod lines;
 mod messages;

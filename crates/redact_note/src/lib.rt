@@ -1,6 +1,8 @@
 // Blanking a literal in a note (RULES 15.8): the matches of the literal in the cleaned text, and the replacement by
 // them, in one call. All is judged and counted before the first store, and the note once: a found list covers its text
 // (`FoundCovers`), and its size follows from the number of matches.
+#![tactic(auto)]
+
 ghost use Rattle.std.specs.Prelude.{◌≡◌, ◌≤◌, leb, length};
 ghost use Rattle.note.specs.Notes.{lent, limit};
 ghost use Rattle.note.specs.Refusals.{verdict};
@@ -20,7 +22,7 @@ use replace::laying::lay_out;
 use replace::result_len;
 
 // What is published: how many bytes, and how many matches gave way; or why nothing is.
-#[derive(Drop)]
+#[derive(Clone, Copy)]
 pub enum Redaction {
     Published(usize, usize),
     Refused(Refusal),

@@ -1,5 +1,7 @@
 // Replacing (RULES 10; Rust: `NormalizedString::replace`): matched places of the cleaned text give way to the content,
 // the filler.
+#![tactic(auto)]
+
 pub mod laying;
 
 ghost use Rattle.std.specs.Prelude.{◌≡◌, ◌+◌, min, length};
@@ -19,7 +21,7 @@ use note::{LIMIT, Refusal, Verdict};
 use pattern::{Entry, Place, covers, entry_at};
 
 // What is published: how many bytes; or why nothing is.
-#[derive(Drop)]
+#[derive(Clone, Copy)]
 pub enum Publication {
     Published(usize),
     Refused(Refusal),

@@ -1,5 +1,7 @@
 // Replacing by edits (RULES 16; Rust: the call of `transform_range` that a comment in `replace` names): one matched place
 // after the other is edited as a range of the cleaned text, from the end of the list to its front.
+#![tactic(auto)]
+
 pub mod road;
 
 ghost use Rattle.std.specs.Prelude.{◌≡◌, length};

@@ -15,7 +15,7 @@ use note::before_end;
 use pattern::{Place, most_places, place_at};
 
 // How many bytes the note in between has, and whether it is in front of the second set or of the first.
-#[derive(Drop)]
+#[derive(Clone, Copy)]
 pub struct Current {
     pub len: usize,
     pub in_second: bool,

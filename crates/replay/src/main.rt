@@ -1,6 +1,8 @@
 // Replays fixed lists of the Rust original's answers on the exported calls, and prints for each call how many there
 // are and how many differ. `compare/run list` wrote the lists; compare/src/list.rs says how they are laid out. Each
 // call has a file, a name in the file `calls` and an arm here.
+#![tactic(auto)]
+
 mod matches;
 mod notes;
 mod ranges;
@@ -20,7 +22,7 @@ use stored_answers::unpack::unpack;
 const CASE: usize = 3145728;
 
 // How many answers were replayed, and how many of them differ.
-#[derive(Drop)]
+#[derive(Clone, Copy)]
 struct Tally {
     answers: u64,
     differing: u64,

@@ -1,5 +1,7 @@
 // Edit scripts (RULES 7): the one reader of a command, and the judge of a script.
 // No other crate knows how many bytes a command has.
+#![tactic(auto)]
+
 ghost use Rattle.std.specs.Prelude.{◌≡◌, ◌+◌, ◌≤◌, length};
 ghost use Rattle.script.specs.Scripts.{command_at, removal_at, whole, command_size};
 
@@ -8,7 +10,7 @@ use utf8::lead::len_utf8;
 
 // A character of the new text, and what it does to the old one (Rust: `(char, isize)`): it is added, the Rust's 1;
 // or it replaces a character and removes so many after it, the Rust's 0 and -1, -2 and so on.
-#[derive(Drop)]
+#[derive(Clone, Copy)]
 pub struct Command {
     pub character: u32,
     pub added: bool,
@@ -16,7 +18,7 @@ pub struct Command {
 }
 
 // What is at a byte of a script: a command, and where the next one begins; or none.
-#[derive(Drop)]
+#[derive(Clone, Copy)]
 pub enum Entry {
     At(Command, usize),
     Broken,

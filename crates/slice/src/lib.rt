@@ -1,4 +1,6 @@
 // Slicing (RULES 6; Rust: `validate_range`, `slice`): the part of a note that a range of either text names.
+#![tactic(auto)]
+
 ghost use Rattle.std.specs.Prelude.{◌≡◌, cond};
 ghost use Rattle.buffers.specs.Splice.{splice};
 ghost use Rattle.note.specs.Notes.{lent, limit};
@@ -14,7 +16,7 @@ use note::{NormalizedByte, OriginalByte, Refusal, Verdict};
 use utf8::is_char_boundary;
 
 // A slice of a note: which bytes of the transcript and which of the cleaned text it has, and its own shift.
-#[derive(Drop)]
+#[derive(Clone, Copy)]
 pub struct NoteSlice {
     pub original_start: OriginalByte,
     pub original_end: OriginalByte,
@@ -24,7 +26,7 @@ pub struct NoteSlice {
 }
 
 // What `slice` says: the slice, whose alignments it has written; or why there is none.
-#[derive(Drop)]
+#[derive(Clone, Copy)]
 pub enum Sliced {
     Cut(NoteSlice),
     Refused(Refusal),

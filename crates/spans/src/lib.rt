@@ -1,5 +1,7 @@
 // Where the pieces of a match list start and end (RULES 11), written into passed columns: both ends of a piece in one
 // number first, so that a place is read and stored at once. Inner functions: the list and the room were judged before.
+#![tactic(auto)]
+
 ghost use Rattle.std.specs.Prelude.{◌≡◌};
 ghost use Rattle.note.specs.Notes.{limit};
 ghost use Rattle.behaviors.specs.declared.SplitDelimiterBehavior.TheVariants.{Isolated};

@@ -1,5 +1,7 @@
 // Splitting (RULES 11; Rust: `NormalizedString::split`, `PreTokenizedString::split`): a note cut into pieces by a match
 // list, each piece the slice of its cleaned range.
+#![tactic(auto)]
+
 ghost use Rattle.std.specs.Prelude.{◌≡◌, true, ◌+◌, ◌^◌, ◌≤◌, ◌<◌, length};
 ghost use Rattle.buffers.specs.Over.{Over};
 ghost use Rattle.buffers.specs.Splice.{part, splice};
@@ -21,7 +23,7 @@ use slice::write_lowered;
 use spans::write_spans;
 
 // What `split` says: how many pieces there are, and how many alignments they have; or why there are none.
-#[derive(Drop)]
+#[derive(Clone, Copy)]
 pub enum Pieces {
     Cut(usize, usize),
     Refused(Refusal),

@@ -1,4 +1,6 @@
 // Split offsets (RULES 13; Rust: `PreTokenizedString::get_splits`, without tokens): where the pieces of a note stand.
+#![tactic(auto)]
+
 ghost use Rattle.std.specs.Prelude.{◌≡◌, ◌≤◌, length};
 ghost use Rattle.note.specs.Notes.{lent, limit};
 ghost use Rattle.note.specs.Refusals.{verdict};
@@ -17,7 +19,7 @@ use pattern::{covers, most_places};
 use spans::{span_end, span_start, write_packed};
 
 // What `get_splits` says: how many pieces there are; or why there are none.
-#[derive(Drop)]
+#[derive(Clone, Copy)]
 pub enum Splits {
     Listed(usize),
     Refused(Refusal),

@@ -1,9 +1,11 @@
 // A file that is open, as standard input, read into a passed buffer. Which bytes come is the system's; how many at most,
 // and that reading ends, is proved.
+#![tactic(auto)]
+
 ghost use Rattle.standard_input.specs.Counting.{Within};
 
 // What reading answers: how many bytes there are, or that they cannot be read.
-#[derive(Drop)]
+#[derive(Clone, Copy)]
 pub enum Input {
     Bytes(usize),
     Unread,

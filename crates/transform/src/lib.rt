@@ -1,4 +1,6 @@
 // Editing (RULES 7; Rust: `transform_range`, `transform`): a script makes a range of the cleaned text anew.
+#![tactic(auto)]
+
 ghost use Rattle.note.specs.Notes.{lent, limit};
 ghost use Rattle.script.specs.Scripts.{commands_of};
 ghost use Rattle.edit_steps.specs.Laying.{Editable};
@@ -14,7 +16,7 @@ use script::whole;
 use utf8::is_char_range;
 
 // How many bytes the cleaned text has after an edit; or why nothing is edited.
-#[derive(Drop)]
+#[derive(Clone, Copy)]
 pub enum Editing {
     Edited(usize),
     Refused(Refusal),

@@ -1,4 +1,6 @@
 // Characters: announced lengths, well-formed UTF-8, boundaries, character counts, a scalar value's bytes.
+#![tactic(auto)]
+
 pub mod count;
 pub mod lead;
 pub mod ranges;
@@ -44,7 +46,7 @@ fn is_scalar(c: u32) -> bool
 
 // A scalar value's bytes (the Unicode Standard, Table 3-6): the first `len` of `bytes`, the rest 0.
 // A number that is no scalar value has none.
-#[derive(Drop)]
+#[derive(Clone, Copy)]
 pub struct Encoded {
     pub len: usize,
     pub bytes: [u8; 4],

@@ -1,4 +1,6 @@
 // Whether a text is well-formed UTF-8, judged in blocks: each byte by itself and the three before it.
+#![tactic(auto)]
+
 ghost use Rattle.std.specs.Prelude.{◌≡◌, ◌+◌, ◌-◌, ◌≤◌, ◌<◌, length};
 ghost use Rattle.utf8.specs.Formed.{well_formed};
 ghost use Rattle.validity.specs.Texts.{ascii};

@@ -19,7 +19,7 @@ pub fn largest(s: &[u8]) -> u8
 
 // The largest byte of a text, or 0, and its least lead byte, counted from C0 on, or 0x40: counted so, and around past
 // FF, lead bytes are the least of all.
-#[derive(Drop)]
+#[derive(Clone, Copy)]
 pub struct Bounds {
     pub most: u8,
     pub least: u8,

@@ -1,5 +1,7 @@
 // Lists of pairs, a literal and its filler each (RULES 15.10): the bytes of all words end to end, and the size of each.
 // They are judged, and how often their words are in a text is counted.
+#![tactic(auto)]
+
 ghost use Rattle.std.specs.Prelude.{◌≡◌, ◌≤◌, length};
 ghost use Rattle.buffers.specs.Splice.{overlay};
 ghost use Rattle.note.specs.Notes.{limit};
@@ -16,7 +18,7 @@ use redact_note::count_matches;
 use validity::well_formed;
 
 // One word of a pair.
-#[derive(Drop)]
+#[derive(Clone, Copy)]
 pub enum Word {
     Literal,
     Filler,

@@ -20,7 +20,7 @@ use transform::Editing;
 
 // A count, 0 where the call is refused.
 #[repr(C)]
-#[derive(Drop)]
+#[derive(Clone, Copy)]
 pub struct Count {
     pub refusal: u32,
     pub count: u32,
@@ -28,7 +28,7 @@ pub struct Count {
 
 // A range or a pair, 0 and 0 where the call is refused.
 #[repr(C)]
-#[derive(Drop)]
+#[derive(Clone, Copy)]
 pub struct Offsets {
     pub refusal: u32,
     pub start: u32,
@@ -37,7 +37,7 @@ pub struct Offsets {
 
 // How many elements the result has: bytes of a text or list, or pieces; 0 where the call is refused.
 #[repr(C)]
-#[derive(Drop)]
+#[derive(Clone, Copy)]
 pub struct Written {
     pub refusal: u32,
     pub len: usize,
@@ -45,7 +45,7 @@ pub struct Written {
 
 // Whether two notes are published alike, false where the call is refused.
 #[repr(C)]
-#[derive(Drop)]
+#[derive(Clone, Copy)]
 pub struct Comparison {
     pub refusal: u32,
     pub alike: bool,
@@ -53,7 +53,7 @@ pub struct Comparison {
 
 // The ranges of a slice in both texts, and its shift; 0 each where the call is refused.
 #[repr(C)]
-#[derive(Drop)]
+#[derive(Clone, Copy)]
 pub struct Slice {
     pub refusal: u32,
     pub original_start: u32,
@@ -65,7 +65,7 @@ pub struct Slice {
 
 // How many pieces there are, and how many alignments they have together; 0 each where the call is refused.
 #[repr(C)]
-#[derive(Drop)]
+#[derive(Clone, Copy)]
 pub struct Cut {
     pub refusal: u32,
     pub len: usize,
@@ -74,7 +74,7 @@ pub struct Cut {
 
 // How many bytes a text had and has, 0 and 0 where the call is refused.
 #[repr(C)]
-#[derive(Drop)]
+#[derive(Clone, Copy)]
 pub struct Lengths {
     pub refusal: u32,
     pub before_len: usize,
@@ -83,7 +83,7 @@ pub struct Lengths {
 
 // How many bytes are published, and how many matches gave way; 0 each where the call is refused.
 #[repr(C)]
-#[derive(Drop)]
+#[derive(Clone, Copy)]
 pub struct Blanked {
     pub refusal: u32,
     pub len: usize,
@@ -93,7 +93,7 @@ pub struct Blanked {
 // How many bytes are published; how many literals were not found, how many can still be read in what is published, and
 // how many fillers the note had already; 0 each where the call is refused.
 #[repr(C)]
-#[derive(Drop)]
+#[derive(Clone, Copy)]
 pub struct BlankedAll {
     pub refusal: u32,
     pub len: usize,

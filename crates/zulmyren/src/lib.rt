@@ -1,4 +1,6 @@
 // The exported calls, for C and Rust, by family: include/zulmyren.h says what each means. Nothing else is exported.
+#![tactic(auto)]
+
 pub mod answers;
 pub mod editing;
 pub mod matches;

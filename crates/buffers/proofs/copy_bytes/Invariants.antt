@@ -1,0 +1,11 @@
+-- Each turn writes one more element of the source.
+use Prim.Native.Nat.{◌-◌}
+use lib.ListN.{length}
+use Rattle.buffers.proofs.Splice.{Written}
+use Rattle.buffers.proofs.copy_bytes.Given as goal
+
+abbrev pub invariant-loop-j : goal.invariant-loop-j
+invariant-loop-j l = Written l.src l.initial.dst l.at l.dst l.j
+
+abbrev pub decreases-loop-j : goal.decreases-loop-j
+decreases-loop-j l = length l.src - l.j

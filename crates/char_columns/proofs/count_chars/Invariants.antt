@@ -1,0 +1,11 @@
+-- Each turn turns one more pair of offsets into characters.
+use Prim.Native.Nat.{◌-◌}
+use Rattle.note.specs.Notes.{limit}
+use Rattle.char_columns.proofs.Pairs.{Counting}
+use Rattle.char_columns.proofs.count_chars.Given as goal
+
+abbrev pub invariant-loop-k : goal.invariant-loop-k
+invariant-loop-k l = Counting limit l.text l.count l.from₀ l.to₀ l.first l.last l.k l.from l.to
+
+abbrev pub decreases-loop-k : goal.decreases-loop-k
+decreases-loop-k l = l.count - l.k

@@ -1,0 +1,36 @@
+-- The text's refusal comes first; then both ends by a walk from the text's start.
+use mathlib.Core.Path.{sym, ◌∙◌}
+use native.Mathlib.Omega.{arith}
+use Rattle.note.proofs.Faults.{text-short}
+use Rattle.char_offsets.proofs.IndexOf.{index-most}
+use Rattle.char_offsets.proofs.PairTold.{told-chars}
+use Rattle.char_offsets.proofs.CharOffsetsList.{known-none, pair-refused, pair-missing, pair-chars}
+use Rattle.char_offsets.proofs.char_offsets.Goals as goal
+
+pub returns-in-Refused : goal.returns-in-Refused
+returns-in-Refused c = pair-refused _ _ _ _ c.check_text.ensures c.in-Refused.is
+
+pub returns-then-text-start : goal.returns-then-text-start
+returns-then-text-start c = pair-missing _ _ _ _ c.check_text.ensures c.in_default.is c.if-text-start.true
+
+pub index_from-first-requires : goal.index_from-first-requires
+index_from-first-requires c =
+    record { index_known = known-none (text-short _ _ (sym c.check_text.ensures ∙ c.in_default.is)); to_in_bounds = omega arith }
+
+pub index_from-past-requires : goal.index_from-past-requires
+index_from-past-requires c =
+    let both = let short = text-short _ _ (sym c.check_text.ensures ∙ c.in_default.is) in
+    (record { short = short; inside = omega arith; so_far = c.index_from-first.ensures }, c.end_byte-last.ensures.inside) in record { index_known = both.0; to_in_bounds = both.1 }
+
+pub overflow_add-result : goal.overflow_add-result
+overflow_add-result c =
+    let last = c.end_byte-last in
+    let short = text-short _ _ (sym c.check_text.ensures ∙ c.in_default.is) in
+    let most = index-most c.args.text.now last.result.byte.0 in
+    omega (arith, c.index_from-past.ensures, most, last.ensures.inside, last.ensures.little, short)
+
+pub returns : goal.returns
+returns c =
+    let below = c.if-text-start.false in
+    pair-chars _ _ _ _ c.check_text.ensures c.in_default.is below
+    (told-chars _ _ _ below c.index_from-first.ensures c.end_byte-last.ensures c.index_from-past.ensures)

@@ -1,0 +1,19 @@
+-- The steps are small enough to stand after the base, and lead to where the characters end.
+use Prim.Native.Nat.{◌+◌, ◌-◌, ◌%◌}
+use mathlib.Core.Path.{refl}
+use native.Mathlib.Omega.{arith}
+use lib.ListN.{get_or}
+use Rattle.buffers.specs.Splice.{part}
+use Rattle.column_blocks.proofs.TwoBeside.{pair_small, steps-most, pairs-ends}
+use Rattle.column_blocks.proofs.pairs.ends_block.Goals as goal
+
+pub add_base-requires : goal.add_base-requires
+add_base-requires c =
+    let both = let counted = c.count_ahead.ensures in
+    let i = c.args.i in
+    let s = c.args.text.now in
+    (omega (arith, counted.same), λ k. omega (arith, steps-most ((i - 2) % 64 + 68) refl counted (λ j h. omega (arith, pair_small (get_or (part s (i + 1) (i + 65)) j 0) (get_or (part s (i + 2) (i + 66)) j 0))) k)) in record { steps_len = both.0; by_index = both.1 }
+
+pub returns : goal.returns
+returns c =
+    pairs-ends c.args.text.now c.requires.text_value.0 c.requires.text_value.2 c.args.i ((c.args.i - 2) % 64) c.args.at _ _ _ _ (omega arith) (omega arith) (omega arith) c.count_ahead.ensures c.add_base.ensures

@@ -1,0 +1,16 @@
+-- The steps are small enough to stand after the base, and lead to where the characters begin.
+use Prim.Native.Nat.{◌+◌, ◌-◌, ◌%◌}
+use mathlib.Core.Path.{refl}
+use native.Mathlib.Omega.{arith}
+use Rattle.column_blocks.proofs.TwoBeside.{steps-most, pairs-starts}
+use Rattle.column_blocks.proofs.pairs.starts_block.Goals as goal
+
+pub add_base-requires : goal.add_base-requires
+add_base-requires c =
+    let both = let counted = c.count_back.ensures in
+    let i = c.args.i in
+    (omega (arith, counted.same), λ k. omega (arith, steps-most ((i - 2) % 64 + 65) refl counted (λ j h. omega arith) k)) in record { steps_len = both.0; by_index = both.1 }
+
+pub returns : goal.returns
+returns c =
+    pairs-starts c.args.text.now c.requires.text_value.0 c.requires.text_value.2 c.args.i ((c.args.i - 2) % 64) c.args.at _ _ _ _ (omega arith) (omega arith) (omega arith) c.count_back.ensures c.add_base.ensures

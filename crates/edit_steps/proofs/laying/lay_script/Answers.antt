@@ -1,0 +1,55 @@
+use Prim.Native.Nat.{◌-◌, ◌^◌, ◌<◌}
+use lib.ListN.{length}
+use native.Mathlib.Omega.{arith}
+use Rattle.script.proofs.Scripts.{Stepped, entry-step, entry-broken, entries-end}
+use Rattle.edit_steps.proofs.Given.{none_going, command-room, counting, going-over, below_all, gone}
+use Rattle.edit_steps.proofs.laying.lay_script.Goals as goal
+
+-- the command that a turn reads, and where it goes on
+step : (c : goal.In-At-2) → Stepped (c).args.script.now c.loop-i.i c.in-At.command c.in-At.next
+step c = entry-step _ c.entry_at.ensures c.in-At.is
+
+pub loop-i-init : goal.loop-i-init
+loop-i-init c = (omega arith, none_going c.requires.0)
+
+pub lay_command-requires : goal.lay_command-requires
+lay_command-requires c =
+    (command-room c.requires.0 c.loop-i.invariant.1 (step c.before.before.before.before).commands, below_all c.requires.0 c.loop-i.invariant.1 c.requires.1)
+
+pub advanced-progress-requires : goal.advanced-progress-requires
+advanced-progress-requires c =
+    let long : length c.args.out.now < 2 ^ 64 = c.good.1.1.1.1.1.1.0.0 in
+    counting c.requires.0 c.loop-i.invariant.1 (step c.before.before.before.before.before.before.before.before.before.before.before).commands long
+
+pub loop-i-smaller : goal.loop-i-smaller
+loop-i-smaller c =
+    omega (arith, step c.before.before.before.before.before.before.before.before.before.before.before.before)
+
+pub loop-i-preserved : goal.loop-i-preserved
+loop-i-preserved c =
+    ((step c.before.before.before.before.before.before.before.before.before.before.before.before).most, going-over (c).pre.0 c.loop-i.invariant.1 (step c.before.before.before.before.before.before.before.before.before.before.before.before).commands c.lay_command.ensures (c).pre.1 c.advanced-progress.ensures)
+
+pub shape_of-out-in-Broken : goal.shape_of-out-in-Broken
+shape_of-out-in-Broken c = c.loop-i.invariant.1.text_laid.same
+
+pub shape_of-out_starts-in-Broken : goal.shape_of-out_starts-in-Broken
+shape_of-out_starts-in-Broken c = c.loop-i.invariant.1.starts_laid.same
+
+pub shape_of-out_ends-in-Broken : goal.shape_of-out_ends-in-Broken
+shape_of-out_ends-in-Broken c = c.loop-i.invariant.1.ends_laid.same
+
+pub returns-in-Broken : goal.returns-in-Broken
+returns-in-Broken c =
+    gone c.requires.0 c.loop-i.invariant.1 (entry-broken _ c.loop-i-test.true c.entry_at.ensures c.in-Broken.is).0
+
+pub shape_of-out : goal.shape_of-out
+shape_of-out c = c.loop-i.invariant.1.text_laid.same
+
+pub shape_of-out_starts : goal.shape_of-out_starts
+shape_of-out_starts c = c.loop-i.invariant.1.starts_laid.same
+
+pub shape_of-out_ends : goal.shape_of-out_ends
+shape_of-out_ends c = c.loop-i.invariant.1.ends_laid.same
+
+pub returns : goal.returns
+returns c = gone c.requires.0 c.loop-i.invariant.1 (entries-end _ c.loop-i-test.false).0

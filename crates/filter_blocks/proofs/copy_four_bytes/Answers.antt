@@ -1,0 +1,10 @@
+-- The local array holds the four elements, and they are copied from there.
+use Prim.Native.Nat.{◌+◌}
+use native.Mathlib.Omega.{arith}
+use Rattle.buffers.proofs.Splice.{length_part}
+use Rattle.buffers.proofs.Over.{through}
+use Rattle.filter_blocks.proofs.copy_four_bytes.Goals as goal
+
+pub returns : goal.returns
+returns c =
+    through _ _ _ _ (omega (arith, length_part c.args.src.now c.args.i (c.args.i + 4) c.requires.0)) c.copy_bytes.ensures c.copy_bytes-2.ensures

@@ -1,0 +1,97 @@
+-- The range first, then whether there are characters enough, then the room; past these the result is laid down.
+use Prim.Native.Nat.{◌-◌, ◌^◌, ◌<◌}
+use lib.ListN.{length}
+use native.Mathlib.Omega.{arith}
+use Rattle.note.specs.Notes.{limit}
+use Rattle.transform.proofs.Verdicts.{not-placed, from-standing, range_inside, starved-refused, refused-kept, refused-size, edit-room, edit-made}
+use Rattle.filters.specs.Flags.{skips, flag_commands}
+use Rattle.filters.proofs.Counted.{begun-skipped}
+use Rattle.filters.proofs.edit_flags.Goals as goal
+
+pub returns-then-not-is_char_range : goal.returns-then-not-is_char_range
+returns-then-not-is_char_range c =
+    not-placed limit c.requires.0 c.args.from.0 c.args.to.0 (skips c.args.flags.now)
+    (flag_commands c.args.text.now c.args.flags.now) c.args.out.now c.args.out_starts.now
+    c.args.out_ends.now c.is_char_range.ensures c.if-not-is_char_range.true
+
+pub measure_flags-requires : goal.measure_flags-requires
+measure_flags-requires c =
+    record {
+      standing =
+          from-standing limit c.requires.0 c.args.from.0 c.args.to.0 (skips c.args.flags.now)
+          (flag_commands c.args.text.now c.args.flags.now) c.args.out.now c.args.out_starts.now
+          c.args.out_ends.now c.is_char_range.ensures c.if-not-is_char_range.false;
+      counted = c.requires.1;
+    }
+
+pub overflow_sub-kept : goal.overflow_sub-kept
+overflow_sub-kept c =
+    (range_inside limit c.requires.0 c.args.from.0 c.args.to.0 (skips c.args.flags.now)
+    (flag_commands c.args.text.now c.args.flags.now) c.args.out.now c.args.out_starts.now
+    c.args.out_ends.now c.is_char_range.ensures c.if-not-is_char_range.left).1
+
+pub overflow_add-kept : goal.overflow_add-kept
+overflow_add-kept c =
+    let entry = entry (c) in
+    let range =
+    range_inside limit entry.pre.0 entry.args.from.0 entry.args.to.0 (skips entry.args.flags.now)
+    (flag_commands entry.args.text.now entry.args.flags.now) entry.args.out.now entry.args.out_starts.now
+    entry.args.out_ends.now (c).is-char-range.ensures c.if-not-is_char_range.false in
+    let long : length entry.args.text.now < 2 ^ 64 = entry.good.0.0 in
+    omega (arith, long, range.0, range.1)
+
+pub returns-then-room-kept : goal.returns-then-room-kept
+returns-then-room-kept c =
+    refused-kept limit c.requires.0 c.args.from.0 c.args.to.0 (skips c.args.flags.now)
+    (flag_commands c.args.text.now c.args.flags.now) c.args.out.now c.args.out_starts.now
+    c.args.out_ends.now c.is_char_range.ensures c.if-not-is_char_range.left
+    (begun-skipped c.args.text.now c.args.to.0 c.args.from.0 c.args.flags.now)
+    c.measure_flags.ensures c.in-Size.is c.least_room.ensures
+    c.least_of_two-room.ensures c.if-room-kept.true
+
+pub returns-then-room-kept-2 : goal.returns-then-room-kept-2
+returns-then-room-kept-2 c =
+    refused-size limit c.requires.0 c.args.from.0 c.args.to.0 (skips c.args.flags.now)
+    (flag_commands c.args.text.now c.args.flags.now) c.args.out.now c.args.out_starts.now
+    c.args.out_ends.now c.is_char_range.ensures c.if-not-is_char_range.left
+    (begun-skipped c.args.text.now c.args.to.0 c.args.from.0 c.args.flags.now)
+    c.measure_flags.ensures c.in-Size.is c.least_room.ensures
+    c.least_of_two-room.ensures c.if-room-kept.false c.if-room-kept-2.true
+
+pub lay_filtered-requires : goal.lay_filtered-requires
+lay_filtered-requires c =
+    record {
+      ready =
+          record {
+            standing =
+                from-standing limit c.requires.0 c.args.from.0 c.args.to.0 (skips c.args.flags.now)
+                (flag_commands c.args.text.now c.args.flags.now) c.args.out.now c.args.out_starts.now
+                c.args.out_ends.now c.is_char_range.ensures c.if-not-is_char_range.left;
+            counted = c.requires.1;
+          };
+      rooms =
+          edit-room limit c.requires.0 c.args.from.0 c.args.to.0 (skips c.args.flags.now)
+          (flag_commands c.args.text.now c.args.flags.now) c.args.out.now c.args.out_starts.now
+          c.args.out_ends.now c.is_char_range.ensures c.if-not-is_char_range.left
+          (begun-skipped c.args.text.now c.args.to.0 c.args.from.0 c.args.flags.now)
+          c.measure_flags.ensures c.in-Size.is c.least_room.ensures
+          c.least_of_two-room.ensures c.if-room-kept.false c.if-room-kept-2.false;
+    }
+
+pub returns-in-Starved : goal.returns-in-Starved
+returns-in-Starved c =
+    starved-refused limit c.requires.0 c.args.from.0 c.args.to.0 (skips c.args.flags.now)
+    (flag_commands c.args.text.now c.args.flags.now) c.args.out.now c.args.out_starts.now
+    c.args.out_ends.now c.is_char_range.ensures c.if-not-is_char_range.false
+    (begun-skipped c.args.text.now c.args.to.0 c.args.from.0 c.args.flags.now)
+    c.measure_flags.ensures c.in-Starved.is
+
+pub returns-else-room-kept-2 : goal.returns-else-room-kept-2
+returns-else-room-kept-2 c =
+    edit-made limit c.requires.0 c.args.from.0 c.args.to.0 (skips c.args.flags.now)
+    (flag_commands c.args.text.now c.args.flags.now) c.args.out.now c.args.out_starts.now
+    c.args.out_ends.now c.is_char_range.ensures c.if-not-is_char_range.left
+    (begun-skipped c.args.text.now c.args.to.0 c.args.from.0 c.args.flags.now)
+    c.measure_flags.ensures c.in-Size.is c.least_room.ensures
+    c.least_of_two-room.ensures c.if-room-kept.false
+    c.if-room-kept-2.false c.lay_filtered.ensures

@@ -1,0 +1,38 @@
+-- Text and literal are judged together, then the room; past both the list is written.
+use mathlib.Core.Path.{◌≡◌, ◌∙◌, sym}
+use borrow.Author.Tests.{leb-true, not-false}
+use Rattle.note.specs.Refusals.{also, verdict}
+use Rattle.note.specs.Notes.{limit}
+use Rattle.note.specs.Faults.{text_faults, string_faults}
+use Rattle.note.proofs.FirstMet.{earlier-of, accepted-first}
+use Rattle.note.proofs.Faults.{text-short}
+use Rattle.find.proofs.Found.{input-refused, room-refused, list_written}
+use Rattle.find.proofs.find_matches.Goals as goal
+
+-- the verdict of both inputs
+judged : (c : goal.After-earlier) → c.earlier.result ≡ verdict (also (text_faults limit c.args.text.now) (string_faults c.args.literal.now))
+judged c = earlier-of _ _ c.check_text.ensures c.check_string.ensures c.earlier.ensures
+
+pub returns-in-Refused : goal.returns-in-Refused
+returns-in-Refused c = input-refused _ _ _ _ (judged c.before.before.before) c.in-Refused.is
+
+pub list_fits-requires : goal.list_fits-requires
+list_fits-requires c =
+    (text-short _ _ (accepted-first _ (string_faults c.args.literal.now) (sym (judged c.before.before.before) ∙ c.in_default.is)), c.first_match-first.ensures)
+
+pub returns-then-not-list_fits : goal.returns-then-not-list_fits
+returns-then-not-list_fits c =
+    room-refused _ _ _ _ (judged c.before.before.before.before.before) c.in_default.is c.list_fits.ensures c.if-not-list_fits.true
+
+pub write_list-requires : goal.write_list-requires
+write_list-requires c =
+    (
+      text-short _ _ (accepted-first _ (string_faults c.args.literal.now) (sym (judged c.before.before.before.before.before.before) ∙ c.in_default.is)),
+      c.first_match-first.ensures,
+      leb-true _ _ (sym c.list_fits.ensures ∙ not-false _ c.if-not-list_fits.false),
+    )
+
+pub returns : goal.returns
+returns c =
+    list_written _ _ _ _ (judged c.before.before.before.before.before.before.before.before.before) c.in_default.is
+    c.list_fits.ensures c.if-not-list_fits.false c.write_list.ensures

@@ -1,0 +1,32 @@
+-- The text's refusal stands; past the two checks the columns are written.
+use mathlib.Core.Path.{◌≡◌, ◌∙◌, sym}
+use native.Mathlib.Omega.{arith}
+use Rattle.note.specs.declared.Verdict.TheVariants.{Accepted}
+use Rattle.note.specs.Refusals.{verdict}
+use Rattle.note.specs.Notes.{limit}
+use Rattle.note.specs.Faults.{text_faults}
+use Rattle.note.proofs.Faults.{text-short, text_formed}
+use Rattle.from_text.proofs.Started.{text-refused, too-little-room, started}
+use Rattle.from_text.proofs.from_text.Goals as goal
+
+-- past both checks
+accepted : (c : goal.Else-least_of_two-text) → verdict (text_faults limit c.args.text.now) ≡ Accepted
+accepted c = sym c.check_text.ensures ∙ c.in_default.is
+
+pub returns-in-Refused : goal.returns-in-Refused
+returns-in-Refused c = text-refused _ _ _ _ c.check_text.ensures c.in-Refused.is
+
+pub returns-then-least_of_two-text : goal.returns-then-least_of_two-text
+returns-then-least_of_two-text c = too-little-room _ _ _ _ c.check_text.ensures c.in_default.is (omega arith)
+
+pub write_starts-requires : goal.write_starts-requires
+write_starts-requires c =
+    record { text_value = (text_formed _ _ (accepted c.before), text-short _ _ (accepted c.before)); text_in_bounds = omega arith }
+
+pub write_ends-requires : goal.write_ends-requires
+write_ends-requires c =
+    record { text_value = (text_formed _ _ (accepted c.before.before.before.before.before), text-short _ _ (accepted c.before.before.before.before.before)); text_in_bounds = omega arith }
+
+pub returns : goal.returns
+returns c =
+    started _ _ _ _ c.check_text.ensures c.in_default.is (omega arith) c.write_starts.ensures c.write_ends.ensures

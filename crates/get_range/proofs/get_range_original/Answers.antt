@@ -1,0 +1,15 @@
+-- The note's refusal stands; a range of the cleaned text is converted first.
+use mathlib.Core.Path.{◌∙◌, sym}
+use Rattle.convert.proofs.Answered.{accepted-columns}
+use Rattle.get_range.proofs.Got.{get_range_original-refused, get_range_original-got}
+use Rattle.get_range.proofs.get_range_original.Goals as goal
+
+pub returns-in-Refused : goal.returns-in-Refused
+returns-in-Refused c = get_range_original-refused _ _ _ c.check_note.ensures c.in-Refused.is
+
+pub as_original-requires : goal.as_original-requires
+as_original-requires c = accepted-columns _ _ (sym c.check_note.ensures ∙ c.in_default.is)
+
+pub returns : goal.returns
+returns c =
+    get_range_original-got _ _ _ c.check_note.ensures c.in_default.is c.as_original.ensures c.get.ensures

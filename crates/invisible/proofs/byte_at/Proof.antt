@@ -1,9 +1,0 @@
--- Within the text, and after it.
-use mathlib.Core.Path.{sym}
-use borrow.Author.Rules.{rules}
-use lib.ListN.{get_or-eq_default}
-use Rattle.invisible.proofs.byte_at.Statement.{statement}
-use Rattle.invisible.proofs.byte_at.Tie as tie
-
-pub byte-at-spec : {M : Type 1} → statement M
-byte-at-spec = tie.close (tie.spec (λ c. search rules) (λ c. search rules) (λ c. sym (get_or-eq_default c.before.args.text.now 0 c.if1.false)))

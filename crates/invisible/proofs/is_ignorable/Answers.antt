@@ -1,0 +1,8 @@
+-- The ranges one after the other.
+use Rattle.invisible.specs.Ranges.{ignorables, in_range}
+use Rattle.invisible.proofs.Ranges.{summed, some-summed}
+use Rattle.invisible.proofs.is_ignorable.Goals as goal
+
+pub returns : goal.returns
+unfolding ignorables summed in_range
+returns c = some-summed _ _ _

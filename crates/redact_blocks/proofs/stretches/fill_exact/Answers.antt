@@ -1,0 +1,16 @@
+-- The content, and beside it the range of the byte before the end.
+use native.Mathlib.Omega.{arith}
+use Rattle.redact_blocks.proofs.Keeping.{padded-exact, padded-first, padded-small}
+use Rattle.redact_blocks.proofs.stretches.fill_exact.Goals as goal
+
+pub overflow_cast-first : goal.overflow_cast-first
+overflow_cast-first c = omega (arith, padded-first c.requires c.char_start-first.ensures)
+
+pub overflow_cast-last : goal.overflow_cast-last
+overflow_cast-last c =
+    let small = padded-small c.requires c.char_start-first.ensures c.char_end-last.ensures in omega (arith, small)
+
+pub returns : goal.returns
+returns c =
+    padded-exact (c).requires c.char_start-first.ensures c.char_end-last.ensures c.copy_bytes.ensures
+    c.fill_offsets.ensures c.fill_offsets-2.ensures

@@ -1,0 +1,6 @@
+-- What is read of the file fits the buffers.
+use Rattle.name_lines.proofs.Pairs.{names-within}
+use Rattle.redact_main.proofs.gathering.gather_names.Goals as goal
+
+pub returns-in-Read : goal.returns-in-Read
+returns-in-Read c = names-within c.read_names.ensures c.in-Read.is

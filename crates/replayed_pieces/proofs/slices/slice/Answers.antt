@@ -1,0 +1,8 @@
+-- The passed columns are those of their fields.
+use Rattle.stored_answers.proofs.Differences.{offsets-filled}
+use Rattle.replayed_pieces.proofs.Replaying.{slice-lent}
+use Rattle.replayed_pieces.proofs.slices.slice.Goals as goal
+
+pub returns : goal.returns
+returns c =
+    slice-lent (offsets-filled _ c.offsets-s.ensures.1 c.zeros-out_starts.ensures) (offsets-filled _ c.offsets-e.ensures.1 c.zeros-out_ends.ensures) c.sliced.ensures

@@ -1,0 +1,21 @@
+use Prim.Native.Nat.{◌-◌}
+use native.Mathlib.Omega.{arith}
+use Rattle.script.proofs.Scripts.{entry-step, none-judged, next-judged, broken-judged, all-judged}
+use Rattle.script.proofs.whole.Goals as goal
+
+pub loop-i-init : goal.loop-i-init
+loop-i-init c = none-judged
+
+pub loop-i-smaller : goal.loop-i-smaller
+loop-i-smaller c =
+    let step = entry-step _ c.entry_at.ensures c.in-At.is in
+    omega (arith, step.onward, step.most)
+
+pub loop-i-preserved : goal.loop-i-preserved
+loop-i-preserved c = next-judged c.loop-i.invariant c.entry_at.ensures c.in-At.is
+
+pub returns-in-Broken : goal.returns-in-Broken
+returns-in-Broken c = broken-judged c.loop-i.invariant c.loop-i-test.true c.entry_at.ensures c.in-Broken.is
+
+pub returns : goal.returns
+returns c = all-judged c.loop-i.invariant c.loop-i-test.false

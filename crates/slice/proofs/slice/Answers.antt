@@ -1,0 +1,49 @@
+-- A refusal comes before the first store; past it there is room, and no number is below the base.
+use native.Mathlib.Omega.{arith}
+use Rattle.note.specs.Notes.{Note, lent, limit}
+use Rattle.slice.proofs.Judged.{Ready, refused, ready, written}
+use Rattle.slice.proofs.slice.Goals as goal
+
+abbrev noted : goal.Start → Note
+noted c = lent c.args.original.now c.args.normalized.now c.args.starts.now c.args.ends.now c.args.original_shift
+
+-- where the cut is known its columns can be written
+cuttable : (c : goal.In-Cut-2) → Ready limit (noted c.before.before.before.before.before.before.before.before.before.before) c.in-Cut.s c.args.out_starts.now c.args.out_ends.now
+cuttable c = ready limit _ _ _ _ c.least_of_two-room.ensures c.check_slice.ensures c.in-Cut.is
+
+pub slice_bounds-write_lowered-count : goal.slice_bounds-write_lowered-count
+slice_bounds-write_lowered-count c = (cuttable c.before.before.before.before.before.before).forward
+
+pub slice_bounds-write_lowered-start : goal.slice_bounds-write_lowered-start
+slice_bounds-write_lowered-start c = (cuttable c.before.before.before.before.before.before).forward
+
+pub slice_bounds-write_lowered-end : goal.slice_bounds-write_lowered-end
+slice_bounds-write_lowered-end c = (cuttable c.before.before.before.before.before.before).in_starts
+
+pub overflow_cast-base : goal.overflow_cast-base
+overflow_cast-base c = omega (arith, (cuttable c.before.before.before.before.before.before.before.before).low)
+
+pub write_lowered-requires : goal.write_lowered-requires
+write_lowered-requires c = (cuttable c.before.before.before.before.before.before.before.before.before).starts_lowerable
+
+pub slice_bounds-write_lowered-count-in-Cut : goal.slice_bounds-write_lowered-count-in-Cut
+slice_bounds-write_lowered-count-in-Cut c = (cuttable (c)).forward
+
+pub slice_bounds-write_lowered-start-in-Cut : goal.slice_bounds-write_lowered-start-in-Cut
+slice_bounds-write_lowered-start-in-Cut c = (cuttable (c)).forward
+
+pub slice_bounds-write_lowered-end-in-Cut : goal.slice_bounds-write_lowered-end-in-Cut
+slice_bounds-write_lowered-end-in-Cut c = (cuttable (c)).in_ends
+
+pub overflow_cast-base-in-Cut : goal.overflow_cast-base-in-Cut
+overflow_cast-base-in-Cut c = omega (arith, (cuttable (c)).low)
+
+pub write_lowered-requires-in-Cut : goal.write_lowered-requires-in-Cut
+write_lowered-requires-in-Cut c = (cuttable (c)).ends_lowerable
+
+pub returns-in-Refused : goal.returns-in-Refused
+returns-in-Refused c = refused limit _ _ _ _ c.least_of_two-room.ensures c.check_slice.ensures c.in-Refused.is
+
+pub returns-in-Cut : goal.returns-in-Cut
+returns-in-Cut c =
+    written limit _ _ _ _ (c).before.before.before.least-of-two.ensures (c).before.before.check-slice.ensures (c).s.given.1 c.write_lowered.ensures c.write_lowered-in-Cut.ensures

@@ -1,0 +1,24 @@
+-- A refusal comes before the first store; past it there is room for the pieces, whose spans become their offsets.
+use Rattle.note.specs.Notes.{limit}
+use Rattle.split_offsets.proofs.PieceOffsets.{refused, spans-room, original_short, spans-ready, listed}
+use Rattle.split_offsets.proofs.get_splits.Goals as goal
+
+pub write_packed-count-requires : goal.write_packed-count-requires
+write_packed-count-requires c =
+    let args = c.args in
+    spans-room limit _ _ _ args.side args.unit args.out_starts.now args.out_ends.now c.least_of_two-room.ensures c.check_splits.ensures c.in-Accepted.is
+
+pub convert_spans-requires : goal.convert_spans-requires
+convert_spans-requires c =
+    let both = let args = c.args in
+    let short = original_short limit _ _ _ args.side args.unit args.out_starts.now args.out_ends.now c.least_of_two-room.ensures c.check_splits.ensures c.in-Accepted.is in
+    let spans = spans-ready limit _ _ _ args.side args.unit args.out_starts.now args.out_ends.now c.least_of_two-room.ensures c.check_splits.ensures c.in-Accepted.is c.write_packed-count.ensures in
+    (spans, short) in record { spans_ready = both.0; original_len_bound = both.1 }
+
+pub returns-in-Refused : goal.returns-in-Refused
+returns-in-Refused c = refused limit _ _ _ _ _ _ _ c.least_of_two-room.ensures c.check_splits.ensures c.in-Refused.is
+
+pub returns-in-Accepted : goal.returns-in-Accepted
+returns-in-Accepted c =
+    let args = c.args in
+    listed limit _ _ _ args.side args.unit args.out_starts.now args.out_ends.now c.least_of_two-room.ensures c.check_splits.ensures c.in-Accepted.is c.write_packed-count.ensures c.convert_spans.ensures

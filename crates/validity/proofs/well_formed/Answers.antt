@@ -1,0 +1,40 @@
+use Prim.Native.Nat.{◌-◌, ◌+◌}
+use mathlib.Core.Path.{sym, ◌∙◌}
+use borrow.Author.Tests.{not-true, not-false}
+use lib.ListN.{length-take, length-drop}
+use native.Mathlib.Omega.{arith}
+use Rattle.validity.proofs.Ascii.{ascii-formed}
+use Rattle.validity.proofs.ValidAt.{valid-none, valid-rest, valid-more, valid-not, block-valid, from_all}
+use Rattle.validity.proofs.well_formed.Goals as goal
+
+pub returns-then-is_ascii : goal.returns-then-is_ascii
+returns-then-is_ascii c = sym (ascii-formed _ (sym c.is_ascii.ensures ∙ c.if-is_ascii.true))
+
+-- no byte is judged yet, and then the first three
+pub returns-then-not-valid_between : goal.returns-then-not-valid_between
+returns-then-not-valid_between c =
+    sym (from_all _ ∙ valid-not (valid-none (omega arith)) 3 (omega arith) _ c.valid_between.ensures (not-true _ c.if-not-valid_between.true))
+
+pub loop-i-init : goal.loop-i-init
+loop-i-init c =
+    (omega arith, valid-more (valid-none (omega arith)) 3 (omega arith) _ c.valid_between.ensures (not-false _ c.if-not-valid_between.false))
+
+pub valid_block-requires : goal.valid_block-requires
+valid_block-requires c = simp (length-take, length-drop) (omega arith)
+
+-- one more block
+pub returns-then-not-valid_block : goal.returns-then-not-valid_block
+returns-then-not-valid_block c =
+    let head = c.loop-i in
+    sym (from_all _ ∙ valid-not head.invariant.1 (head.i + 384) (omega arith) _ (c.valid_block.ensures ∙ block-valid _ _ _ head.invariant.0 c.loop-i-test.true) (not-true _ c.if-not-valid_block.true))
+
+pub loop-i-preserved : goal.loop-i-preserved
+loop-i-preserved c =
+    let head = c.loop-i in
+    (omega arith, valid-more head.invariant.1 (head.i + 384) (omega arith) _ (c.valid_block.ensures ∙ block-valid _ _ _ head.invariant.0 c.loop-i-test.true) (not-false _ c.if-not-valid_block.false))
+
+pub valid_rest-requires : goal.valid_rest-requires
+valid_rest-requires c = (omega arith, omega arith)
+
+pub returns : goal.returns
+returns c = c.valid_rest.ensures ∙ sym (from_all _ ∙ valid-rest c.loop-i.invariant.1 _ (omega arith))

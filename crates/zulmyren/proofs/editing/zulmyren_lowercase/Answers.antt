@@ -1,0 +1,5 @@
+-- The numbers of the call below, and its buffers.
+use Rattle.zulmyren.proofs.editing.zulmyren_lowercase.Goals as goal
+
+pub returns : goal.returns
+returns c = record { answer = c.lowercase.result; told = c.edited_to_c.ensures; met = c.lowercase.ensures }

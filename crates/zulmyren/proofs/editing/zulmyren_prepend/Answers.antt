@@ -1,0 +1,5 @@
+-- The numbers of the call below, and its buffers.
+use Rattle.zulmyren.proofs.editing.zulmyren_prepend.Goals as goal
+
+pub returns : goal.returns
+returns c = record { answer = c.prepend.result; told = c.edited_to_c.ensures; met = c.prepend.ensures }

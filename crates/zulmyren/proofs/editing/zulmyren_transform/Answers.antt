@@ -1,0 +1,5 @@
+-- The numbers of the call below, and its buffers.
+use Rattle.zulmyren.proofs.editing.zulmyren_transform.Goals as goal
+
+pub returns : goal.returns
+returns c = record { answer = c.transform.result; told = c.edited_to_c.ensures; met = c.transform.ensures }

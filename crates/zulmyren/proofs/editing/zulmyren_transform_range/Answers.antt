@@ -1,0 +1,8 @@
+-- The range by its side, then the numbers of the call below, and its buffers.
+use Rattle.zulmyren.proofs.Edited.{range-edit}
+use Rattle.zulmyren.proofs.editing.zulmyren_transform_range.Goals as goal
+
+pub returns : goal.returns
+returns c =
+    let given = (c).args in
+    range-edit _ given.of-original given.start given.end _ _ c.side_of.ensures c.range_of-range.ensures c.transform_range.ensures c.edited_to_c.ensures

@@ -1,0 +1,8 @@
+-- What is asked, by numbers and flags; the number of the call below, and its buffers.
+use Rattle.zulmyren.proofs.Calls.{splits-call}
+use Rattle.zulmyren.proofs.slices.zulmyren_get_splits.Goals as goal
+
+pub returns : goal.returns
+returns c =
+    let args = c.args in
+    splits-call args.behavior args.of-original args.in-chars c.behavior_of.ensures c.side_of.ensures c.unit_of.ensures c.get_splits.ensures c.splits_to_c.ensures

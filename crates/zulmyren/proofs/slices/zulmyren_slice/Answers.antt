@@ -1,0 +1,11 @@
+-- The range by its side; the numbers of the call below, and its buffers.
+use Rattle.zulmyren.proofs.Calls.{slice-call}
+use Rattle.zulmyren.proofs.slices.zulmyren_slice.Goals as goal
+
+pub returns : goal.returns
+returns c =
+    let args = c.args in
+    slice-call args.of-original args.start args.end
+    c.side_of.ensures
+    c.range_of-range.ensures
+    c.slice.ensures c.slice_to_c.ensures
