@@ -1,6 +1,5 @@
 -- A starting note is aligned; of another, the alignments one beside the other, then the transcript's boundaries.
 use mathlib.Core.Path.{sym, ap, ◌∙◌}
-use borrow.Author.Tests.{not-false}
 use Rattle.validity.specs.Texts.{ascii}
 use Rattle.boundaries.proofs.Monotone.{not-monotone, monotone-ascii, monotone-uncut}
 use Rattle.aligned.proofs.IsStarting.{starting-aligned}
@@ -26,7 +25,7 @@ returns-then-plain c =
 pub uncut_all-requires : goal.uncut_all-requires
 uncut_all-requires c =
     let both = let known = c.requires in
-    ((known.original_formed, known.starts_paired), (known.ends_paired, sym c.monotone.ensures ∙ not-false _ c.if-not-monotone.false)) in record { original_value = both.0; ends_len = both.1 }
+    ((known.original_formed, known.starts_paired), (known.ends_paired, sym c.monotone.ensures ∙ c.if-not-monotone.false)) in record { original_value = both.0; ends_len = both.1 }
 
 pub returns : goal.returns
 returns c =

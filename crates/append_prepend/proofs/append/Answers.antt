@@ -3,8 +3,9 @@ use Rattle.note.specs.Notes.{Note, lent, limit}
 use Rattle.edits.specs.Whole.{append_edit}
 use Rattle.append_prepend.proofs.Joined.{join-refused, append-large, append-room, append-made}
 use Rattle.append_prepend.proofs.append.Goals as goal
+use Rattle.append_prepend.proofs.append.Goals.{Start}
 
-abbrev note : goal.Start → Note
+abbrev note : Start → Note
 note c = lent c.args.original.now c.args.normalized.now c.args.starts.now c.args.ends.now c.args.original_shift
 
 pub returns-then-not-has_room : goal.returns-then-not-has_room

@@ -3,8 +3,9 @@ use Rattle.note.specs.Notes.{Note, lent, limit}
 use Rattle.edits.specs.Whole.{prepend_edit}
 use Rattle.append_prepend.proofs.Joined.{join-refused, prepend-empty, prepend-large, prepend-room, prepend-made}
 use Rattle.append_prepend.proofs.prepend.Goals as goal
+use Rattle.append_prepend.proofs.prepend.Goals.{Start}
 
-abbrev note : goal.Start → Note
+abbrev note : Start → Note
 note c = lent c.args.original.now c.args.normalized.now c.args.starts.now c.args.ends.now c.args.original_shift
 
 pub returns-then-normalized-eq0 : goal.returns-then-normalized-eq0

@@ -5,15 +5,15 @@ use Rattle.char_counts.proofs.write_marks.Goals as goal
 pub loop-i-init : goal.loop-i-init
 loop-i-init c = first-mark c.args.marks.now c.requires.some c.requires.room
 
-pub overflow_cast-count : goal.overflow_cast-count
-overflow_cast-count c = omega (arith, add-count c)
+pub loop-i-preserved : goal.loop-i-preserved
+loop-i-preserved c = next-mark c.loop-i.invariant c.loop-i-test.true c.count_leads.ensures
 
 pub overflow_add-count : goal.overflow_add-count
 overflow_add-count c =
-    omega (arith, (loop-again c).count_is, (loop-again c).inside, begun-most c.args.text.now (c.loop-i.i + 128), c.requires.short)
+    omega (arith, (loop-i-preserved c).count_is, (loop-i-preserved c).inside, begun-most c.args.text.now (c.loop-i.i + 128), c.requires.short)
 
-pub loop-i-preserved : goal.loop-i-preserved
-loop-i-preserved c = next-mark c.loop-i.invariant c.loop-i-test.true c.count_leads.ensures
+pub overflow_cast-count : goal.overflow_cast-count
+overflow_cast-count c = omega (arith, overflow_add-count c)
 
 pub shape_of-marks : goal.shape_of-marks
 shape_of-marks c = c.loop-i.invariant.same ∙ length-set c.args.marks.now 0 0

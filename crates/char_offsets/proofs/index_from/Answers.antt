@@ -9,12 +9,12 @@ overflow_cast-result c =
     let on = moved_on c.args.to.0 c.requires.index_known c.if-known-asked.true c.requires.to_in_bounds c.count_leads.ensures in
     omega (arith, on, index-most c.args.text.now c.args.to.0)
 
-pub overflow_add-result : goal.overflow_add-result
-overflow_add-result c = omega (arith, returns c, index-most c.args.text.now c.args.to.0)
-
 pub returns-then-known-asked : goal.returns-then-known-asked
 returns-then-known-asked c =
     moved_on c.args.to.0 c.requires.index_known c.if-known-asked.true c.requires.to_in_bounds c.count_leads.ensures
+
+pub overflow_add-result : goal.overflow_add-result
+overflow_add-result c = omega (arith, returns-then-known-asked c, index-most c.args.text.now c.args.to.0)
 
 pub overflow_cast-result-2 : goal.overflow_cast-result-2
 overflow_cast-result-2 c =

@@ -1,7 +1,6 @@
 -- Each way out is the first condition met.
 use mathlib.Core.Path.{sym, ◌∙◌}
 use mathlib.Mathlib.Data.Bool.Basic.{and_elim_left, and_elim_right}
-use borrow.Author.Tests.{not-false}
 use Rattle.buffers.proofs.Same.{same-equal}
 use Rattle.utf8.specs.Formed.{well_formed}
 use Rattle.checks.proofs.Lengths.{too_long, unpaired, ill-formed, by-alignments, fit-original, fit-normalized, pair-starts, pair_ends}
@@ -24,15 +23,15 @@ returns-then-not-texts_formed c =
 
 pub aligned-requires : goal.aligned-requires
 aligned-requires c =
-    let fit = sym c.lengths_fit.ensures ∙ not-false _ c.if-not-lengths_fit.false in
-    let pair = sym c.lengths_paired.ensures ∙ not-false _ c.if-not-lengths_paired.false in
+    let fit = sym c.lengths_fit.ensures ∙ c.if-not-lengths_fit.false in
+    let pair = sym c.lengths_paired.ensures ∙ c.if-not-lengths_paired.false in
     record {
       short = fit-original _ _ _ _ fit;
       normalized_short = fit-normalized _ _ _ _ fit;
       starts_paired = pair-starts _ _ _ pair;
       ends_paired = pair_ends _ _ _ pair;
-      original_formed = and_elim_left (well_formed _) _ (sym c.texts_formed.ensures ∙ not-false _ c.if-not-texts_formed.false);
-      formed = and_elim_right (well_formed _) _ (sym c.texts_formed.ensures ∙ not-false _ c.if-not-texts_formed.false);
+      original_formed = and_elim_left (well_formed _) _ (sym c.texts_formed.ensures ∙ c.if-not-texts_formed.false);
+      formed = and_elim_right (well_formed _) _ (sym c.texts_formed.ensures ∙ c.if-not-texts_formed.false);
       kind = c.is_ascii-plain.ensures;
       alike = λ t. same-equal _ _ (sym c.same_bytes-same.ensures ∙ t);
     }

@@ -5,9 +5,10 @@ use Rattle.code_point_blocks.proofs.Parts.{parts-size}
 use Rattle.code_point_blocks.proofs.Texts.{last-characters}
 use Rattle.code_points.proofs.Blocks.{no_block, block_room, one_block, rest-room, another_block}
 use Rattle.code_points.proofs.lay_text.Goals as goal
+use Rattle.code_points.proofs.lay_text.Goals.{In-loop-i}
 
 -- a turn has 64 code points, and room for their characters
-block : (c : goal.In-loop-i) → (c.loop-i.i + 64 ≤ length c.args.codes.now) × (c.loop-i.at + 256 ≤ c.args.until)
+block : (c : In-loop-i) → (c.loop-i.i + 64 ≤ length c.args.codes.now) × (c.loop-i.at + 256 ≤ c.args.until)
 block c = another_block c.args.codes.now c.loop-i.i c.loop-i.at c.args.until c.loop-i-test.true
 
 pub loop-i-init : goal.loop-i-init

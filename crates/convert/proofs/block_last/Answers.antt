@@ -3,7 +3,6 @@ use Prim.Native.Nat.{◌+◌}
 use mathlib.Core.Path.{◌∙◌, sym}
 use mathlib.Core.Logic.{inr}
 use native.Mathlib.Omega.{arith}
-use borrow.Author.Tests.{not-false}
 use Rattle.convert.proofs.Walked.{single-block}
 use Rattle.convert.proofs.block_last.Goals as goal
 
@@ -21,4 +20,4 @@ returns-then-not-settled c = single-block (omega arith) (omega arith)
 
 pub returns : goal.returns
 returns c =
-    record { on = omega arith; inside = omega arith; walks = omega arith; single_or_settled = inr (sym c.settled.ensures ∙ not-false _ c.if-not-settled.false) }
+    record { on = omega arith; inside = omega arith; walks = omega arith; single_or_settled = inr (sym c.settled.ensures ∙ c.if-not-settled.false) }

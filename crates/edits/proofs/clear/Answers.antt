@@ -7,22 +7,23 @@ use native.Mathlib.Omega.{arith}
 use Rattle.note.specs.Notes.{Note, lent, limit}
 use Rattle.edits.proofs.Emptied.{note-refuses, even, inside-all, no_room, has-cleared}
 use Rattle.edits.proofs.clear.Goals as goal
+use Rattle.edits.proofs.clear.Goals.{Start, After-widthless-left}
 
-abbrev note : goal.Start → Note
+abbrev note : Start → Note
 note c = lent c.args.original.now c.args.normalized.now c.args.starts.now c.args.ends.now c.args.original_shift
 
 -- the head lies inside the text and the columns
-inside : (c : goal.After-widthless-left) → (c.widthless-left.result ≤ length (c).args.normalized.now) × ((c.widthless-left.result ≤ length (c).args.starts.now) × (c.widthless-left.result ≤ length (c).args.ends.now))
+inside : (c : After-widthless-left) → (c.widthless-left.result ≤ length (c).args.normalized.now) × ((c.widthless-left.result ≤ length (c).args.starts.now) × (c.widthless-left.result ≤ length (c).args.ends.now))
 inside c =
     inside-all limit (note c.before.before.before.before.before.before.before.before.before.before.before) c.args.out.now c.args.out_starts.now c.args.out_ends.now c.check_note.ensures c.in-Accepted.is c.widthless-left.ensures refl
 
-text_fits : (c : goal.After-widthless-left) → c.widthless-left.result ≡ length (take c.widthless-left.result (c).args.normalized.now)
+text_fits : (c : After-widthless-left) → c.widthless-left.result ≡ length (take c.widthless-left.result (c).args.normalized.now)
 text_fits c = sym (length-take-le _ _ (inside c).0)
 
-starts_fit : (c : goal.After-widthless-left) → c.widthless-left.result ≡ length (take c.widthless-left.result (c).args.starts.now)
+starts_fit : (c : After-widthless-left) → c.widthless-left.result ≡ length (take c.widthless-left.result (c).args.starts.now)
 starts_fit c = sym (length-take-le _ _ (inside c).1.0)
 
-ends_fit : (c : goal.After-widthless-left) → c.widthless-left.result ≡ length (take c.widthless-left.result (c).args.ends.now)
+ends_fit : (c : After-widthless-left) → c.widthless-left.result ≡ length (take c.widthless-left.result (c).args.ends.now)
 ends_fit c = sym (length-take-le _ _ (inside c).1.1)
 
 pub widthless-left-requires : goal.widthless-left-requires

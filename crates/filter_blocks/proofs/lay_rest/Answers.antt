@@ -5,15 +5,16 @@ use lib.ListN.{length}
 use Rattle.filter_blocks.proofs.Chosen.{rooms, reads, flag-index, one-so-far, all-so-far}
 use native.Mathlib.Omega.{arith}
 use Rattle.filter_blocks.proofs.lay_rest.Goals as goal
+use Rattle.filter_blocks.proofs.lay_rest.Goals.{In-loop-q, After-continues}
 
 -- what a turn reads is there, there is room for it, and its flag is there
-there : (c : goal.In-loop-q) → (c.loop-q.q < length c.args.text.now) × ((c.loop-q.q < length c.args.starts.now) × (c.loop-q.q < length c.args.ends.now))
+there : (c : In-loop-q) → (c.loop-q.q < length c.args.text.now) × ((c.loop-q.q < length c.args.starts.now) × (c.loop-q.q < length c.args.ends.now))
 there c = reads c.requires.0 c.loop-q.invariant c.loop-q-test.true
 
-room : (c : goal.In-loop-q) → (c.loop-q.at < length c.loop-q.out) × ((c.loop-q.at < length c.loop-q.out_starts) × (c.loop-q.at < length c.loop-q.out_ends))
+room : (c : In-loop-q) → (c.loop-q.at < length c.loop-q.out) × ((c.loop-q.at < length c.loop-q.out_starts) × (c.loop-q.at < length c.loop-q.out_ends))
 room c = rooms c.requires.0 c.loop-q.invariant c.loop-q-test.true
 
-index : (c : goal.After-continues) → (1 ≤ c.loop-q.i + bool_byte (not c.continues.result)) × (c.loop-q.i + bool_byte (not c.continues.result) ≤ length (c).args.flags.now)
+index : (c : After-continues) → (1 ≤ c.loop-q.i + bool_byte (not c.continues.result)) × (c.loop-q.i + bool_byte (not c.continues.result) ≤ length (c).args.flags.now)
 index c = flag-index (c).pre.0 c.loop-q.invariant c.loop-q-test.true c.continues.ensures
 
 pub loop-q-init : goal.loop-q-init

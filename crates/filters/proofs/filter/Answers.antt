@@ -10,8 +10,9 @@ use Rattle.edits.proofs.Inputs.{note-short}
 use Rattle.filters.proofs.Counted.{flag_faults, note-first, flag-each, count-refused, well-counted, filter-found, filter_none}
 use Rattle.filters.proofs.Spanned.{range-ready}
 use Rattle.filters.proofs.filter.Goals as goal
+use Rattle.filters.proofs.filter.Goals.{Start}
 
-abbrev note : goal.Start → Note
+abbrev note : Start → Note
 note c = lent c.args.original.now c.args.normalized.now c.args.starts.now c.args.ends.now c.args.original_shift
 
 pub returns-then-flags-count_leads : goal.returns-then-flags-count_leads

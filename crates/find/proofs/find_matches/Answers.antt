@@ -1,6 +1,6 @@
 -- Text and literal are judged together, then the room; past both the list is written.
 use mathlib.Core.Path.{◌≡◌, ◌∙◌, sym}
-use borrow.Author.Tests.{leb-true, not-false}
+use borrow.Author.Tests.{leb-true}
 use Rattle.note.specs.Refusals.{also, verdict}
 use Rattle.note.specs.Notes.{limit}
 use Rattle.note.specs.Faults.{text_faults, string_faults}
@@ -8,9 +8,10 @@ use Rattle.note.proofs.FirstMet.{earlier-of, accepted-first}
 use Rattle.note.proofs.Faults.{text-short}
 use Rattle.find.proofs.Found.{input-refused, room-refused, list_written}
 use Rattle.find.proofs.find_matches.Goals as goal
+use Rattle.find.proofs.find_matches.Goals.{After-earlier}
 
 -- the verdict of both inputs
-judged : (c : goal.After-earlier) → c.earlier.result ≡ verdict (also (text_faults limit c.args.text.now) (string_faults c.args.literal.now))
+judged : (c : After-earlier) → c.earlier.result ≡ verdict (also (text_faults limit c.args.text.now) (string_faults c.args.literal.now))
 judged c = earlier-of _ _ c.check_text.ensures c.check_string.ensures c.earlier.ensures
 
 pub returns-in-Refused : goal.returns-in-Refused
@@ -29,7 +30,7 @@ write_list-requires c =
     (
       text-short _ _ (accepted-first _ (string_faults c.args.literal.now) (sym (judged c.before.before.before.before.before.before) ∙ c.in_default.is)),
       c.first_match-first.ensures,
-      leb-true _ _ (sym c.list_fits.ensures ∙ not-false _ c.if-not-list_fits.false),
+      leb-true _ _ (sym c.list_fits.ensures ∙ c.if-not-list_fits.false),
     )
 
 pub returns : goal.returns

@@ -8,9 +8,10 @@ use Rattle.note.specs.Faults.{text_faults}
 use Rattle.note.proofs.Faults.{text-short, text_formed}
 use Rattle.from_text.proofs.Started.{text-refused, too-little-room, started}
 use Rattle.from_text.proofs.from_text.Goals as goal
+use Rattle.from_text.proofs.from_text.Goals.{Else-least_of_two-text}
 
 -- past both checks
-accepted : (c : goal.Else-least_of_two-text) → verdict (text_faults limit c.args.text.now) ≡ Accepted
+accepted : (c : Else-least_of_two-text) → verdict (text_faults limit c.args.text.now) ≡ Accepted
 accepted c = sym c.check_text.ensures ∙ c.in_default.is
 
 pub returns-in-Refused : goal.returns-in-Refused

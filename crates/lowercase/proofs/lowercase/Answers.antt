@@ -4,8 +4,9 @@ use Rattle.note.specs.Notes.{Note, lent, limit}
 use Rattle.lowercase.proofs.Grown.{dotted-few}
 use Rattle.lowercase.proofs.Calls.{note-refused, columns-even, head-refused, lower-large, text_room, starts_room, ends_room, lower-made}
 use Rattle.lowercase.proofs.lowercase.Goals as goal
+use Rattle.lowercase.proofs.lowercase.Goals.{Start}
 
-abbrev note : goal.Start → Note
+abbrev note : Start → Note
 note c = lent c.args.original.now c.args.normalized.now c.args.starts.now c.args.ends.now c.args.original_shift
 
 pub has_head-requires : goal.has_head-requires

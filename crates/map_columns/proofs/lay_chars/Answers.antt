@@ -5,9 +5,10 @@ use lib.ListN.{length}
 use Rattle.utf8.proofs.LenUtf8.{bool-most}
 use Rattle.map_columns.proofs.Spread.{none-spread, more-text, char-room, one-spread, all-spread}
 use Rattle.map_columns.proofs.lay_chars.Goals as goal
+use Rattle.map_columns.proofs.lay_chars.Goals.{After-select_or_zero_usize-size}
 
 -- a turn has one more byte to read
-more : (c : goal.After-select_or_zero_usize-size) → c.loop-i.q < length (c).args.text.now
+more : (c : After-select_or_zero_usize-size) → c.loop-i.q < length (c).args.text.now
 more c = more-text (c).pre c.loop-i.invariant c.loop-i-test.true
 
 pub loop-i-init : goal.loop-i-init

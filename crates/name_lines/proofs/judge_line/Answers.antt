@@ -2,17 +2,17 @@
 use mathlib.Core.Path.{◌≡◌, ◌∙◌, sym}
 use mathlib.Core.Bool.{true}
 use native.Mathlib.Omega.{arith}
-use borrow.Author.Tests.{not-true, not-false}
 use Rattle.utf8.specs.Formed.{well_formed}
 use Rattle.name_lines.proofs.Tabs.{not-formed, no-tab, two-tabs, no-literal, good-line}
 use Rattle.name_lines.proofs.judge_line.Goals as goal
+use Rattle.name_lines.proofs.judge_line.Goals.{Else-not-well_formed}
 
 -- past the first test the line is UTF-8
-is_formed : (c : goal.Else-not-well_formed) → well_formed c.args.line.now ≡ true
-is_formed c = sym c.well-formed-2.ensures ∙ not-false _ c.if-not-well_formed.false
+is_formed : (c : Else-not-well_formed) → well_formed c.args.line.now ≡ true
+is_formed c = sym c.well-formed-2.ensures ∙ c.if-not-well_formed.false
 
 pub returns-then-not-well_formed : goal.returns-then-not-well_formed
-returns-then-not-well_formed c = not-formed _ (sym c.well-formed-2.ensures ∙ not-true _ c.if-not-well_formed.true)
+returns-then-not-well_formed c = not-formed _ (sym c.well-formed-2.ensures ∙ c.if-not-well_formed.true)
 
 pub returns-then-line-tab : goal.returns-then-line-tab
 returns-then-line-tab c = no-tab _ (is_formed c.before.before) c.tab_at-tab.ensures c.if-line-tab.true

@@ -2,9 +2,10 @@ use Prim.Native.Nat.{◌-◌, ◌≤◌}
 use native.Mathlib.Omega.{arith}
 use Rattle.name_lines.proofs.Judging.{none-judged, judging-inside, good-long, good-judged, bad-judged, all-judged}
 use Rattle.name_lines.proofs.judge_names.Goals as goal
+use Rattle.name_lines.proofs.judge_names.Goals.{In_default}
 
 -- a line that was judged is good
-good : (c : goal.In_default) → 2 ≤ c.line_end-end.result - c.loop-start.start
+good : (c : In_default) → 2 ≤ c.line_end-end.result - c.loop-start.start
 good c =
     good-long c.loop-start.invariant c.loop-start-test.true c.line_end-end.ensures c.judge_line-line.ensures c.in_default.is
 
@@ -46,15 +47,15 @@ overflow_add-lines c = omega (arith, c.loop-start.invariant.few)
 pub end_len-requires : goal.end_len-requires
 end_len-requires c = omega (arith, judging-inside c.loop-start.invariant c.line_end-end.ensures)
 
-pub overflow_add-start : goal.overflow_add-start
-overflow_add-start c = omega (arith, (loop-again c).most)
-
-pub loop-start-smaller : goal.loop-start-smaller
-loop-start-smaller c = omega (arith, (loop-again c).most, good c.before)
-
 pub loop-start-preserved : goal.loop-start-preserved
 loop-start-preserved c =
     good-judged c.loop-start.invariant c.loop-start-test.true c.line_end-end.ensures c.judge_line-line.ensures c.in_default.is c.end_len.ensures
+
+pub overflow_add-start : goal.overflow_add-start
+overflow_add-start c = omega (arith, (loop-start-preserved c).most)
+
+pub loop-start-smaller : goal.loop-start-smaller
+loop-start-smaller c = omega (arith, (loop-start-preserved c).most, good c.before)
 
 pub overflow_mul-result : goal.overflow_mul-result
 overflow_mul-result c = omega (arith, c.loop-start.invariant.few, c.loop-start.invariant.most)

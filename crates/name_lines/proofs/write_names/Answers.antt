@@ -28,17 +28,17 @@ overflow_add-k c =
 pub end_len-requires : goal.end_len-requires
 end_len-requires c = omega (arith, writing-inside c.loop-start.invariant c.line_end-end.ensures)
 
+pub loop-start-preserved : goal.loop-start-preserved
+loop-start-preserved c =
+    line-written c.loop-start.invariant c.loop-start-test.true c.line_end-end.ensures c.end_len.ensures c.put_line-at.ensures
+
 pub overflow_add-start : goal.overflow_add-start
-overflow_add-start c = omega (arith, (loop-again c).most)
+overflow_add-start c = omega (arith, (loop-start-preserved c).most)
 
 pub loop-start-smaller : goal.loop-start-smaller
 loop-start-smaller c =
     let line = at-line c.loop-start.invariant c.loop-start-test.true c.line_end-end.ensures c.end_len.ensures in
     omega (arith, line.most, line.past)
-
-pub loop-start-preserved : goal.loop-start-preserved
-loop-start-preserved c =
-    line-written c.loop-start.invariant c.loop-start-test.true c.line_end-end.ensures c.end_len.ensures c.put_line-at.ensures
 
 pub shape_of-words : goal.shape_of-words
 shape_of-words c = c.loop-start.invariant.words_laid.same

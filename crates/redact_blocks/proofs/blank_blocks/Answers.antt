@@ -4,9 +4,10 @@ use native.Mathlib.Omega.{arith}
 use lib.ListN.{length}
 use Rattle.redact_blocks.proofs.Blanks.{none-blanked, blanked-size, match-within, match-room, more-match, byte-away, byte-room, more_bytes, block_within, block_room, turned}
 use Rattle.redact_blocks.proofs.blank_blocks.Goals as goal
+use Rattle.redact_blocks.proofs.blank_blocks.Goals.{After-lay_ahead-k}
 
 -- after what is laid there is a byte, and room for the literal
-inside : (c : goal.After-lay_ahead-k) → c.loop-i.i + c.lay_ahead-k.result + length (c).args.literal.now + 16 ≤ length (c).args.text.now
+inside : (c : After-lay_ahead-k) → c.loop-i.i + c.lay_ahead-k.result + length (c).args.literal.now + 16 ≤ length (c).args.text.now
 inside c = omega (arith, (c).pre.1.window, c.loop-i-test.true, c.lay_ahead-k.ensures.most)
 
 pub loop-i-init : goal.loop-i-init

@@ -8,16 +8,17 @@ use Rattle.find.specs.Searching.{Absent}
 use Rattle.replace.proofs.Columns.{content-alone}
 use Rattle.redact_blocks.proofs.Blanks.{none-blanked, match-ends, match-within, match-room, more-match, byte-away, bytes-within, byte-room, more_bytes}
 use Rattle.redact_blocks.proofs.blank_bytes.Goals as goal
+use Rattle.redact_blocks.proofs.blank_bytes.Goals.{Then-stands, Else-stands}
 
 -- the literal is at the turn's byte
-stands : (c : goal.Then-stands) → occurs_at (c).args.text.now (c).args.literal.now c.loop-i.i ≡ true
+stands : (c : Then-stands) → occurs_at (c).args.text.now (c).args.literal.now c.loop-i.i ≡ true
 stands c = sym c.stands.ensures ∙ c.if-stands.true
 
 -- there is a byte, where the literal does not stand
-inside : (c : goal.Else-stands) → c.loop-i.i < length (c).args.text.now
+inside : (c : Else-stands) → c.loop-i.i < length (c).args.text.now
 inside c = omega (arith, c.loop-i-test.true, (c).pre.1)
 
-away : (c : goal.Else-stands) → Absent (c).args.text.now (c).args.literal.now c.loop-i.i (c.loop-i.i + 1)
+away : (c : Else-stands) → Absent (c).args.text.now (c).args.literal.now c.loop-i.i (c.loop-i.i + 1)
 away c = byte-away (c).pre.0 c.loop-i.invariant (inside c) (sym c.stands.ensures ∙ c.if-stands.false)
 
 pub loop-i-init : goal.loop-i-init

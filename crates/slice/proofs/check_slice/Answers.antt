@@ -1,6 +1,6 @@
 -- The note first, then the range in the text that it names, then in both, then the room.
 use mathlib.Core.Path.{◌∙◌, sym}
-use borrow.Author.Tests.{not-true, not-false}
+use borrow.Author.Tests.{not-false}
 use Rattle.note.specs.Notes.{limit}
 use Rattle.convert.proofs.Answered.{accepted-columns}
 use Rattle.slice.proofs.Judged.{judged-note, judged-off, shiftable, judged-missing, cut-forward, judged-small, judged-cut}
@@ -11,7 +11,7 @@ returns-in-Refused c = judged-note limit _ _ _ c.check_note.ensures c.in-Refused
 
 pub returns-then-not-validate_range : goal.returns-then-not-validate_range
 returns-then-not-validate_range c =
-    judged-off limit _ _ _ c.check_note.ensures c.in_default.is c.validate_range.ensures (not-true _ c.if-not-validate_range.true)
+    judged-off limit _ _ _ c.check_note.ensures c.in_default.is c.validate_range.ensures c.if-not-validate_range.true
 
 pub as_original-in_original-requires : goal.as_original-in_original-requires
 as_original-in_original-requires c = accepted-columns limit _ (sym c.check_note.ensures ∙ c.in_default.is)
@@ -21,7 +21,7 @@ as_normalized-in_normalized-requires c = accepted-columns limit _ (sym c.check_n
 
 pub slice_of-requires : goal.slice_of-requires
 slice_of-requires c =
-    shiftable limit _ _ c.args.room c.check_note.ensures c.in_default.is c.validate_range.ensures (not-false _ c.if-not-validate_range.false) c.as_original-in_original.ensures
+    shiftable limit _ _ c.args.room c.check_note.ensures c.in_default.is c.validate_range.ensures c.if-not-validate_range.false c.as_original-in_original.ensures
 
 pub overflow_sub-to : goal.overflow_sub-to
 overflow_sub-to c =
@@ -30,15 +30,15 @@ overflow_sub-to c =
 
 pub returns-then-room-to : goal.returns-then-room-to
 returns-then-room-to c =
-    judged-small limit _ _ _ c.check_note.ensures c.in_default.is c.validate_range.ensures (not-false _ c.if-not-validate_range.false)
+    judged-small limit _ _ _ c.check_note.ensures c.in_default.is c.validate_range.ensures c.if-not-validate_range.false
     c.as_original-in_original.ensures c.as_normalized-in_normalized.ensures c.slice_of.ensures c.in-Cut.is c.if-room-to.true
 
 pub returns-in-Refused-slice_of : goal.returns-in-Refused-slice_of
 returns-in-Refused-slice_of c =
-    judged-missing limit _ _ _ c.check_note.ensures c.in_default.is c.validate_range.ensures (not-false _ c.if-not-validate_range.false)
+    judged-missing limit _ _ _ c.check_note.ensures c.in_default.is c.validate_range.ensures c.if-not-validate_range.false
     c.as_original-in_original.ensures c.as_normalized-in_normalized.ensures c.slice_of.ensures c.in-Refused-slice_of.is
 
 pub returns-else-room-to : goal.returns-else-room-to
 returns-else-room-to c =
-    judged-cut limit _ _ _ c.check_note.ensures c.in_default.is c.validate_range.ensures (not-false _ c.if-not-validate_range.false)
+    judged-cut limit _ _ _ c.check_note.ensures c.in_default.is c.validate_range.ensures c.if-not-validate_range.false
     c.as_original-in_original.ensures c.as_normalized-in_normalized.ensures c.slice_of.ensures c.in-Cut.is c.if-room-to.false

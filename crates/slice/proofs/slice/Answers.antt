@@ -3,12 +3,13 @@ use native.Mathlib.Omega.{arith}
 use Rattle.note.specs.Notes.{Note, lent, limit}
 use Rattle.slice.proofs.Judged.{Ready, refused, ready, written}
 use Rattle.slice.proofs.slice.Goals as goal
+use Rattle.slice.proofs.slice.Goals.{Start, In-Cut-2}
 
-abbrev noted : goal.Start → Note
+abbrev noted : Start → Note
 noted c = lent c.args.original.now c.args.normalized.now c.args.starts.now c.args.ends.now c.args.original_shift
 
 -- where the cut is known its columns can be written
-cuttable : (c : goal.In-Cut-2) → Ready limit (noted c.before.before.before.before.before.before.before.before.before.before) c.in-Cut.s c.args.out_starts.now c.args.out_ends.now
+cuttable : (c : In-Cut-2) → Ready limit (noted c.before.before.before.before.before.before.before.before.before.before) c.in-Cut.s c.args.out_starts.now c.args.out_ends.now
 cuttable c = ready limit _ _ _ _ c.least_of_two-room.ensures c.check_slice.ensures c.in-Cut.is
 
 pub slice_bounds-write_lowered-count : goal.slice_bounds-write_lowered-count

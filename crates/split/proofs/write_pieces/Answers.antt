@@ -5,8 +5,9 @@ use Rattle.note.specs.Notes.{limit}
 use Rattle.split.specs.Splitting.{PieceColumns, columns}
 use Rattle.split.proofs.Judged.{spans-room, from-long, to-long, countable, columns-room, all-cut}
 use Rattle.split.proofs.write_pieces.Goals as goal
+use Rattle.split.proofs.write_pieces.Goals.{Start}
 
-abbrev buffers : goal.Start → PieceColumns
+abbrev buffers : Start → PieceColumns
 buffers c = columns c.args.piece_starts.now c.args.piece_ends.now c.args.piece_shifts.now c.args.piece_lengths.now c.args.out_starts.now c.args.out_ends.now
 
 pub write_spans-count-requires : goal.write_spans-count-requires

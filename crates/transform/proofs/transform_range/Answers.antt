@@ -7,8 +7,9 @@ use Rattle.script.specs.Scripts.{commands_of, script_faults}
 use Rattle.transform.specs.Transforming.{script_edit}
 use Rattle.transform.proofs.Verdicts.{inputs-refused, inputs-accepted, note-columns, note-editable, note-refused, script-refused, script-accepted, edit-found, edit-none}
 use Rattle.transform.proofs.transform_range.Goals as goal
+use Rattle.transform.proofs.transform_range.Goals.{Start}
 
-abbrev note : goal.Start → Note
+abbrev note : Start → Note
 note c = lent c.args.original.now c.args.normalized.now c.args.starts.now c.args.ends.now c.args.original_shift
 
 pub returns-then-not-whole : goal.returns-then-not-whole

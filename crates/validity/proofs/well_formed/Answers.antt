@@ -1,6 +1,5 @@
 use Prim.Native.Nat.{◌-◌, ◌+◌}
 use mathlib.Core.Path.{sym, ◌∙◌}
-use borrow.Author.Tests.{not-true, not-false}
 use lib.ListN.{length-take, length-drop}
 use native.Mathlib.Omega.{arith}
 use Rattle.validity.proofs.Ascii.{ascii-formed}
@@ -13,11 +12,11 @@ returns-then-is_ascii c = sym (ascii-formed _ (sym c.is_ascii.ensures ∙ c.if-i
 -- no byte is judged yet, and then the first three
 pub returns-then-not-valid_between : goal.returns-then-not-valid_between
 returns-then-not-valid_between c =
-    sym (from_all _ ∙ valid-not (valid-none (omega arith)) 3 (omega arith) _ c.valid_between.ensures (not-true _ c.if-not-valid_between.true))
+    sym (from_all _ ∙ valid-not (valid-none (omega arith)) 3 (omega arith) _ c.valid_between.ensures c.if-not-valid_between.true)
 
 pub loop-i-init : goal.loop-i-init
 loop-i-init c =
-    (omega arith, valid-more (valid-none (omega arith)) 3 (omega arith) _ c.valid_between.ensures (not-false _ c.if-not-valid_between.false))
+    (omega arith, valid-more (valid-none (omega arith)) 3 (omega arith) _ c.valid_between.ensures c.if-not-valid_between.false)
 
 pub valid_block-requires : goal.valid_block-requires
 valid_block-requires c = simp (length-take, length-drop) (omega arith)
@@ -26,12 +25,12 @@ valid_block-requires c = simp (length-take, length-drop) (omega arith)
 pub returns-then-not-valid_block : goal.returns-then-not-valid_block
 returns-then-not-valid_block c =
     let head = c.loop-i in
-    sym (from_all _ ∙ valid-not head.invariant.1 (head.i + 384) (omega arith) _ (c.valid_block.ensures ∙ block-valid _ _ _ head.invariant.0 c.loop-i-test.true) (not-true _ c.if-not-valid_block.true))
+    sym (from_all _ ∙ valid-not head.invariant.1 (head.i + 384) (omega arith) _ (c.valid_block.ensures ∙ block-valid _ _ _ head.invariant.0 c.loop-i-test.true) c.if-not-valid_block.true)
 
 pub loop-i-preserved : goal.loop-i-preserved
 loop-i-preserved c =
     let head = c.loop-i in
-    (omega arith, valid-more head.invariant.1 (head.i + 384) (omega arith) _ (c.valid_block.ensures ∙ block-valid _ _ _ head.invariant.0 c.loop-i-test.true) (not-false _ c.if-not-valid_block.false))
+    (omega arith, valid-more head.invariant.1 (head.i + 384) (omega arith) _ (c.valid_block.ensures ∙ block-valid _ _ _ head.invariant.0 c.loop-i-test.true) c.if-not-valid_block.false)
 
 pub valid_rest-requires : goal.valid_rest-requires
 valid_rest-requires c = (omega arith, omega arith)

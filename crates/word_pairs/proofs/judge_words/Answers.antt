@@ -1,6 +1,5 @@
 use Prim.Native.Nat.{◌-◌}
 use native.Mathlib.Omega.{arith}
-use borrow.Author.Tests.{not-true, not-false}
 use Rattle.word_pairs.proofs.Judging.{none-judged, word-judged, words-short, words_long, words-torn, words-formed}
 use Rattle.word_pairs.proofs.judge_words.Goals as goal
 
@@ -29,9 +28,7 @@ pub returns-then-at-bytes : goal.returns-then-at-bytes
 returns-then-at-bytes c = words_long c.loop-i.invariant c.loop-i-test.false c.if-at-bytes.true
 
 pub returns-then-not-formed : goal.returns-then-not-formed
-returns-then-not-formed c =
-    words-torn c.loop-i.invariant c.loop-i-test.false c.if-at-bytes.false (not-true _ c.if-not-formed.true)
+returns-then-not-formed c = words-torn c.loop-i.invariant c.loop-i-test.false c.if-at-bytes.false c.if-not-formed.true
 
 pub returns : goal.returns
-returns c =
-    words-formed c.loop-i.invariant c.loop-i-test.false c.if-at-bytes.false (not-false _ c.if-not-formed.false)
+returns c = words-formed c.loop-i.invariant c.loop-i-test.false c.if-at-bytes.false c.if-not-formed.false

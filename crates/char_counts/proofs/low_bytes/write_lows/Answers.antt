@@ -6,11 +6,11 @@ pub low_each-requires : goal.low_each-requires
 low_each-requires c =
     each-ready (first-low c.args.text.now c.args.lows.now c.requires.0) _ (omega arith) (omega arith) c.requires.1
 
-pub shape_of-lows-then-text-lt16 : goal.shape_of-lows-then-text-lt16
-shape_of-lows-then-text-lt16 c = (returns c).same
-
 pub returns-then-text-lt16 : goal.returns-then-text-lt16
 returns-then-text-lt16 c = lows-after (first-low c.args.text.now c.args.lows.now c.requires.0) c.low_each.ensures
+
+pub shape_of-lows-then-text-lt16 : goal.shape_of-lows-then-text-lt16
+shape_of-lows-then-text-lt16 c = (returns-then-text-lt16 c).same
 
 pub low_each-requires-2 : goal.low_each-requires-2
 low_each-requires-2 c =
@@ -32,10 +32,10 @@ low_each-requires-3 c =
     let first = lows-after (first-low c.args.text.now c.args.lows.now c.requires.0) c.low_each-2.ensures in
     each-ready c.loop-i.invariant.1 _ (omega arith) (omega arith) (omega (arith, first.same, c.requires.1))
 
-pub shape_of-lows : goal.shape_of-lows
-shape_of-lows c = (returns-2 c).same
-
 pub returns : goal.returns
 returns c =
     let first = lows-after (first-low c.args.text.now c.args.lows.now c.requires.0) c.low_each-2.ensures in
     lows-after first (lows-after c.loop-i.invariant.1 c.low_each-3.ensures)
+
+pub shape_of-lows : goal.shape_of-lows
+shape_of-lows c = (returns c).same

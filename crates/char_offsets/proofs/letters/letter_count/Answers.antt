@@ -1,21 +1,21 @@
 -- The text's refusal comes first; then the range; past these the bytes that begin a character are counted.
 use mathlib.Core.Path.{◌∙◌, sym}
 use native.Mathlib.Omega.{arith}
-use borrow.Author.Tests.{not-true, not-false}
 use Rattle.utf8.proofs.Boundaries.{Between, char-range-between}
 use Rattle.char_offsets.proofs.LetterCounts.{leads-part-le, count-refused, count-off, count_is}
 use Rattle.char_offsets.proofs.letters.letter_count.Goals as goal
+use Rattle.char_offsets.proofs.letters.letter_count.Goals.{Else-not-is_char_range}
 
 -- the range that is counted
-between : (c : goal.Else-not-is_char_range) → Between c.args.text.now c.args.start.0 c.args.end.0
-between c = char-range-between _ _ _ (sym c.is_char_range.ensures ∙ not-false _ c.if-not-is_char_range.false)
+between : (c : Else-not-is_char_range) → Between c.args.text.now c.args.start.0 c.args.end.0
+between c = char-range-between _ _ _ (sym c.is_char_range.ensures ∙ c.if-not-is_char_range.false)
 
 pub returns-in-Refused : goal.returns-in-Refused
 returns-in-Refused c = count-refused _ _ _ _ c.check_text.ensures c.in-Refused.is
 
 pub returns-then-not-is_char_range : goal.returns-then-not-is_char_range
 returns-then-not-is_char_range c =
-    count-off _ _ _ _ c.check_text.ensures c.in_default.is c.is_char_range.ensures (not-true _ c.if-not-is_char_range.true)
+    count-off _ _ _ _ c.check_text.ensures c.in_default.is c.is_char_range.ensures c.if-not-is_char_range.true
 
 pub slice_bounds-count_leads-count : goal.slice_bounds-count_leads-count
 slice_bounds-count_leads-count c = omega (arith, (between c).onward)
@@ -32,4 +32,4 @@ overflow_cast-result c = omega (arith, leads-part-le c.args.text.now c.args.star
 pub returns : goal.returns
 returns c =
     count_is _ _ _ _ c.check_text.ensures c.in_default.is
-    c.is_char_range.ensures (not-false _ c.if-not-is_char_range.false) c.count_leads.ensures
+    c.is_char_range.ensures c.if-not-is_char_range.false c.count_leads.ensures

@@ -4,9 +4,10 @@ use native.Mathlib.Omega.{arith}
 use Rattle.script.proofs.Scripts.{Stepped, entry-step, entry-broken, entries-end}
 use Rattle.edit_steps.proofs.Given.{none_going, command-room, counting, going-over, below_all, gone}
 use Rattle.edit_steps.proofs.laying.lay_script.Goals as goal
+use Rattle.edit_steps.proofs.laying.lay_script.Goals.{In-At-2}
 
 -- the command that a turn reads, and where it goes on
-step : (c : goal.In-At-2) → Stepped (c).args.script.now c.loop-i.i c.in-At.command c.in-At.next
+step : (c : In-At-2) → Stepped (c).args.script.now c.loop-i.i c.in-At.command c.in-At.next
 step c = entry-step _ c.entry_at.ensures c.in-At.is
 
 pub loop-i-init : goal.loop-i-init

@@ -8,8 +8,9 @@ use Rattle.edits.specs.Whole.{codes_faults, map_edit}
 use Rattle.edits.proofs.Inputs.{note-first, bad-codes, count-refused}
 use Rattle.edits.proofs.Mapped.{head-refused, map-large, map-room, map-made}
 use Rattle.edits.proofs.mapping.map.Goals as goal
+use Rattle.edits.proofs.mapping.map.Goals.{Start}
 
-abbrev note : goal.Start → Note
+abbrev note : Start → Note
 note c = lent c.args.original.now c.args.normalized.now c.args.starts.now c.args.ends.now c.args.original_shift
 
 pub returns-then-not-judged : goal.returns-then-not-judged

@@ -1,6 +1,5 @@
 use mathlib.Core.Path.{◌∙◌, sym}
 use native.Mathlib.Omega.{arith}
-use borrow.Author.Tests.{not-true, not-false}
 use Rattle.buffers.proofs.Columns.{filled_at}
 use Rattle.from_text.proofs.CharRanges.{no-ends, end-begins, end-goes-on}
 use Rattle.from_text.proofs.columns.carry_ends.Goals as goal
@@ -13,7 +12,7 @@ loop-i-preserved-then-not-continues c =
     (
       omega arith,
       end-begins c.loop-i.invariant.1 (omega arith) (omega arith) c.requires.text_value.0
-          (sym c.continues.ensures ∙ not-true _ c.if-not-continues.true),
+          (sym c.continues.ensures ∙ c.if-not-continues.true),
     )
 
 pub loop-i-preserved : goal.loop-i-preserved
@@ -21,7 +20,7 @@ loop-i-preserved c =
     (
       omega arith,
       end-goes-on c.loop-i.invariant.1 (omega arith) (omega arith)
-          (sym c.continues.ensures ∙ not-false _ c.if-not-continues.false),
+          (sym c.continues.ensures ∙ c.if-not-continues.false),
     )
 
 pub shape_of-ends : goal.shape_of-ends

@@ -1,7 +1,6 @@
 use Prim.Native.Nat.{◌-◌}
 use mathlib.Core.Path.{◌∙◌, sym}
 use native.Mathlib.Omega.{arith}
-use borrow.Author.Tests.{not-true, not-false}
 use Rattle.utf8.proofs.CharRanges.{end_none, end_step, end-found, end-last}
 use Rattle.utf8.proofs.ranges.char_end.Goals as goal
 
@@ -10,11 +9,10 @@ loop-k-init c = end_none _ _ (omega arith)
 
 pub returns-then-not-continues : goal.returns-then-not-continues
 returns-then-not-continues c =
-    end-found c.requires.0 c.loop-k.invariant c.loop-k-test.true (sym c.continues.ensures ∙ not-true _ c.if-not-continues.true)
+    end-found c.requires.0 c.loop-k.invariant c.loop-k-test.true (sym c.continues.ensures ∙ c.if-not-continues.true)
 
 pub loop-k-preserved : goal.loop-k-preserved
-loop-k-preserved c =
-    end_step c.loop-k.invariant c.loop-k-test.true (sym c.continues.ensures ∙ not-false _ c.if-not-continues.false)
+loop-k-preserved c = end_step c.loop-k.invariant c.loop-k-test.true (sym c.continues.ensures ∙ c.if-not-continues.false)
 
 pub returns : goal.returns
 returns c = end-last c.requires.0 c.loop-k.invariant (omega arith)

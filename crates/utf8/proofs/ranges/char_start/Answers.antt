@@ -1,6 +1,5 @@
 use mathlib.Core.Path.{◌∙◌, refl, sym}
 use native.Mathlib.Omega.{arith}
-use borrow.Author.Tests.{not-true, not-false}
 use Rattle.utf8.proofs.CharRanges.{char_start-begins, start-step, start_first}
 use Rattle.utf8.proofs.ranges.char_start.Goals as goal
 
@@ -9,10 +8,10 @@ loop-k-init c = record { here = refl; most = omega arith }
 
 pub returns-then-not-continues : goal.returns-then-not-continues
 returns-then-not-continues c =
-    sym (c.loop-k.invariant.here ∙ char_start-begins _ _ (sym c.continues.ensures ∙ not-true _ c.if-not-continues.true))
+    sym (c.loop-k.invariant.here ∙ char_start-begins _ _ (sym c.continues.ensures ∙ c.if-not-continues.true))
 
 pub loop-k-preserved : goal.loop-k-preserved
-loop-k-preserved c = start-step c.loop-k.invariant (sym c.continues.ensures ∙ not-false _ c.if-not-continues.false)
+loop-k-preserved c = start-step c.loop-k.invariant (sym c.continues.ensures ∙ c.if-not-continues.false)
 
 pub returns : goal.returns
 returns c = start_first c.loop-k.invariant (omega arith)

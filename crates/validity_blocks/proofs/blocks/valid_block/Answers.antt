@@ -5,12 +5,13 @@ use Rattle.validity_blocks.proofs.Largest.{parts-largest}
 use Rattle.validity_blocks.proofs.LeastLead.{parts-least}
 use Rattle.validity_blocks.proofs.Valid.{block-ascii}
 use Rattle.validity_blocks.proofs.blocks.valid_block.Goals as goal
+use Rattle.validity_blocks.proofs.blocks.valid_block.Goals.{After-max_u8-most, Else-least-lt2}
 
-whole : (c : goal.After-max_u8-most) → c.max_u8-most.result ≡ largest c.args.s.now
+whole : (c : After-max_u8-most) → c.max_u8-most.result ≡ largest c.args.s.now
 whole c = parts-largest _ c.bounds_of-front.ensures.0 c.bounds_of-back.ensures.0 c.max_u8-most.ensures
 
 -- past the tests for 80 and for C0 and C1
-past : (c : goal.Else-least-lt2) → (c.min_u8-least.result ≡ least_lead c.args.s.now)
+past : (c : Else-least-lt2) → (c.min_u8-least.result ≡ least_lead c.args.s.now)
 past c =
     parts-least _ c.bounds_of-front.ensures.1 c.bounds_of-back.ensures.1 c.min_u8-least.ensures
 

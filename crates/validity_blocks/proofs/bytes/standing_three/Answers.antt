@@ -4,8 +4,9 @@ use Rattle.buffers.proofs.Booleans.{select-most}
 use Rattle.utf8.specs.Table.{within}
 use Rattle.validity_blocks.proofs.Invalid.{three-if-odd, three-else}
 use Rattle.validity_blocks.proofs.bytes.standing_three.Goals as goal
+use Rattle.validity_blocks.proofs.bytes.standing_three.Goals.{After-max_u8}
 
-larger : (c : goal.After-max_u8) → c.max_u8.result ≡ max c.args.b1 (c.args.b2 - 0x20)
+larger : (c : After-max_u8) → c.max_u8.result ≡ max c.args.b1 (c.args.b2 - 0x20)
 larger c = omega arith
 
 pub overflow_add-b1 : goal.overflow_add-b1
