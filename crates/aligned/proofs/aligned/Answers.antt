@@ -1,4 +1,5 @@
 -- A starting note is aligned; of another, the alignments one beside the other, then the transcript's boundaries.
+use mathlib.Core.Bool.{not}
 use mathlib.Core.Path.{sym, ap, ◌∙◌}
 use Rattle.validity.specs.Texts.{ascii}
 use Rattle.boundaries.proofs.Monotone.{not-monotone, monotone-ascii, monotone-uncut}
@@ -7,8 +8,10 @@ use Rattle.aligned.proofs.aligned.Goals as goal
 
 pub is_starting-requires : goal.is_starting-requires
 is_starting-requires c =
-    let both = let known = c.requires in
-    (known.kind ∙ ap ascii (known.alike c.if-same.true), (known.normalized_short, (known.starts_paired, known.ends_paired))) in record { plain_value = both.0; text_len_bound = both.1.0; starts_len = both.1.1 }
+    record { plain_value = (let known = c.requires in
+    (known.kind ∙ ap ascii (known.alike c.if-same.true), (known.normalized_short, (known.starts_paired, known.ends_paired)))).0; text_len_bound = (let known = c.requires in
+    (known.kind ∙ ap ascii (known.alike c.if-same.true), (known.normalized_short, (known.starts_paired, known.ends_paired)))).1.0; starts_len = (let known = c.requires in
+    (known.kind ∙ ap ascii (known.alike c.if-same.true), (known.normalized_short, (known.starts_paired, known.ends_paired)))).1.1 }
 
 pub returns-then-is_starting : goal.returns-then-is_starting
 returns-then-is_starting c =
@@ -16,17 +19,18 @@ returns-then-is_starting c =
     starting-aligned _ _ _ _ _ known.formed known.starts_paired known.ends_paired (known.alike c.if-same.true) c.is_starting.ensures c.if-is_starting.true
 
 pub returns-then-not-monotone : goal.returns-then-not-monotone
-returns-then-not-monotone c = not-monotone _ _ _ _ c.monotone.ensures c.if-not-monotone.true
+returns-then-not-monotone c = not-monotone _ _ _ _ c.monotone.ensures (ap not c.if-not-monotone.true)
 
 pub returns-then-plain : goal.returns-then-plain
 returns-then-plain c =
-    monotone-ascii _ _ _ _ c.monotone.ensures c.if-not-monotone.false (sym c.requires.kind ∙ c.if-plain.true)
+    monotone-ascii _ _ _ _ c.monotone.ensures (ap not c.if-not-monotone.false) (sym c.requires.kind ∙ c.if-plain.true)
 
 pub uncut_all-requires : goal.uncut_all-requires
 uncut_all-requires c =
-    let both = let known = c.requires in
-    ((known.original_formed, known.starts_paired), (known.ends_paired, sym c.monotone.ensures ∙ c.if-not-monotone.false)) in record { original_value = both.0; ends_len = both.1 }
+    record { original_value = (let known = c.requires in
+    ((known.original_formed, known.starts_paired), (known.ends_paired, sym c.monotone.ensures ∙ c.if-not-monotone.false))).0; ends_len = (let known = c.requires in
+    ((known.original_formed, known.starts_paired), (known.ends_paired, sym c.monotone.ensures ∙ c.if-not-monotone.false))).1 }
 
 pub returns : goal.returns
 returns c =
-    monotone-uncut _ _ _ _ c.monotone.ensures c.if-not-monotone.false c.uncut_all.ensures c.requires.starts_paired
+    monotone-uncut _ _ _ _ c.monotone.ensures (ap not c.if-not-monotone.false) c.uncut_all.ensures c.requires.starts_paired

@@ -23,6 +23,6 @@ overflow_add-result c =
 
 pub returns : goal.returns
 returns c =
-    prepend-laid (c).announced-length.ensures c.copy_bytes.ensures
+    prepend-laid c.announced_length-size.ensures c.copy_bytes.ensures
     c.copy_bytes-2.ensures c.front_of.ensures c.lay_column.ensures
     c.front_of-2.ensures c.lay_column-2.ensures

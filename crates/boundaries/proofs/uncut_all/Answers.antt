@@ -10,5 +10,6 @@ overflow_cast-last c = omega (arith, c.type_inv.starts (length c.args.starts.now
 
 pub uncut_blocks-requires : goal.uncut_blocks-requires
 uncut_blocks-requires c =
-    let both = let pre = c.requires.original_value in
-    (omega (arith, pre.0.1, pre.1.0), starts-inside _ _ _ _ _ pre.1.1 pre.0.0 pre.0.1 c.if-last-original.true) in record { ends_len = both.0; starts_inside = both.1 }
+    record { ends_len = (let pre = c.requires.original_value in
+    (omega (arith, pre.0.1, pre.1.0), starts-inside _ _ _ _ _ pre.1.1 pre.0.0 pre.0.1 c.if-last-original.true)).0; starts_inside = (let pre = c.requires.original_value in
+    (omega (arith, pre.0.1, pre.1.0), starts-inside _ _ _ _ _ pre.1.1 pre.0.0 pre.0.1 c.if-last-original.true)).1 }

@@ -1,3 +1,5 @@
+use mathlib.Core.Path.{ap}
+use mathlib.Core.Bool.{not}
 use Prim.Native.Nat.{◌-◌}
 use mathlib.Core.Path.{sym}
 use mathlib.Core.Bool.{true}
@@ -16,11 +18,11 @@ block_uncut-requires c =
 
 pub returns-then-not-block_uncut : goal.returns-then-not-block_uncut
 returns-then-not-block_uncut c =
-    blocks-cut _ _ _ _ c.loop-i.invariant.1 c.block_uncut.ensures c.if-not-block_uncut.true (omega arith)
+    blocks-cut _ _ _ _ c.loop-i.invariant.1 c.block_uncut.ensures (ap not c.if-not-block_uncut.true) (omega arith)
 
 pub loop-i-preserved : goal.loop-i-preserved
 loop-i-preserved c =
-    (omega arith, blocks_more _ _ _ _ c.loop-i.invariant.1 c.block_uncut.ensures c.if-not-block_uncut.false)
+    (omega arith, blocks_more _ _ _ _ c.loop-i.invariant.1 c.block_uncut.ensures (ap not c.if-not-block_uncut.false))
 
 pub all_uncut-requires : goal.all_uncut-requires
 all_uncut-requires c = simp (length-take, length-drop) (omega arith)

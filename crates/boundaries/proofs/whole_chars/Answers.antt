@@ -6,8 +6,8 @@ use Rattle.boundaries.proofs.Spanning.{all-spans}
 use Rattle.boundaries.proofs.whole_chars.Goals as goal
 
 pub returns-then-not-all_lead : goal.returns-then-not-all_lead
-returns-then-not-all_lead c = clash false t refl
+returns-then-not-all_lead c t = clash false t refl
 
 pub returns : goal.returns
-returns c =
+returns c t =
     all-spans _ c.requires.starts_inside c.requires.starts_len.0 c.read_at-arg-1.given.0.1 refl c.read_at.ensures c.write_widths.ensures (sym c.all_lead.ensures ∙ c.if-not-all_lead.false) (sym c.widths_match.ensures ∙ t)

@@ -15,11 +15,10 @@ overflow_add-result c =
 
 pub returns-then-text-to : goal.returns-then-text-to
 returns-then-text-to c =
-    let args = c.args in
     let below = c.if-text-from.false in
     let first = c.start_index-index.ensures in
     mapped-chars _ _ _ (record { first_known = cursor-at c.requires.0.first_known.short below first; last_known = c.requires.0.last_known }) below first
-    (omega (arith, first, (end-past args.start.0 args.end.0 below c.if-text-to.true).right args.text.now refl))
+    (omega (arith, first, (end-past c.args.start.0 c.args.end.0 below c.if-text-to.true).right c.args.text.now refl))
 
 pub overflow_add-result-2 : goal.overflow_add-result-2
 overflow_add-result-2 c =

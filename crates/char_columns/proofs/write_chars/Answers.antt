@@ -7,4 +7,4 @@ pub write_plain-requires : goal.write_plain-requires
 write_plain-requires c = record { pairs_ready = c.requires; text_value = sym c.is_ascii.ensures ∙ c.if-is_ascii.true }
 
 pub returns-then-is_ascii : goal.returns-then-is_ascii
-returns-then-is_ascii c = plain-counted (c).requires (sym c.is_ascii.ensures ∙ c.if-is_ascii.true) c.write_plain.ensures
+returns-then-is_ascii c = plain-counted c.requires (sym c.is_ascii.ensures ∙ c.if-is_ascii.true) c.write_plain.ensures

@@ -19,8 +19,9 @@ index_from-first-requires c =
 
 pub index_from-past-requires : goal.index_from-past-requires
 index_from-past-requires c =
-    let both = let short = text-short _ _ (sym c.check_text.ensures ∙ c.in_default.is) in
-    (record { short = short; inside = omega arith; so_far = c.index_from-first.ensures }, c.end_byte-last.ensures.inside) in record { index_known = both.0; to_in_bounds = both.1 }
+    record { index_known = (let short = text-short _ _ (sym c.check_text.ensures ∙ c.in_default.is) in
+    (record { short = short; inside = omega arith; so_far = c.index_from-first.ensures }, c.end_byte-last.ensures.inside)).0; to_in_bounds = (let short = text-short _ _ (sym c.check_text.ensures ∙ c.in_default.is) in
+    (record { short = short; inside = omega arith; so_far = c.index_from-first.ensures }, c.end_byte-last.ensures.inside)).1 }
 
 pub overflow_add-result : goal.overflow_add-result
 overflow_add-result c =

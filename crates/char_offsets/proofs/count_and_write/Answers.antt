@@ -9,4 +9,4 @@ write_pairs-requires c =
         marks_are = c.write_marks.ensures;
         long = omega (arith, c.write_lows.ensures.same, c.requires.text_len_bound, c.zeroed_lows-lows.ensures);
         lows_are = c.write_lows.ensures.lows;
-      }; pair_room = (c.requires.pair_room,) }
+      }; pair_room = c.requires.pair_room }

@@ -1,4 +1,6 @@
 -- Each way out is the first condition met.
+use mathlib.Core.Path.{ap}
+use mathlib.Core.Bool.{not}
 use mathlib.Core.Path.{sym, ◌∙◌}
 use mathlib.Mathlib.Data.Bool.Basic.{and_elim_left, and_elim_right}
 use Rattle.buffers.proofs.Same.{same-equal}
@@ -7,11 +9,11 @@ use Rattle.checks.proofs.Lengths.{too_long, unpaired, ill-formed, by-alignments,
 use Rattle.checks.proofs.check_note.Goals as goal
 
 pub returns-then-not-lengths_fit : goal.returns-then-not-lengths_fit
-returns-then-not-lengths_fit c = too_long _ _ _ _ _ _ c.lengths_fit.ensures c.if-not-lengths_fit.true
+returns-then-not-lengths_fit c = too_long _ _ _ _ _ _ c.lengths_fit.ensures (ap not c.if-not-lengths_fit.true)
 
 pub returns-then-not-lengths_paired : goal.returns-then-not-lengths_paired
 returns-then-not-lengths_paired c =
-    unpaired _ _ _ _ _ _ c.lengths_fit.ensures c.if-not-lengths_fit.false c.lengths_paired.ensures c.if-not-lengths_paired.true
+    unpaired _ _ _ _ _ _ c.lengths_fit.ensures (ap not c.if-not-lengths_fit.false) c.lengths_paired.ensures (ap not c.if-not-lengths_paired.true)
 
 pub texts_formed-requires : goal.texts_formed-requires
 texts_formed-requires c =
@@ -19,7 +21,7 @@ texts_formed-requires c =
 
 pub returns-then-not-texts_formed : goal.returns-then-not-texts_formed
 returns-then-not-texts_formed c =
-    ill-formed _ _ _ _ _ _ c.lengths_fit.ensures c.if-not-lengths_fit.false c.lengths_paired.ensures c.if-not-lengths_paired.false c.texts_formed.ensures c.if-not-texts_formed.true
+    ill-formed _ _ _ _ _ _ c.lengths_fit.ensures (ap not c.if-not-lengths_fit.false) c.lengths_paired.ensures (ap not c.if-not-lengths_paired.false) c.texts_formed.ensures (ap not c.if-not-texts_formed.true)
 
 pub aligned-requires : goal.aligned-requires
 aligned-requires c =
@@ -38,4 +40,4 @@ aligned-requires c =
 
 pub returns : goal.returns
 returns c =
-    by-alignments _ _ _ _ _ _ c.lengths_fit.ensures c.if-not-lengths_fit.false c.lengths_paired.ensures c.if-not-lengths_paired.false c.texts_formed.ensures c.if-not-texts_formed.false c.aligned.ensures c.refused_if.ensures
+    by-alignments _ _ _ _ _ _ c.lengths_fit.ensures (ap not c.if-not-lengths_fit.false) c.lengths_paired.ensures (ap not c.if-not-lengths_paired.false) c.texts_formed.ensures (ap not c.if-not-texts_formed.false) c.aligned.ensures c.refused_if.ensures

@@ -7,4 +7,4 @@ pub returns-then-text-gt-LIMIT : goal.returns-then-text-gt-LIMIT
 returns-then-text-gt-LIMIT c = text_long _ _ c.if-text-gt-LIMIT.true
 
 pub returns : goal.returns
-returns c = c.refused_if.ensures ∙ text-verdict _ _ c.if-text-gt-LIMIT.false c.well-formed-2.ensures
+returns c = c.refused_if.ensures ∙ text-verdict _ _ c.if-text-gt-LIMIT.false c.well_formed-2.ensures

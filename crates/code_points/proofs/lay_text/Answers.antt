@@ -28,16 +28,17 @@ pub slice_bounds-lay_block-end : goal.slice_bounds-lay_block-end
 slice_bounds-lay_block-end c = omega (arith, block c)
 
 pub lay_block-at-requires : goal.lay_block-at-requires
-lay_block-at-requires c = block_room c.loop-i.invariant (block c.before.before).0 c.requires.0 (block c.before.before).1
+lay_block-at-requires c =
+    block_room c.loop-i.invariant (block (goal.at.lay_block-at-requires c).In-loop-i).0 c.requires.0 (block (goal.at.lay_block-at-requires c).In-loop-i).1
 
 pub overflow_add-i-in-loop-i : goal.overflow_add-i-in-loop-i
-overflow_add-i-in-loop-i c = omega (arith, block c.before.before.before.before.before)
+overflow_add-i-in-loop-i c = omega (arith, block (goal.at.overflow_add-i-in-loop-i c).In-loop-i)
 
 pub loop-i-smaller : goal.loop-i-smaller
-loop-i-smaller c = omega (arith, block c.before.before.before.before.before)
+loop-i-smaller c = omega (arith, block (goal.at.loop-i-smaller c).In-loop-i)
 
 pub loop-i-preserved : goal.loop-i-preserved
-loop-i-preserved c = one_block c.loop-i.invariant (block c.before.before.before.before.before).0 c.lay_block-at.ensures
+loop-i-preserved c = one_block c.loop-i.invariant (block (goal.at.loop-i-preserved c).In-loop-i).0 c.lay_block-at.ensures
 
 pub slice_bounds-lay_singly-count : goal.slice_bounds-lay_singly-count
 slice_bounds-lay_singly-count c = c.loop-i.invariant.texts.most

@@ -23,39 +23,39 @@ bounds-to-i c = let known = c.requires.ranges_between in omega (arith, known.ins
 pub first_start-requires : goal.first_start-requires
 first_start-requires c =
     let so = sym c.expands.ensures ∙ c.if-expands.true in
-    omega (arith, (c).pre.0.paired, has-byte _ _ _ so, has_end _ _ _ so, c.expandable-len.ensures, expandable-most (c).args.side (length (c).args.ends.now))
+    omega (arith, c.requires.ordered_columns.paired, has-byte _ _ _ so, has_end _ _ _ so, c.expandable-len.ensures, expandable-most c.args.side (length c.args.ends.now))
 
 pub bounds-out_starts-i : goal.bounds-out_starts-i
 bounds-out_starts-i c =
-    let known = (c).pre.1 in omega (arith, c.loop-i.invariant.1.starts_are.same, known.inside, known.room.of_starts)
+    let known = c.requires.ranges_between in omega (arith, c.loop-i.invariant.1.starts_are.same, known.inside, known.room.of_starts)
 
 pub last_end-requires : goal.last_end-requires
 last_end-requires c =
     let so = sym c.expands.ensures ∙ c.if-expands.true in
-    (omega (arith, has-byte _ _ _ so), omega (arith, has_end _ _ _ so, c.expandable-len.ensures, expandable-most (c).args.side (length (c).args.ends.now)))
+    (omega (arith, has-byte _ _ _ so), omega (arith, has_end _ _ _ so, c.expandable-len.ensures, expandable-most c.args.side (length c.args.ends.now)))
 
 pub bounds-out_ends-i : goal.bounds-out_ends-i
 bounds-out_ends-i c =
-    let known = (c).pre.1 in omega (arith, c.loop-i.invariant.1.ends_are.same, known.inside, known.room.of_ends)
+    let known = c.requires.ranges_between in omega (arith, c.loop-i.invariant.1.ends_are.same, known.inside, known.room.of_ends)
 
 pub convert_checked-answer-requires : goal.convert_checked-answer-requires
-convert_checked-answer-requires c = (c).pre.0
+convert_checked-answer-requires c = c.requires.ordered_columns
 
 pub bounds-numbers-i : goal.bounds-numbers-i
 bounds-numbers-i c =
-    let known = (c).pre.1 in omega (arith, c.loop-i.invariant.1.numbers_are.same, known.inside, known.room.of_numbers)
+    let known = c.requires.ranges_between in omega (arith, c.loop-i.invariant.1.numbers_are.same, known.inside, known.room.of_numbers)
 
 pub bounds-out_starts-i-else-expands : goal.bounds-out_starts-i-else-expands
 bounds-out_starts-i-else-expands c =
-    let known = (c).pre.1 in omega (arith, c.loop-i.invariant.1.starts_are.same, known.inside, known.room.of_starts)
+    let known = c.requires.ranges_between in omega (arith, c.loop-i.invariant.1.starts_are.same, known.inside, known.room.of_starts)
 
 pub bounds-out_ends-i-else-expands : goal.bounds-out_ends-i-else-expands
 bounds-out_ends-i-else-expands c =
-    let known = (c).pre.1 in omega (arith, c.loop-i.invariant.1.ends_are.same, known.inside, known.room.of_ends)
+    let known = c.requires.ranges_between in omega (arith, c.loop-i.invariant.1.ends_are.same, known.inside, known.room.of_ends)
 
 pub loop-i-preserved : goal.loop-i-preserved
 loop-i-preserved c =
-    let known = (c).pre.1 in
+    let known = c.requires.ranges_between in
     let more = c.loop-i-test.true in (
       omega arith,
       ⊎_elim

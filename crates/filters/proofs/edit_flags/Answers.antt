@@ -1,4 +1,6 @@
 -- The range first, then whether there are characters enough, then the room; past these the result is laid down.
+use mathlib.Core.Path.{ap}
+use mathlib.Core.Bool.{not}
 use Prim.Native.Nat.{◌-◌, ◌^◌, ◌<◌}
 use lib.ListN.{length}
 use native.Mathlib.Omega.{arith}
@@ -12,7 +14,7 @@ pub returns-then-not-is_char_range : goal.returns-then-not-is_char_range
 returns-then-not-is_char_range c =
     not-placed limit c.requires.0 c.args.from.0 c.args.to.0 (skips c.args.flags.now)
     (flag_commands c.args.text.now c.args.flags.now) c.args.out.now c.args.out_starts.now
-    c.args.out_ends.now c.is_char_range.ensures c.if-not-is_char_range.true
+    c.args.out_ends.now c.is_char_range.ensures (ap not c.if-not-is_char_range.true)
 
 pub measure_flags-requires : goal.measure_flags-requires
 measure_flags-requires c =
@@ -20,7 +22,7 @@ measure_flags-requires c =
       standing =
           from-standing limit c.requires.0 c.args.from.0 c.args.to.0 (skips c.args.flags.now)
           (flag_commands c.args.text.now c.args.flags.now) c.args.out.now c.args.out_starts.now
-          c.args.out_ends.now c.is_char_range.ensures c.if-not-is_char_range.false;
+          c.args.out_ends.now c.is_char_range.ensures (ap not c.if-not-is_char_range.false);
       counted = c.requires.1;
     }
 
@@ -28,7 +30,7 @@ pub overflow_sub-kept : goal.overflow_sub-kept
 overflow_sub-kept c =
     (range_inside limit c.requires.0 c.args.from.0 c.args.to.0 (skips c.args.flags.now)
     (flag_commands c.args.text.now c.args.flags.now) c.args.out.now c.args.out_starts.now
-    c.args.out_ends.now c.is_char_range.ensures c.if-not-is_char_range.left).1
+    c.args.out_ends.now c.is_char_range.ensures (ap not c.if-not-is_char_range.false)).1
 
 pub overflow_add-kept : goal.overflow_add-kept
 overflow_add-kept c =
@@ -36,7 +38,7 @@ overflow_add-kept c =
     let range =
     range_inside limit entry.pre.0 entry.args.from.0 entry.args.to.0 (skips entry.args.flags.now)
     (flag_commands entry.args.text.now entry.args.flags.now) entry.args.out.now entry.args.out_starts.now
-    entry.args.out_ends.now (c).is-char-range.ensures c.if-not-is_char_range.false in
+    entry.args.out_ends.now c.is_char_range.ensures (ap not c.if-not-is_char_range.false) in
     let long : length entry.args.text.now < 2 ^ 64 = entry.good.0.0 in
     omega (arith, long, range.0, range.1)
 
@@ -44,7 +46,7 @@ pub returns-then-room-kept : goal.returns-then-room-kept
 returns-then-room-kept c =
     refused-kept limit c.requires.0 c.args.from.0 c.args.to.0 (skips c.args.flags.now)
     (flag_commands c.args.text.now c.args.flags.now) c.args.out.now c.args.out_starts.now
-    c.args.out_ends.now c.is_char_range.ensures c.if-not-is_char_range.left
+    c.args.out_ends.now c.is_char_range.ensures (ap not c.if-not-is_char_range.false)
     (begun-skipped c.args.text.now c.args.to.0 c.args.from.0 c.args.flags.now)
     c.measure_flags.ensures c.in-Size.is c.least_room.ensures
     c.least_of_two-room.ensures c.if-room-kept.true
@@ -53,7 +55,7 @@ pub returns-then-room-kept-2 : goal.returns-then-room-kept-2
 returns-then-room-kept-2 c =
     refused-size limit c.requires.0 c.args.from.0 c.args.to.0 (skips c.args.flags.now)
     (flag_commands c.args.text.now c.args.flags.now) c.args.out.now c.args.out_starts.now
-    c.args.out_ends.now c.is_char_range.ensures c.if-not-is_char_range.left
+    c.args.out_ends.now c.is_char_range.ensures (ap not c.if-not-is_char_range.false)
     (begun-skipped c.args.text.now c.args.to.0 c.args.from.0 c.args.flags.now)
     c.measure_flags.ensures c.in-Size.is c.least_room.ensures
     c.least_of_two-room.ensures c.if-room-kept.false c.if-room-kept-2.true
@@ -66,13 +68,13 @@ lay_filtered-requires c =
             standing =
                 from-standing limit c.requires.0 c.args.from.0 c.args.to.0 (skips c.args.flags.now)
                 (flag_commands c.args.text.now c.args.flags.now) c.args.out.now c.args.out_starts.now
-                c.args.out_ends.now c.is_char_range.ensures c.if-not-is_char_range.left;
+                c.args.out_ends.now c.is_char_range.ensures (ap not c.if-not-is_char_range.false);
             counted = c.requires.1;
           };
       rooms =
           edit-room limit c.requires.0 c.args.from.0 c.args.to.0 (skips c.args.flags.now)
           (flag_commands c.args.text.now c.args.flags.now) c.args.out.now c.args.out_starts.now
-          c.args.out_ends.now c.is_char_range.ensures c.if-not-is_char_range.left
+          c.args.out_ends.now c.is_char_range.ensures (ap not c.if-not-is_char_range.false)
           (begun-skipped c.args.text.now c.args.to.0 c.args.from.0 c.args.flags.now)
           c.measure_flags.ensures c.in-Size.is c.least_room.ensures
           c.least_of_two-room.ensures c.if-room-kept.false c.if-room-kept-2.false;
@@ -82,7 +84,7 @@ pub returns-in-Starved : goal.returns-in-Starved
 returns-in-Starved c =
     starved-refused limit c.requires.0 c.args.from.0 c.args.to.0 (skips c.args.flags.now)
     (flag_commands c.args.text.now c.args.flags.now) c.args.out.now c.args.out_starts.now
-    c.args.out_ends.now c.is_char_range.ensures c.if-not-is_char_range.false
+    c.args.out_ends.now c.is_char_range.ensures (ap not c.if-not-is_char_range.false)
     (begun-skipped c.args.text.now c.args.to.0 c.args.from.0 c.args.flags.now)
     c.measure_flags.ensures c.in-Starved.is
 
@@ -90,7 +92,7 @@ pub returns-else-room-kept-2 : goal.returns-else-room-kept-2
 returns-else-room-kept-2 c =
     edit-made limit c.requires.0 c.args.from.0 c.args.to.0 (skips c.args.flags.now)
     (flag_commands c.args.text.now c.args.flags.now) c.args.out.now c.args.out_starts.now
-    c.args.out_ends.now c.is_char_range.ensures c.if-not-is_char_range.left
+    c.args.out_ends.now c.is_char_range.ensures (ap not c.if-not-is_char_range.false)
     (begun-skipped c.args.text.now c.args.to.0 c.args.from.0 c.args.flags.now)
     c.measure_flags.ensures c.in-Size.is c.least_room.ensures
     c.least_of_two-room.ensures c.if-room-kept.false

@@ -2,7 +2,7 @@
 use mathlib.Core.Path.{refl}
 use native.Mathlib.Omega.{arith}
 use Rattle.note.specs.Refusals.{also}
-use Rattle.note.specs.Notes.{Note, lent, limit}
+use Rattle.note.specs.Notes.{lent, limit}
 use Rattle.note.specs.Faults.{note_faults}
 use Rattle.transform.proofs.Verdicts.{inputs-refused, inputs-accepted, note-columns, note-editable}
 use Rattle.edits.specs.Whole.{filter_edit}
@@ -10,17 +10,12 @@ use Rattle.edits.proofs.Inputs.{note-short}
 use Rattle.filters.proofs.Counted.{flag_faults, note-first, flag-each, count-refused, well-counted, filter-found, filter_none}
 use Rattle.filters.proofs.Spanned.{range-ready}
 use Rattle.filters.proofs.filter.Goals as goal
-use Rattle.filters.proofs.filter.Goals.{Start}
-
-abbrev note : Start → Note
-note c = lent c.args.original.now c.args.normalized.now c.args.starts.now c.args.ends.now c.args.original_shift
 
 pub returns-then-flags-count_leads : goal.returns-then-flags-count_leads
 returns-then-flags-count_leads c =
-    let given = c.args in
-    let note = note c.before.before.before.before.before.before.before.before.before.before.before.before.before in
-    inputs-refused limit note (also (note_faults limit note) (flag_faults given.normalized.now given.flags.now)) refl (filter_edit note given.flags.now) given.out.now given.out_starts.now given.out_ends.now
-    (count-refused limit note given.flags.now c.check_note.ensures c.in-Accepted.is c.count_leads.ensures c.if-flags-count_leads.true) refl
+    let note = (lent c.args.original.now c.args.normalized.now c.args.starts.now c.args.ends.now c.args.original_shift) in
+    inputs-refused limit note (also (note_faults limit note) (flag_faults c.args.normalized.now c.args.flags.now)) refl (filter_edit note c.args.flags.now) c.args.out.now c.args.out_starts.now c.args.out_ends.now
+    (count-refused limit note c.args.flags.now c.check_note.ensures c.in-Accepted.is c.count_leads.ensures c.if-flags-count_leads.true) refl
 
 pub overflow_cast-original : goal.overflow_cast-original
 overflow_cast-original c = omega (arith, note-short limit _ c.check_note.ensures c.in-Accepted.is)
@@ -30,35 +25,31 @@ as_normalized-requires c = note-columns limit _ c.check_note.ensures c.in-Accept
 
 pub filter_range-requires : goal.filter_range-requires
 filter_range-requires c =
-    let given = c.args in
-    let note = note c.before.before.before.before.before.before.before.before.before.before.before.before.before.before.before.before.before.before.before.before.before.before in
-    range-ready limit note given.flags.now c.check_note.ensures c.in-Accepted.is (flag-each limit note given.flags.now c.check_note.ensures c.in-Accepted.is c.count_leads.ensures c.if-flags-count_leads.left)
+    let note = (lent c.args.original.now c.args.normalized.now c.args.starts.now c.args.ends.now c.args.original_shift) in
+    range-ready limit note c.args.flags.now c.check_note.ensures c.in-Accepted.is (flag-each limit note c.args.flags.now c.check_note.ensures c.in-Accepted.is c.count_leads.ensures c.if-flags-count_leads.false)
 
 pub edit-requires : goal.edit-requires
 edit-requires c = note-editable limit _ c.check_note.ensures c.in-Accepted.is
 
 pub returns-in-Refused : goal.returns-in-Refused
 returns-in-Refused c =
-    let given = c.args in
-    let note = note c.before.before.before.before.before.before.before.before.before.before.before.before in
-    inputs-refused limit note (also (note_faults limit note) (flag_faults given.normalized.now given.flags.now)) refl
-    (filter_edit note given.flags.now) given.out.now given.out_starts.now given.out_ends.now
-    (note-first limit note given.flags.now c.check_note.ensures c.in-Refused.is) refl
+    let note = (lent c.args.original.now c.args.normalized.now c.args.starts.now c.args.ends.now c.args.original_shift) in
+    inputs-refused limit note (also (note_faults limit note) (flag_faults c.args.normalized.now c.args.flags.now)) refl
+    (filter_edit note c.args.flags.now) c.args.out.now c.args.out_starts.now c.args.out_ends.now
+    (note-first limit note c.args.flags.now c.check_note.ensures c.in-Refused.is) refl
 
 pub returns-in-Found : goal.returns-in-Found
 returns-in-Found c =
-    let given = (c).args in
     let note = note (c) in
-    inputs-accepted limit note (also (note_faults limit note) (flag_faults given.normalized.now given.flags.now)) refl (filter_edit note given.flags.now) given.out.now given.out_starts.now given.out_ends.now
-    (well-counted limit note given.flags.now c.check_note.ensures c.in-Accepted.is c.count_leads.ensures c.if-flags-count_leads.left) refl
-    (filter-found note given.flags.now c.as_normalized.ensures c.in-Found.is c.start_of.ensures c.end_of.ensures)
+    inputs-accepted limit note (also (note_faults limit note) (flag_faults c.args.normalized.now c.args.flags.now)) refl (filter_edit note c.args.flags.now) c.args.out.now c.args.out_starts.now c.args.out_ends.now
+    (well-counted limit note c.args.flags.now c.check_note.ensures c.in-Accepted.is c.count_leads.ensures c.if-flags-count_leads.false) refl
+    (filter-found note c.args.flags.now c.as_normalized.ensures c.in-Found.is c.start_of.ensures c.end_of.ensures)
     c.filter_range.ensures
 
 pub returns-in-Refused-as_normalized : goal.returns-in-Refused-as_normalized
 returns-in-Refused-as_normalized c =
-    let given = (c).args in
     let note = note (c) in
-    inputs-accepted limit note (also (note_faults limit note) (flag_faults given.normalized.now given.flags.now)) refl (filter_edit note given.flags.now) given.out.now given.out_starts.now given.out_ends.now
-    (well-counted limit note given.flags.now c.check_note.ensures c.in-Accepted.is c.count_leads.ensures c.if-flags-count_leads.left) refl
-    (filter_none note given.flags.now c.as_normalized.ensures c.in-Refused-as_normalized.is)
+    inputs-accepted limit note (also (note_faults limit note) (flag_faults c.args.normalized.now c.args.flags.now)) refl (filter_edit note c.args.flags.now) c.args.out.now c.args.out_starts.now c.args.out_ends.now
+    (well-counted limit note c.args.flags.now c.check_note.ensures c.in-Accepted.is c.count_leads.ensures c.if-flags-count_leads.false) refl
+    (filter_none note c.args.flags.now c.as_normalized.ensures c.in-Refused-as_normalized.is)
     c.edit.ensures

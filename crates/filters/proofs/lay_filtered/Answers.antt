@@ -10,19 +10,18 @@ keep-requires c = front-room c.requires.rooms
 
 pub lay_flags-at-requires : goal.lay_flags-at-requires
 lay_flags-at-requires c =
-    let room = (c).requires in record { ready = room.ready; rooms = middle-room room.rooms c.keep.ensures }
+    let room = c.requires in record { ready = room.ready; rooms = middle-room room.rooms c.keep.ensures }
 
 pub keep-requires-2 : goal.keep-requires-2
-keep-requires-2 c = back-room (entry (c).before).requires.rooms (c).keep.ensures c.lay_flags-at.ensures
+keep-requires-2 c = back-room c.requires.rooms c.keep.ensures c.lay_flags-at.ensures
 
 pub overflow_sub-result : goal.overflow_sub-result
-overflow_sub-result c = (entry (c).before).requires.rooms.inside
+overflow_sub-result c = c.requires.rooms.inside
 
 pub overflow_add-result : goal.overflow_add-result
 overflow_add-result c =
-    let entry = entry (c).before in
-    let long : length entry.args.out.now < 2 ^ 64 = entry.good.1.1.1.1.1.1.0.0 in
-    omega (arith, long, c.lay_flags-at.ensures.reached, entry.pre.rooms.text_room)
+    let long : length c.args.out.now < 2 ^ 64 = c.good.1.1.1.1.1.1.0.0 in
+    omega (arith, long, c.lay_flags-at.ensures.reached, c.requires.rooms.text_room)
 
 pub returns : goal.returns
 returns c = edit-laid c.requires.rooms c.keep.ensures c.lay_flags-at.ensures c.keep-2.ensures

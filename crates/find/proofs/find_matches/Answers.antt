@@ -1,4 +1,6 @@
 -- Text and literal are judged together, then the room; past both the list is written.
+use mathlib.Core.Path.{ap}
+use mathlib.Core.Bool.{not}
 use mathlib.Core.Path.{◌≡◌, ◌∙◌, sym}
 use borrow.Author.Tests.{leb-true}
 use Rattle.note.specs.Refusals.{also, verdict}
@@ -15,25 +17,25 @@ judged : (c : After-earlier) → c.earlier.result ≡ verdict (also (text_faults
 judged c = earlier-of _ _ c.check_text.ensures c.check_string.ensures c.earlier.ensures
 
 pub returns-in-Refused : goal.returns-in-Refused
-returns-in-Refused c = input-refused _ _ _ _ (judged c.before.before.before) c.in-Refused.is
+returns-in-Refused c = input-refused _ _ _ _ (judged (goal.at.returns-in-Refused c).After-earlier) c.in-Refused.is
 
 pub list_fits-requires : goal.list_fits-requires
 list_fits-requires c =
-    (text-short _ _ (accepted-first _ (string_faults c.args.literal.now) (sym (judged c.before.before.before) ∙ c.in_default.is)), c.first_match-first.ensures)
+    (text-short _ _ (accepted-first _ (string_faults c.args.literal.now) (sym (judged (goal.at.list_fits-requires c).After-earlier) ∙ c.in_default.is)), c.first_match-first.ensures)
 
 pub returns-then-not-list_fits : goal.returns-then-not-list_fits
 returns-then-not-list_fits c =
-    room-refused _ _ _ _ (judged c.before.before.before.before.before) c.in_default.is c.list_fits.ensures c.if-not-list_fits.true
+    room-refused _ _ _ _ (judged (goal.at.returns-then-not-list_fits c).After-earlier) c.in_default.is c.list_fits.ensures (ap not c.if-not-list_fits.true)
 
 pub write_list-requires : goal.write_list-requires
 write_list-requires c =
     (
-      text-short _ _ (accepted-first _ (string_faults c.args.literal.now) (sym (judged c.before.before.before.before.before.before) ∙ c.in_default.is)),
+      text-short _ _ (accepted-first _ (string_faults c.args.literal.now) (sym (judged (goal.at.write_list-requires c).After-earlier) ∙ c.in_default.is)),
       c.first_match-first.ensures,
       leb-true _ _ (sym c.list_fits.ensures ∙ c.if-not-list_fits.false),
     )
 
 pub returns : goal.returns
 returns c =
-    list_written _ _ _ _ (judged c.before.before.before.before.before.before.before.before.before) c.in_default.is
-    c.list_fits.ensures c.if-not-list_fits.false c.write_list.ensures
+    list_written _ _ _ _ (judged (goal.at.returns c).After-earlier) c.in_default.is
+    c.list_fits.ensures (ap not c.if-not-list_fits.false) c.write_list.ensures

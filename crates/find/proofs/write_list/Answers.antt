@@ -31,13 +31,13 @@ overflow_add-at c = omega (arith, match-inside c.loop-start.invariant.stands c.l
 pub place_from-requires-in-loop-start : goal.place_from-requires-in-loop-start
 place_from-requires-in-loop-start c =
     let inside = match-inside c.loop-start.invariant.stands c.loop-start-test.true in
-    (omega (arith, (c).pre.0), omega (arith, (c).pre.0, inside))
+    (omega (arith, c.requires.0), omega (arith, c.requires.0, inside))
 
 pub write_place-i-requires : goal.write_place-i-requires
 write_place-i-requires c =
     let is = c.place_from-in-loop-start.ensures in
     let inside = match-inside c.loop-start.invariant.stands c.loop-start-test.true in
-    let short = (c).pre.0 in
+    let short = c.requires.0 in
     (place-writable is (omega (arith, short)) (omega (arith, short, inside)), room-match c.loop-start.invariant c.write_between-i.ensures c.loop-start-test.true is)
 
 pub next_match-start-requires : goal.next_match-start-requires

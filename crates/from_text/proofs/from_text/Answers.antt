@@ -22,11 +22,11 @@ returns-then-least_of_two-text c = too-little-room _ _ _ _ c.check_text.ensures 
 
 pub write_starts-requires : goal.write_starts-requires
 write_starts-requires c =
-    record { text_value = (text_formed _ _ (accepted c.before), text-short _ _ (accepted c.before)); text_in_bounds = omega arith }
+    record { text_value = (text_formed _ _ (accepted (goal.at.write_starts-requires c).Else-least_of_two-text), text-short _ _ (accepted (goal.at.write_starts-requires c).Else-least_of_two-text)); text_in_bounds = omega arith }
 
 pub write_ends-requires : goal.write_ends-requires
 write_ends-requires c =
-    record { text_value = (text_formed _ _ (accepted c.before.before.before.before.before), text-short _ _ (accepted c.before.before.before.before.before)); text_in_bounds = omega arith }
+    record { text_value = (text_formed _ _ (accepted (goal.at.write_ends-requires c).Else-least_of_two-text), text-short _ _ (accepted (goal.at.write_ends-requires c).Else-least_of_two-text)); text_in_bounds = omega arith }
 
 pub returns : goal.returns
 returns c =

@@ -8,8 +8,8 @@ use Rattle.map_columns.proofs.lay_chars.Goals as goal
 use Rattle.map_columns.proofs.lay_chars.Goals.{After-select_or_zero_usize-size}
 
 -- a turn has one more byte to read
-more : (c : After-select_or_zero_usize-size) → c.loop-i.q < length (c).args.text.now
-more c = more-text (c).pre c.loop-i.invariant c.loop-i-test.true
+more : (c : After-select_or_zero_usize-size) → c.loop-i.q < length c.args.text.now
+more c = more-text c.requires c.loop-i.invariant c.loop-i-test.true
 
 pub loop-i-init : goal.loop-i-init
 loop-i-init c = none-spread c.requires.inside
@@ -23,27 +23,29 @@ offset_bounds-starts-q c =
     omega (arith, long, more c, c.requires.starts_room.one_each)
 
 pub bounds-starts-q : goal.bounds-starts-q
-bounds-starts-q c = omega (arith, more c.before, (c).pre.starts_room.one_each)
+bounds-starts-q c =
+    omega (arith, more (goal.at.bounds-starts-q c).After-select_or_zero_usize-size, c.requires.starts_room.one_each)
 
 pub fill_char-requires : goal.fill_char-requires
 fill_char-requires c =
-    char-room (c).pre.starts_room c.loop-i.invariant.starts_carried c.loop-i-test.true (more c.before.before) c.continues-lead.ensures c.len_utf8.ensures c.select_or_zero_usize-size.ensures
+    char-room c.requires.starts_room c.loop-i.invariant.starts_carried c.loop-i-test.true (more (goal.at.fill_char-requires c).After-select_or_zero_usize-size) c.continues-lead.ensures c.len_utf8.ensures c.select_or_zero_usize-size.ensures
 
 pub offset_bounds-ends-q : goal.offset_bounds-ends-q
 offset_bounds-ends-q c =
     let long : length c.args.ends.now * 2 < 2 ^ 63 = c.good.1.1.0.1 in
-    omega (arith, long, more c.before.before.before.before.before, c.requires.ends_room.one_each)
+    omega (arith, long, more (goal.at.offset_bounds-ends-q c).After-select_or_zero_usize-size, c.requires.ends_room.one_each)
 
 pub bounds-ends-q : goal.bounds-ends-q
-bounds-ends-q c = omega (arith, more c.before.before.before.before.before.before, (entry (c)).pre.ends_room.one_each)
+bounds-ends-q c =
+    omega (arith, more (goal.at.bounds-ends-q c).After-select_or_zero_usize-size, (entry (c)).pre.ends_room.one_each)
 
 pub fill_char-requires-in-loop-i : goal.fill_char-requires-in-loop-i
 fill_char-requires-in-loop-i c =
-    char-room (c).pre.ends_room c.loop-i.invariant.ends_carried c.loop-i-test.taken (more c.before.before.before.before.before.before.before) c.continues-lead.ensures c.len_utf8.ensures c.select_or_zero_usize-size.ensures
+    char-room c.requires.ends_room c.loop-i.invariant.ends_carried c.loop-i-test.true (more (goal.at.fill_char-requires-in-loop-i c).After-select_or_zero_usize-size) c.continues-lead.ensures c.len_utf8.ensures c.select_or_zero_usize-size.ensures
 
 pub overflow_add-at : goal.overflow_add-at
 overflow_add-at c =
-    let room = char-room c.requires.starts_room c.loop-i.invariant.starts_carried c.loop-i-test.taken (more c.before.before.before.before.before.before.before.before.before.before) c.continues-lead.ensures c.len_utf8.ensures c.select_or_zero_usize-size.ensures in
+    let room = char-room c.requires.starts_room c.loop-i.invariant.starts_carried c.loop-i-test.true (more (goal.at.overflow_add-at c).After-select_or_zero_usize-size) c.continues-lead.ensures c.len_utf8.ensures c.select_or_zero_usize-size.ensures in
     let long : length c.args.out_starts.now < 2 ^ 64 = c.good.1.1.1.1.1.0.0 in
     omega (arith, room.0, long, c.loop-i.invariant.starts_carried.parts.over.same)
 
@@ -51,17 +53,17 @@ pub overflow_cast-i : goal.overflow_cast-i
 overflow_cast-i c = omega (arith, bool-most (not c.continues-lead.result))
 
 pub overflow_add-i : goal.overflow_add-i
-overflow_add-i c = omega (arith, bool-most (not c.continues-lead.result), c.loop-i-test.taken)
+overflow_add-i c = omega (arith, bool-most (not c.continues-lead.result), c.loop-i-test.true)
 
 pub overflow_add-q : goal.overflow_add-q
-overflow_add-q c = omega (arith, more c.before.before.before.before.before.before.before.before.before.before)
+overflow_add-q c = omega (arith, more (goal.at.overflow_add-q c).After-select_or_zero_usize-size)
 
 pub loop-i-smaller : goal.loop-i-smaller
-loop-i-smaller c = omega (arith, more c.before.before.before.before.before.before.before.before.before.before)
+loop-i-smaller c = omega (arith, more (goal.at.loop-i-smaller c).After-select_or_zero_usize-size)
 
 pub loop-i-preserved : goal.loop-i-preserved
 loop-i-preserved c =
-    one-spread (c).pre c.loop-i.invariant c.loop-i-test.taken
+    one-spread c.requires c.loop-i.invariant c.loop-i-test.true
     c.continues-lead.ensures c.len_utf8.ensures c.select_or_zero_usize-size.ensures
     c.fill_char.ensures c.fill_char-in-loop-i.ensures
 

@@ -55,7 +55,7 @@ pub overflow_add-start : goal.overflow_add-start
 overflow_add-start c = omega (arith, (loop-start-preserved c).most)
 
 pub loop-start-smaller : goal.loop-start-smaller
-loop-start-smaller c = omega (arith, (loop-start-preserved c).most, good c.before)
+loop-start-smaller c = omega (arith, (loop-start-preserved c).most, good (goal.at.loop-start-smaller c).In_default)
 
 pub overflow_mul-result : goal.overflow_mul-result
 overflow_mul-result c = omega (arith, c.loop-start.invariant.few, c.loop-start.invariant.most)

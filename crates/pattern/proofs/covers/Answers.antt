@@ -1,3 +1,5 @@
+use mathlib.Core.Path.{ap}
+use mathlib.Core.Bool.{not}
 use Prim.Native.Nat.{◌-◌}
 use native.Mathlib.Omega.{arith}
 use Rattle.pattern.proofs.Entries.{entry-step}
@@ -9,7 +11,8 @@ pub loop-i-init : goal.loop-i-init
 loop-i-init c = judged-covered c.judge_blocks-judged.ensures
 
 pub returns-then-not-fits_at : goal.returns-then-not-fits_at
-returns-then-not-fits_at c = not_covered c.loop-i.invariant c.entry_at.ensures c.in-At.is c.fits_at.ensures c.if-not-fits_at.true
+returns-then-not-fits_at c =
+    not_covered c.loop-i.invariant c.entry_at.ensures c.in-At.is c.fits_at.ensures (ap not c.if-not-fits_at.true)
 
 pub loop-i-smaller : goal.loop-i-smaller
 loop-i-smaller c =
@@ -18,7 +21,7 @@ loop-i-smaller c =
 
 pub loop-i-preserved : goal.loop-i-preserved
 loop-i-preserved c =
-    next-covered c.loop-i.invariant c.entry_at.ensures c.in-At.is c.fits_at.ensures c.if-not-fits_at.false
+    next-covered c.loop-i.invariant c.entry_at.ensures c.in-At.is c.fits_at.ensures (ap not c.if-not-fits_at.false)
 
 pub returns-in-Broken : goal.returns-in-Broken
 returns-in-Broken c = broken-covered c.loop-i.invariant c.loop-i-test.true c.entry_at.ensures c.in-Broken.is

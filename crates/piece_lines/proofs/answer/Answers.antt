@@ -23,13 +23,13 @@ not-whole (Whole n d m) h =
     ⊎_elim (λ e. absurd (omega arith)) (⊎_elim (λ e. absurd (omega arith)) (⊎_elim (λ e. absurd (omega arith)) (⊎_elim (λ e. absurd (omega arith)) (λ e. absurd (omega arith))))) h
 
 pub returns-in_default : goal.returns-in_default
-returns-in_default c = laid_as (shapeless-printed k (not-whole c.args.seen c.in_default.keys2)) c.write_refusal.ensures
+returns-in_default c input k = laid_as (shapeless-printed k (not-whole c.args.seen c.in_default.keys2)) c.write_refusal.ensures
 
 pub returns-then-literal-gt-LONGEST : goal.returns-then-literal-gt-LONGEST
-returns-then-literal-gt-LONGEST c = laid_as (literal-long k c.in-Whole.is (omega arith)) c.write_refusal-then-literal-gt-LONGEST.ensures
+returns-then-literal-gt-LONGEST c input k = laid_as (literal-long k c.in-Whole.is (omega arith)) c.write_refusal-then-literal-gt-LONGEST.ensures
 
 pub returns-then-text-gt-LONGEST : goal.returns-then-text-gt-LONGEST
-returns-then-text-gt-LONGEST c = laid_as (note-long k c.in-Whole.is (omega arith)) c.write_refusal-then-text-gt-LONGEST.ensures
+returns-then-text-gt-LONGEST c input k = laid_as (note-long k c.in-Whole.is (omega arith)) c.write_refusal-then-text-gt-LONGEST.ensures
 
 pub slice_bounds-cut-end : goal.slice_bounds-cut-end
 slice_bounds-cut-end c = literal-sized c.requires.0.is_kept c.in-Whole.is (omega arith) (omega arith)
@@ -43,5 +43,5 @@ cut-requires c =
     (short.0, short.1, c.requires.1)
 
 pub returns : goal.returns
-returns c =
+returns c input k =
     laid_as (cut-printed k c.in-Whole.is (omega arith) (omega arith) c.behavior_of.ensures) c.cut.ensures

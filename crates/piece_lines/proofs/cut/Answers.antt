@@ -7,11 +7,11 @@ use Rattle.piece_lines.proofs.cut.Goals as goal
 
 pub slice_bounds-list-end : goal.slice_bounds-list-end
 slice_bounds-list-end c =
-    list-long c.find_matches.ensures (c).requires.0 (c).requires.1 c.list_buffer-list.ensures c.in-Written.is
+    list-long c.find_matches.ensures c.requires.0 c.requires.1 c.list_buffer-list.ensures c.in-Written.is
 
 pub slice_bounds-write_cut-end : goal.slice_bounds-write_cut-end
 slice_bounds-write_cut-end c =
-    sym (length-take-le _ _ (list-long c.find_matches.ensures (c).requires.0 (c).requires.1 c.list_buffer-list.ensures c.in-Written.is))
+    sym (length-take-le _ _ (list-long c.find_matches.ensures c.requires.0 c.requires.1 c.list_buffer-list.ensures c.in-Written.is))
 
 pub write_cut-requires : goal.write_cut-requires
 write_cut-requires c =
@@ -23,4 +23,4 @@ returns-in-Refused c =
 
 pub returns-in-Written : goal.returns-in-Written
 returns-in-Written c =
-    laid_as (cut-told c.find_matches.ensures (c).requires.0 (c).requires.1 c.list_buffer-list.ensures c.in-Written.is _) c.write_cut.ensures
+    laid_as (cut-told c.find_matches.ensures c.requires.0 c.requires.1 c.list_buffer-list.ensures c.in-Written.is _) c.write_cut.ensures

@@ -26,4 +26,4 @@ write_pieces-requires c =
     (pieces-spanned c.requires.0 _ _ spans, pieces_room c.requires.0 _ _ spans c.requires.1)
 
 pub returns : goal.returns
-returns c = pieces-laid (c).requires.0 _ _ c.write_spans-count.ensures c.write_pieces.ensures
+returns c = pieces-laid c.requires.0 _ _ c.write_spans-count.ensures c.write_pieces.ensures

@@ -1,3 +1,5 @@
+use mathlib.Core.Path.{ap}
+use mathlib.Core.Bool.{not}
 use Prim.Native.Nat.{◌-◌}
 use native.Mathlib.Omega.{arith}
 use Rattle.pattern.proofs.Entries.{entry-step}
@@ -13,7 +15,7 @@ column_alike-requires c = lying c.loop-i.invariant c.entry_at.ensures c.in-At.is
 
 pub returns-then-not-column_alike : goal.returns-then-not-column_alike
 returns-then-not-column_alike c =
-    one-unlike c.loop-i.invariant c.entry_at.ensures c.in-At.is c.column_alike.ensures c.if-not-column_alike.true
+    one-unlike c.loop-i.invariant c.entry_at.ensures c.in-At.is c.column_alike.ensures (ap not c.if-not-column_alike.true)
 
 pub loop-i-smaller : goal.loop-i-smaller
 loop-i-smaller c =
@@ -22,7 +24,7 @@ loop-i-smaller c =
 
 pub loop-i-preserved : goal.loop-i-preserved
 loop-i-preserved c =
-    one-walked c.loop-i.invariant c.entry_at.ensures c.in-At.is c.column_alike.ensures c.if-not-column_alike.false
+    one-walked c.loop-i.invariant c.entry_at.ensures c.in-At.is c.column_alike.ensures (ap not c.if-not-column_alike.false)
 
 pub returns-in-Broken : goal.returns-in-Broken
 returns-in-Broken c = broken-walked c.loop-i.invariant c.loop-i-test.true c.entry_at.ensures c.in-Broken.is

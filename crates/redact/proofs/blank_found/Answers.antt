@@ -14,17 +14,17 @@ margin_of-margin-requires c = literal-short c.requires c.if-first-text.false
 
 pub blank-requires : goal.blank-requires
 blank-requires c =
-    let f = (c).requires in
+    let f = c.requires in
     let met = c.if-first-text.false in
     (blankable f met, bounded-alone f met c.max_byte-max.ensures c.safe_margin-share.ensures c.margin_of-margin.ensures c.block_limit-until.ensures)
 
 pub returns-then-content-gt16 : goal.returns-then-content-gt16
-returns-then-content-gt16 c = all_found (entry (c).before).requires (c).if1.false c.blank.ensures
+returns-then-content-gt16 c = all_found c.requires c.if-first-text.false c.blank.ensures
 
 pub blank-requires-2 : goal.blank-requires-2
 blank-requires-2 c =
-    let f = (entry (c).before).requires in
-    let met = (c).if1.false in
+    let f = c.requires in
+    let met = c.if-first-text.false in
     (blankable f met, bounded-padded f met c.max_byte-max.ensures c.safe_margin-share.ensures c.margin_of-margin.ensures c.block_limit-until.ensures _ (omega arith) c.copy_bytes.ensures)
 
 pub returns : goal.returns

@@ -39,18 +39,18 @@ redact_in_place-requires c = c.loop-k.invariant.is_held
 
 pub overflow_cast-counts : goal.overflow_cast-counts
 overflow_cast-counts c =
-    omega (arith, count_small c.loop-k.invariant c.loop-k-test.taken c.redact_in_place.ensures c.in-Published.is)
+    omega (arith, count_small c.loop-k.invariant c.loop-k-test.true c.redact_in_place.ensures c.in-Published.is)
 
 pub bounds-counts-k : goal.bounds-counts-k
-bounds-counts-k c = counts_room c.loop-k.invariant c.loop-k-test.taken
+bounds-counts-k c = counts_room c.loop-k.invariant c.loop-k-test.true
 
 pub returns-in-Refused : goal.returns-in-Refused
 returns-in-Refused c =
-    short-stepped c.loop-k.invariant c.loop-k-test.taken c.redact_in_place.ensures _ _ _ _ c.in-Refused.is
+    short-stepped c.loop-k.invariant c.loop-k-test.true c.redact_in_place.ensures _ _ _ _ c.in-Refused.is
 
 pub loop-k-preserved : goal.loop-k-preserved
 loop-k-preserved c =
-    one-stepped c.loop-k.invariant c.loop-k-test.taken c.redact_in_place.ensures c.in-Published.is (omega arith) (omega arith) (omega arith)
+    one-stepped c.loop-k.invariant c.loop-k-test.true c.redact_in_place.ensures c.in-Published.is (omega arith) (omega arith) (omega arith)
 
 pub shape_of-text : goal.shape_of-text
 shape_of-text c = c.loop-k.invariant.is_held.text_long ∙ sym c.requires.is_held.text_long

@@ -33,32 +33,32 @@ returns-then-least_room-pairs c =
     (omega (arith, c.if-least_room-size.false, c.least_room.ensures)) (omega (arith, c.if-least_room-pairs.true, c.least_room-2.ensures))
 
 pub slice_bounds-text-end : goal.slice_bounds-text-end
-slice_bounds-text-end c = text-within (steps-left _ _ _ _ _ _ _ _ _ _ (c).take_steps.ensures c.in-Left.is).is_held
+slice_bounds-text-end c = text-within (steps-left _ _ _ _ _ _ _ _ _ _ c.take_steps.ensures c.in-Left.is).is_held
 
 pub slice_bounds-tell-end : goal.slice_bounds-tell-end
 slice_bounds-tell-end c =
-    sym (length-take-le _ _ (text-within (steps-left _ _ _ _ _ _ _ _ _ _ (c).take_steps.ensures c.in-Left.is).is_held))
+    sym (length-take-le _ _ (text-within (steps-left _ _ _ _ _ _ _ _ _ _ c.take_steps.ensures c.in-Left.is).is_held))
 
 pub slice_bounds-text_starts-end : goal.slice_bounds-text_starts-end
-slice_bounds-text_starts-end c = starts-within (steps-left _ _ _ _ _ _ _ _ _ _ (c).take_steps.ensures c.in-Left.is).is_held
+slice_bounds-text_starts-end c = starts-within (steps-left _ _ _ _ _ _ _ _ _ _ c.take_steps.ensures c.in-Left.is).is_held
 
 pub slice_bounds-tell-end-2 : goal.slice_bounds-tell-end-2
 slice_bounds-tell-end-2 c =
-    sym (length-take-le _ _ (starts-within (steps-left _ _ _ _ _ _ _ _ _ _ (c).take_steps.ensures c.in-Left.is).is_held))
+    sym (length-take-le _ _ (starts-within (steps-left _ _ _ _ _ _ _ _ _ _ c.take_steps.ensures c.in-Left.is).is_held))
 
 pub slice_bounds-text_ends-end : goal.slice_bounds-text_ends-end
-slice_bounds-text_ends-end c = ends-within (steps-left _ _ _ _ _ _ _ _ _ _ (c).take_steps.ensures c.in-Left.is).is_held
+slice_bounds-text_ends-end c = ends-within (steps-left _ _ _ _ _ _ _ _ _ _ c.take_steps.ensures c.in-Left.is).is_held
 
 pub slice_bounds-tell-end-3 : goal.slice_bounds-tell-end-3
 slice_bounds-tell-end-3 c =
-    sym (length-take-le _ _ (ends-within (steps-left _ _ _ _ _ _ _ _ _ _ (c).take_steps.ensures c.in-Left.is).is_held))
+    sym (length-take-le _ _ (ends-within (steps-left _ _ _ _ _ _ _ _ _ _ c.take_steps.ensures c.in-Left.is).is_held))
 
 pub slice_bounds-counts-end : goal.slice_bounds-counts-end
-slice_bounds-counts-end c = counts-within (steps-left _ _ _ _ _ _ _ _ _ _ (c).take_steps.ensures c.in-Left.is)
+slice_bounds-counts-end c = counts-within (steps-left _ _ _ _ _ _ _ _ _ _ c.take_steps.ensures c.in-Left.is)
 
 pub slice_bounds-tell-end-4 : goal.slice_bounds-tell-end-4
 slice_bounds-tell-end-4 c =
-    sym (length-take-le _ _ (counts-within (steps-left _ _ _ _ _ _ _ _ _ _ (c).take_steps.ensures c.in-Left.is)))
+    sym (length-take-le _ _ (counts-within (steps-left _ _ _ _ _ _ _ _ _ _ c.take_steps.ensures c.in-Left.is)))
 
 pub tell-requires : goal.tell-requires
 tell-requires c =

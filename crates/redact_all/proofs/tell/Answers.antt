@@ -11,10 +11,10 @@ pub slice_bounds-nonzeros-end-2 : goal.slice_bounds-nonzeros-end-2
 slice_bounds-nonzeros-end-2 c = sym (length-take-le _ _ (counts_long _ _ _ _ _ c.count_words.ensures c.requires.counts_long))
 
 pub slice_bounds-nonzeros-end-3 : goal.slice_bounds-nonzeros-end-3
-slice_bounds-nonzeros-end-3 c = counts_long _ _ _ _ _ c.count_words-2.ensures (c).requires.counts_long
+slice_bounds-nonzeros-end-3 c = counts_long _ _ _ _ _ c.count_words-2.ensures c.requires.counts_long
 
 pub slice_bounds-nonzeros-end-4 : goal.slice_bounds-nonzeros-end-4
-slice_bounds-nonzeros-end-4 c = sym (length-take-le _ _ (counts_long _ _ _ _ _ c.count_words-2.ensures (c).requires.counts_long))
+slice_bounds-nonzeros-end-4 c = sym (length-take-le _ _ (counts_long _ _ _ _ _ c.count_words-2.ensures c.requires.counts_long))
 
 pub returns : goal.returns
 returns c =

@@ -7,8 +7,8 @@ use Rattle.redact_blocks.proofs.blank_blocks.Goals as goal
 use Rattle.redact_blocks.proofs.blank_blocks.Goals.{After-lay_ahead-k}
 
 -- after what is laid there is a byte, and room for the literal
-inside : (c : After-lay_ahead-k) → c.loop-i.i + c.lay_ahead-k.result + length (c).args.literal.now + 16 ≤ length (c).args.text.now
-inside c = omega (arith, (c).pre.1.window, c.loop-i-test.true, c.lay_ahead-k.ensures.most)
+inside : (c : After-lay_ahead-k) → c.loop-i.i + c.lay_ahead-k.result + length c.args.literal.now + 16 ≤ length c.args.text.now
+inside c = omega (arith, c.requires.1.window, c.loop-i-test.true, c.lay_ahead-k.ensures.most)
 
 pub loop-i-init : goal.loop-i-init
 loop-i-init c = let r = c.requires.0 in (omega arith, none-blanked r.inside (omega (arith, r.inside)))
@@ -26,7 +26,7 @@ pub overflow_add-at-in-loop-i : goal.overflow_add-at-in-loop-i
 overflow_add-at-in-loop-i c = let r = c.requires.0 in omega (arith, blanked-size r c.loop-i.invariant.1, r.within)
 
 pub shape_of-out-then-until-at : goal.shape_of-out-then-until-at
-shape_of-out-then-until-at c = c.loop-i.invariant.1.text-on.same
+shape_of-out-then-until-at c = c.loop-i.invariant.1.text_on.same
 
 pub shape_of-out_starts-then-until-at : goal.shape_of-out_starts-then-until-at
 shape_of-out_starts-then-until-at c = c.loop-i.invariant.1.starts_on.same
@@ -42,24 +42,24 @@ lay_ahead-k-requires c =
     block_room c.requires.0 c.loop-i.invariant.1 c.requires.1 c.loop-i-test.true c.if-until-at.false c.requires.2 refl refl
 
 pub overflow_add-i : goal.overflow_add-i
-overflow_add-i c = omega (arith, c.lay_ahead-k.ensures.away.most, (c).pre.0.short)
+overflow_add-i c = omega (arith, c.lay_ahead-k.ensures.away.most, c.requires.0.short)
 
 pub overflow_add-here : goal.overflow_add-here
 overflow_add-here c =
-    omega (arith, c.lay_ahead-k.ensures.most, blanked-size (c).pre.0 c.loop-i.invariant.1, (c).pre.0.within)
+    omega (arith, c.lay_ahead-k.ensures.most, blanked-size c.requires.0 c.loop-i.invariant.1, c.requires.0.within)
 
 pub begins-requires : goal.begins-requires
 begins-requires c =
     record {
-      of_literal = (c).pre.3;
-      block = omega (arith, inside c.before.before.before.before.before.before.before);
-      some = (c).pre.0.some;
-      inside = omega (arith, inside c.before.before.before.before.before.before.before);
+      of_literal = c.requires.3;
+      block = omega (arith, inside (goal.at.begins-requires c).After-lay_ahead-k);
+      some = c.requires.0.some;
+      inside = omega (arith, inside (goal.at.begins-requires c).After-lay_ahead-k);
     }
 
 pub overflow_add-i-then-begins : goal.overflow_add-i-then-begins
 overflow_add-i-then-begins c =
-    omega (arith, inside c.before.before.before.before.before.before.before.before.before, (entry (c)).pre.0.short)
+    omega (arith, inside (goal.at.overflow_add-i-then-begins c).After-lay_ahead-k, (entry (c)).pre.0.short)
 
 pub fill-requires : goal.fill-requires
 fill-requires c =
@@ -72,31 +72,30 @@ overflow_add-gap-then-begins c =
     let turn = turn (c) in
     let on =
     turned (entry turn).pre.0 turn.loop.inv.1 (entry turn).pre.1
-    (c).before.before.before.before.before.loop-test.taken
-    (c).before.before.before.before.if1.left (c).lay-ahead.ensures in
+    c.loop-i-test.true
+    c.if-until-at.false c.lay_ahead-k.ensures in
     omega (arith, match-within (entry turn).pre.0 on (sym c.begins.ensures ∙ c.if-begins.true), blanked-size (entry turn).pre.0 turn.loop.inv.1, (entry turn).pre.0.within, (entry turn).pre.0.short)
 
 pub overflow_sub-gap-then-begins : goal.overflow_sub-gap-then-begins
-overflow_sub-gap-then-begins c =
-    omega (arith, (turn (c)).loop.inv.0, (entry (turn (c))).pre.1.window, (c).before.before.before.before.before.loop-test.taken)
+overflow_sub-gap-then-begins c = omega (arith, (turn (c)).loop.inv.0, (entry (turn (c))).pre.1.window, c.loop-i-test.true)
 
 pub loop-i-smaller-then-begins : goal.loop-i-smaller-then-begins
 loop-i-smaller-then-begins c = omega (arith, (entry (turn (c))).pre.0.some, inside (c))
 
 pub loop-i-preserved-then-begins : goal.loop-i-preserved-then-begins
 loop-i-preserved-then-begins c =
-    let on = turned c.requires.0 c.loop-i.invariant.1 c.requires.1 c.loop-i-test.taken c.if-until-at.left c.lay_ahead-k.ensures in
-    let fits = block_within c.requires.0 c.loop-i.invariant.1 c.requires.1 c.loop-i-test.taken c.if-until-at.left in (
-      omega (arith, c.loop-i.invariant.0, c.requires.1.window, c.loop-i-test.taken),
+    let on = turned c.requires.0 c.loop-i.invariant.1 c.requires.1 c.loop-i-test.true c.if-until-at.false c.lay_ahead-k.ensures in
+    let fits = block_within c.requires.0 c.loop-i.invariant.1 c.requires.1 c.loop-i-test.true c.if-until-at.false in (
+      omega (arith, c.loop-i.invariant.0, c.requires.1.window, c.loop-i-test.true),
       more-match c.requires.0 on (sym c.begins.ensures ∙ c.if-begins.true) c.requires.1.padded-is
           (omega (arith, fits, c.lay_ahead-k.ensures.most)) c.fill.ensures refl
-          (omega (arith, c.loop-i.invariant.0, c.requires.1.window, c.loop-i-test.taken)),
+          (omega (arith, c.loop-i.invariant.0, c.requires.1.window, c.loop-i-test.true)),
     )
 
 pub lay_byte-requires : goal.lay_byte-requires
 lay_byte-requires c =
-    let on = turned (c).pre.0 c.loop-i.invariant.1 (c).pre.1 c.loop-i-test.taken c.if-until-at.left c.lay_ahead-k.ensures in
-    byte-room (c).pre.0 on (omega (arith, inside c.before.before.before.before.before.before.before.before.before.before.before.before)) (sym c.begins.ensures ∙ c.if-begins.false)
+    let on = turned c.requires.0 c.loop-i.invariant.1 c.requires.1 c.loop-i-test.true c.if-until-at.false c.lay_ahead-k.ensures in
+    byte-room c.requires.0 on (omega (arith, inside (goal.at.lay_byte-requires c).After-lay_ahead-k)) (sym c.begins.ensures ∙ c.if-begins.false)
 
 pub overflow_add-i-else-begins : goal.overflow_add-i-else-begins
 overflow_add-i-else-begins c = omega (arith, inside (c), (entry (turn (c))).pre.0.short)
@@ -106,19 +105,19 @@ loop-i-smaller-else-begins c = omega (arith, inside (c))
 
 pub loop-i-preserved-else-begins : goal.loop-i-preserved-else-begins
 loop-i-preserved-else-begins c =
-    let on = turned c.requires.0 c.loop-i.invariant.1 c.requires.1 c.loop-i-test.taken c.if-until-at.left c.lay_ahead-k.ensures in
-    let away = byte-away c.requires.0 on (omega (arith, inside c.before.before.before.before.before.before.before.before.before.before.before.before.before.before.before.before.before.before.before)) (sym c.begins.ensures ∙ c.if-begins.false) in
+    let on = turned c.requires.0 c.loop-i.invariant.1 c.requires.1 c.loop-i-test.true c.if-until-at.false c.lay_ahead-k.ensures in
+    let away = byte-away c.requires.0 on (omega (arith, inside (goal.at.loop-i-preserved-else-begins c).After-lay_ahead-k)) (sym c.begins.ensures ∙ c.if-begins.false) in
     (omega (arith, c.loop-i.invariant.0), more_bytes c.requires.0 on 1 away (omega arith) c.lay_byte.ensures refl (omega (arith, c.loop-i.invariant.0)))
 
 pub loop-i-smaller : goal.loop-i-smaller
 loop-i-smaller c =
-    omega (arith, c.lay_ahead-k.ensures.away.most, c.if-k-lt64.false, (c).pre.1.window, c.loop-i-test.true)
+    omega (arith, c.lay_ahead-k.ensures.away.most, c.if-k-lt64.false, c.requires.1.window, c.loop-i-test.true)
 
 pub loop-i-preserved : goal.loop-i-preserved
 loop-i-preserved c =
     let passed = c.lay_ahead-k.ensures in
-    let fits = block_within (c).pre.0 c.loop-i.invariant.1 (c).pre.1 c.loop-i-test.true c.if-until-at.false in
-    (omega (arith, c.loop-i.invariant.0), more_bytes (c).pre.0 c.loop-i.invariant.1 _ passed.away (omega (arith, fits)) passed.stretch refl (omega (arith, c.loop-i.invariant.0)))
+    let fits = block_within c.requires.0 c.loop-i.invariant.1 c.requires.1 c.loop-i-test.true c.if-until-at.false in
+    (omega (arith, c.loop-i.invariant.0), more_bytes c.requires.0 c.loop-i.invariant.1 _ passed.away (omega (arith, fits)) passed.stretch refl (omega (arith, c.loop-i.invariant.0)))
 
 pub overflow_add-at-2 : goal.overflow_add-at-2
 overflow_add-at-2 c = let r = c.requires.0 in omega (arith, blanked-size r c.loop-i.invariant.1, r.within, r.short)
@@ -127,7 +126,7 @@ pub overflow_sub-at-2 : goal.overflow_sub-at-2
 overflow_sub-at-2 c = c.loop-i.invariant.0
 
 pub shape_of-out : goal.shape_of-out
-shape_of-out c = c.loop-i.invariant.1.text-on.same
+shape_of-out c = c.loop-i.invariant.1.text_on.same
 
 pub shape_of-out_starts : goal.shape_of-out_starts
 shape_of-out_starts c = c.loop-i.invariant.1.starts_on.same

@@ -21,7 +21,7 @@ lay_block-requires c =
 
 pub returns : goal.returns
 returns c =
-    let r = (c).requires in
+    let r = c.requires in
     let found = first-candidate c.first_candidate-k.ensures in
     record {
       most = found.most;

@@ -24,23 +24,23 @@ pub copy_bytes-requires : goal.copy_bytes-requires
 copy_bytes-requires c = text-copied (call_fits c.redact_note.ensures c.in-Published.is) (entry (c)).requires
 
 pub slice_bounds-out_starts-end : goal.slice_bounds-out_starts-end
-slice_bounds-out_starts-end c = (call_fits (c).redact-note.ensures c.in-Published.is).starts_fit
+slice_bounds-out_starts-end c = (call_fits c.redact_note.ensures c.in-Published.is).starts_fit
 
 pub slice_bounds-copy_offsets-end : goal.slice_bounds-copy_offsets-end
-slice_bounds-copy_offsets-end c = sym (length-take-le _ _ (call_fits (c).redact-note.ensures c.in-Published.is).starts_fit)
+slice_bounds-copy_offsets-end c = sym (length-take-le _ _ (call_fits c.redact_note.ensures c.in-Published.is).starts_fit)
 
 pub copy_offsets-requires : goal.copy_offsets-requires
-copy_offsets-requires c = starts-copied (call_fits (c).redact-note.ensures c.in-Published.is) (entry (made (c))).requires
+copy_offsets-requires c = starts-copied (call_fits c.redact_note.ensures c.in-Published.is) (entry (made (c))).requires
 
 pub slice_bounds-out_ends-end : goal.slice_bounds-out_ends-end
-slice_bounds-out_ends-end c = (call_fits (called (c)).redact-note.ensures (c).before.n.given.1).ends_fit
+slice_bounds-out_ends-end c = (call_fits (called (c)).redact-note.ensures c.in-Published.is).ends_fit
 
 pub slice_bounds-copy_offsets-end-in-Published : goal.slice_bounds-copy_offsets-end-in-Published
-slice_bounds-copy_offsets-end-in-Published c = sym (length-take-le _ _ (call_fits (called (c)).redact-note.ensures (c).before.n.given.1).ends_fit)
+slice_bounds-copy_offsets-end-in-Published c = sym (length-take-le _ _ (call_fits (called (c)).redact-note.ensures c.in-Published.is).ends_fit)
 
 pub copy_offsets-requires-in-Published : goal.copy_offsets-requires-in-Published
 copy_offsets-requires-in-Published c =
-    ends-copied (call_fits (called (c)).redact-note.ensures (c).before.n.given.1) (entry (made (called (c)))).requires
+    ends-copied (call_fits (called (c)).redact-note.ensures c.in-Published.is) (entry (made (called (c)))).requires
 
 pub returns-in-Published : goal.returns-in-Published
 returns-in-Published c =
@@ -50,7 +50,7 @@ returns-in-Published c =
       list = _;
       list-room = sym made.before.before.before.list-buffer.ensures;
       call =
-          moved-published (c).redact-note.ensures _ _ _ (sym made.before.before.text-buffer.ensures ∙ sym (entry made).pre.text_long)
+          moved-published c.redact_note.ensures _ _ _ (sym made.before.before.text-buffer.ensures ∙ sym (entry made).pre.text_long)
           (sym made.before.column-buffer.ensures ∙ sym (entry made).pre.starts_long) (sym made.column-buffer2.ensures ∙ sym (entry made).pre.ends_long)
           c.in-Published.is c.copy_bytes.ensures c.copy_offsets.ensures c.copy_offsets-in-Published.ensures;
     }

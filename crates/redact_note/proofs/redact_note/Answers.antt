@@ -1,9 +1,9 @@
 -- The inputs are judged together, then the rooms; past both everything is written.
+use mathlib.Core.Path.{ap}
+use mathlib.Core.Bool.{not}
 use mathlib.Core.Path.{refl}
 use Rattle.redact_note.proofs.Redacting.{inputs-formed, inputs-refused, rooms-refused, all-accepted, refused_all, all-blankable, all-blanked}
 use Rattle.redact_note.proofs.redact_note.Goals as goal
-
-)
 
 pub returns-in-Refused : goal.returns-in-Refused
 returns-in-Refused c = refused_all _ _ _ _ _ _ _ refl (inputs-refused _ _ _ _ _ c.check_inputs.ensures c.in-Refused.is)
@@ -24,16 +24,16 @@ rooms_fit-requires c =
 pub returns-then-not-rooms_fit : goal.returns-then-not-rooms_fit
 returns-then-not-rooms_fit c =
     refused_all _ _ _ _ _ _ _ c.least_room-room.ensures
-    (rooms-refused _ _ _ _ _ c.check_inputs.ensures c.in_default.is c.rooms_fit.ensures c.if-not-rooms_fit.true)
+    (rooms-refused _ _ _ _ _ c.check_inputs.ensures c.in_default.is c.rooms_fit.ensures (ap not c.if-not-rooms_fit.true))
 
 pub blank-size-requires : goal.blank-size-requires
 blank-size-requires c =
     all-blankable _ _ _ _ _ _ _ c.least_room-room.ensures
-    (all-accepted _ _ _ _ _ c.check_inputs.ensures c.in_default.is c.rooms_fit.ensures c.if-not-rooms_fit.false)
+    (all-accepted _ _ _ _ _ c.check_inputs.ensures c.in_default.is c.rooms_fit.ensures (ap not c.if-not-rooms_fit.false))
     c.first_match-first.ensures
 
 pub returns : goal.returns
 returns c =
     all-blanked _ _ _ _ _ _ _ c.least_room-room.ensures
-    (all-accepted _ _ _ _ _ c.check_inputs.ensures c.in_default.is c.rooms_fit.ensures c.if-not-rooms_fit.false)
+    (all-accepted _ _ _ _ _ c.check_inputs.ensures c.in_default.is c.rooms_fit.ensures (ap not c.if-not-rooms_fit.false))
     c.count_matches-count.ensures c.blank-size.ensures

@@ -5,9 +5,11 @@ use Rattle.replace.proofs.replace.Goals as goal
 
 pub lay_out-requires : goal.lay_out-requires
 lay_out-requires c =
-    let both = let rooms = c.least_room-room.ensures in
+    record { ready = (let rooms = c.least_room-room.ensures in
     let says = c.check_replace.ensures in
-    (ready limit _ _ _ _ _ _ rooms says c.in-Published.is, measured-size limit _ _ _ _ says c.in-Published.is) in record { ready = both.0; until_bound = both.1 }
+    (ready limit _ _ _ _ _ _ rooms says c.in-Published.is, measured-size limit _ _ _ _ says c.in-Published.is)).0; until_bound = (let rooms = c.least_room-room.ensures in
+    let says = c.check_replace.ensures in
+    (ready limit _ _ _ _ _ _ rooms says c.in-Published.is, measured-size limit _ _ _ _ says c.in-Published.is)).1 }
 
 pub returns-in-Published : goal.returns-in-Published
 returns-in-Published c =

@@ -17,17 +17,14 @@ get_u32_le-character-requires c = omega (arith, width-least _ c.command_size-wid
 
 pub returns-then-len_utf8-eq0 : goal.returns-then-len_utf8-eq0
 returns-then-len_utf8-eq0 c =
-    let given = c.args in
-    entry-no-character given.script.now given.i c.command_size-width.ensures (character-read given.script.now given.i c.get_u32_le-character.ensures) c.len_utf8.ensures c.if-len_utf8-eq0.true
+    entry-no-character c.args.script.now c.args.i c.command_size-width.ensures (character-read c.args.script.now c.args.i c.get_u32_le-character.ensures) c.len_utf8.ensures c.if-len_utf8-eq0.true
 
 pub returns-then-width-eq7 : goal.returns-then-width-eq7
 returns-then-width-eq7 c =
-    let given = c.args in
-    entry-removal given.script.now given.i c.command_size-width.ensures
-    (character-read given.script.now given.i c.get_u32_le-character.ensures) c.len_utf8.ensures c.if-len_utf8-eq0.false
+    entry-removal c.args.script.now c.args.i c.command_size-width.ensures
+    (character-read c.args.script.now c.args.i c.get_u32_le-character.ensures) c.len_utf8.ensures c.if-len_utf8-eq0.false
     c.if-width-eq0.false (omega arith) c.if-width-eq7.true c.removal_at.ensures
 
 pub returns : goal.returns
 returns c =
-    let given = c.args in
-    entry-command given.script.now given.i c.command_size-width.ensures (character-read given.script.now given.i c.get_u32_le-character.ensures) c.len_utf8.ensures c.if-len_utf8-eq0.false c.if-width-eq0.false (omega arith) c.if-width-eq7.false
+    entry-command c.args.script.now c.args.i c.command_size-width.ensures (character-read c.args.script.now c.args.i c.get_u32_le-character.ensures) c.len_utf8.ensures c.if-len_utf8-eq0.false c.if-width-eq0.false (omega arith) c.if-width-eq7.false

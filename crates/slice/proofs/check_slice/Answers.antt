@@ -1,6 +1,5 @@
 -- The note first, then the range in the text that it names, then in both, then the room.
 use mathlib.Core.Path.{◌∙◌, sym}
-use borrow.Author.Tests.{not-false}
 use Rattle.note.specs.Notes.{limit}
 use Rattle.convert.proofs.Answered.{accepted-columns}
 use Rattle.slice.proofs.Judged.{judged-note, judged-off, shiftable, judged-missing, cut-forward, judged-small, judged-cut}
@@ -25,7 +24,7 @@ slice_of-requires c =
 
 pub overflow_sub-to : goal.overflow_sub-to
 overflow_sub-to c =
-    cut-forward limit _ _ c.args.room c.check_note.ensures c.in_default.is c.validate_range.ensures (not-false _ c.if-not-validate_range.left)
+    cut-forward limit _ _ c.args.room c.check_note.ensures c.in_default.is c.validate_range.ensures c.if-not-validate_range.false
     c.as_original-in_original.ensures c.as_normalized-in_normalized.ensures c.slice_of.ensures c.in-Cut.is
 
 pub returns-then-room-to : goal.returns-then-room-to

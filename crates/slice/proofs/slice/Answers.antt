@@ -1,31 +1,28 @@
 -- A refusal comes before the first store; past it there is room, and no number is below the base.
 use native.Mathlib.Omega.{arith}
-use Rattle.note.specs.Notes.{Note, lent, limit}
+use Rattle.note.specs.Notes.{lent, limit}
 use Rattle.slice.proofs.Judged.{Ready, refused, ready, written}
 use Rattle.slice.proofs.slice.Goals as goal
-use Rattle.slice.proofs.slice.Goals.{Start, In-Cut-2}
-
-abbrev noted : Start → Note
-noted c = lent c.args.original.now c.args.normalized.now c.args.starts.now c.args.ends.now c.args.original_shift
+use Rattle.slice.proofs.slice.Goals.{In-Cut-2}
 
 -- where the cut is known its columns can be written
-cuttable : (c : In-Cut-2) → Ready limit (noted c.before.before.before.before.before.before.before.before.before.before) c.in-Cut.s c.args.out_starts.now c.args.out_ends.now
+cuttable : (c : In-Cut-2) → Ready limit (lent c.args.original.now c.args.normalized.now c.args.starts.now c.args.ends.now c.args.original_shift) c.in-Cut.s c.args.out_starts.now c.args.out_ends.now
 cuttable c = ready limit _ _ _ _ c.least_of_two-room.ensures c.check_slice.ensures c.in-Cut.is
 
 pub slice_bounds-write_lowered-count : goal.slice_bounds-write_lowered-count
-slice_bounds-write_lowered-count c = (cuttable c.before.before.before.before.before.before).forward
+slice_bounds-write_lowered-count c = (cuttable (goal.at.slice_bounds-write_lowered-count c).In-Cut-2).forward
 
 pub slice_bounds-write_lowered-start : goal.slice_bounds-write_lowered-start
-slice_bounds-write_lowered-start c = (cuttable c.before.before.before.before.before.before).forward
+slice_bounds-write_lowered-start c = (cuttable (goal.at.slice_bounds-write_lowered-start c).In-Cut-2).forward
 
 pub slice_bounds-write_lowered-end : goal.slice_bounds-write_lowered-end
-slice_bounds-write_lowered-end c = (cuttable c.before.before.before.before.before.before).in_starts
+slice_bounds-write_lowered-end c = (cuttable (goal.at.slice_bounds-write_lowered-end c).In-Cut-2).in_starts
 
 pub overflow_cast-base : goal.overflow_cast-base
-overflow_cast-base c = omega (arith, (cuttable c.before.before.before.before.before.before.before.before).low)
+overflow_cast-base c = omega (arith, (cuttable (goal.at.overflow_cast-base c).In-Cut-2).low)
 
 pub write_lowered-requires : goal.write_lowered-requires
-write_lowered-requires c = (cuttable c.before.before.before.before.before.before.before.before.before).starts_lowerable
+write_lowered-requires c = (cuttable (goal.at.write_lowered-requires c).In-Cut-2).starts_lowerable
 
 pub slice_bounds-write_lowered-count-in-Cut : goal.slice_bounds-write_lowered-count-in-Cut
 slice_bounds-write_lowered-count-in-Cut c = (cuttable (c)).forward
@@ -47,4 +44,4 @@ returns-in-Refused c = refused limit _ _ _ _ c.least_of_two-room.ensures c.check
 
 pub returns-in-Cut : goal.returns-in-Cut
 returns-in-Cut c =
-    written limit _ _ _ _ (c).before.before.before.least-of-two.ensures (c).before.before.check-slice.ensures (c).s.given.1 c.write_lowered.ensures c.write_lowered-in-Cut.ensures
+    written limit _ _ _ _ c.least_of_two-room.ensures c.check_slice.ensures c.in-Cut.is c.write_lowered.ensures c.write_lowered-in-Cut.ensures

@@ -13,7 +13,7 @@ pub returns-then-size-end_of : goal.returns-then-size-end_of
 returns-then-size-end_of c = past-text _ _ _ _ c.in-Found-in_normalized.is c.end_of.ensures c.if-size-end_of.true
 
 pub overflow_add-result : goal.overflow_add-result
-overflow_add-result c = omega (arith, shifted (c).requires c.in-Found.is c.start_of-3.ensures)
+overflow_add-result c = omega (arith, shifted c.requires c.in-Found.is c.start_of-3.ensures)
 
 pub returns : goal.returns
 returns c =

@@ -26,8 +26,8 @@ loop-i-smaller c =
 
 pub loop-i-preserved : goal.loop-i-preserved
 loop-i-preserved c =
-    let joins = joined_by_lem _ _ _ (c).before.join-table.ensures c.joined-joins.ensures in
-    next-placed (c).loop.inv c.entry_at-in-loop-i.ensures c.in-At-entry_at.is
+    let joins = joined_by_lem _ _ _ c.join_table-table.ensures c.joined-joins.ensures in
+    next-placed c.loop-i.invariant c.entry_at-in-loop-i.ensures c.in-At-entry_at.is
     (over_by _ _ _ _ joins c.is_kept_run.ensures) c.write_run-at.ensures (onward-by _ _ _ joins c.extend_run-run.ensures)
 
 pub write_run-requires : goal.write_run-requires

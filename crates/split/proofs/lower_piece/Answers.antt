@@ -13,13 +13,13 @@ lower_block-requires c =
 
 pub lower_block-requires-then-has_block : goal.lower_block-requires-then-has_block
 lower_block-requires-then-has_block c =
-    let pre = (c).requires in
+    let pre = c.requires in
     let fits = c.has_block.ensures c.if-has_block.true in
     block_room pre.ends_room fits.some (omega (arith, fits.inside, pre.one_end)) fits.below
 
 pub returns-then-has_block : goal.returns-then-has_block
 returns-then-has_block c =
-    let pre = (c).requires in
+    let pre = c.requires in
     let fits = c.has_block.ensures c.if-has_block.true in (
       stretch-block pre.starts_room fits.some fits.inside fits.below fits.few c.lower_block.ensures,
       stretch-block pre.ends_room fits.some (omega (arith, fits.inside, pre.one_end)) fits.below fits.few c.lower_block-then-has_block.ensures,
@@ -38,18 +38,18 @@ pub write_lowered-requires : goal.write_lowered-requires
 write_lowered-requires c = stretch-lowerable c.requires.starts_room
 
 pub slice_bounds-write_lowered-count-2 : goal.slice_bounds-write_lowered-count-2
-slice_bounds-write_lowered-count-2 c = omega (arith, (c).requires.ends_room.source)
+slice_bounds-write_lowered-count-2 c = omega (arith, c.requires.ends_room.source)
 
 pub slice_bounds-write_lowered-start-2 : goal.slice_bounds-write_lowered-start-2
-slice_bounds-write_lowered-start-2 c = omega (arith, (c).requires.ends_room.source)
+slice_bounds-write_lowered-start-2 c = omega (arith, c.requires.ends_room.source)
 
 pub slice_bounds-write_lowered-end-2 : goal.slice_bounds-write_lowered-end-2
-slice_bounds-write_lowered-end-2 c = omega (arith, (c).requires.ends_room.source)
+slice_bounds-write_lowered-end-2 c = omega (arith, c.requires.ends_room.source)
 
 pub write_lowered-requires-2 : goal.write_lowered-requires-2
-write_lowered-requires-2 c = stretch-lowerable (c).requires.ends_room
+write_lowered-requires-2 c = stretch-lowerable c.requires.ends_room
 
 pub returns : goal.returns
 returns c =
-    let pre = (c).requires in
+    let pre = c.requires in
     (stretch-exact pre.starts_room c.write_lowered.ensures, stretch-exact pre.ends_room c.write_lowered-2.ensures)

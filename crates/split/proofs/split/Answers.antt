@@ -1,12 +1,7 @@
 -- A refusal comes before the first store; past it there is room for every piece and every alignment.
 use Rattle.note.specs.Notes.{limit}
-use Rattle.split.specs.Splitting.{PieceColumns, columns}
 use Rattle.split.proofs.Judged.{split-refused, split-accepted, split-cut}
 use Rattle.split.proofs.split.Goals as goal
-use Rattle.split.proofs.split.Goals.{Start}
-
-abbrev buffers : Start → PieceColumns
-buffers c = columns c.args.piece_starts.now c.args.piece_ends.now c.args.piece_shifts.now c.args.piece_lengths.now c.args.out_starts.now c.args.out_ends.now
 
 pub write_pieces-requires : goal.write_pieces-requires
 write_pieces-requires c =

@@ -15,20 +15,20 @@ original_start-start-requires c = c.requires.shifts-room.spans.each _ c.loop-k-t
 
 pub original_end-end-requires : goal.original_end-end-requires
 original_end-end-requires c =
-    let pre = (c).pre in inside_of (pre.shifts-room.spans.each _ c.loop-k-test.true) pre.lengths-room.one_end
+    let pre = c.requires in inside_of (pre.shifts-room.spans.each _ c.loop-k-test.true) pre.lengths-room.one_end
 
 pub overflow_add-shifts : goal.overflow_add-shifts
-overflow_add-shifts c = omega (arith, (c).pre.shifts-room.low)
+overflow_add-shifts c = omega (arith, c.requires.shifts-room.low)
 
 pub bounds-shifts-k : goal.bounds-shifts-k
-bounds-shifts-k c = omega (arith, (c).pre.shifts-room.room, c.loop-k.invariant.shifts_on.laid.same)
+bounds-shifts-k c = omega (arith, c.requires.shifts-room.room, c.loop-k.invariant.shifts_on.laid.same)
 
 pub overflow_sub-lengths : goal.overflow_sub-lengths
 overflow_sub-lengths c =
-    omega (arith, c.original_start-start.ensures, c.original_end-end.ensures, (c).pre.lengths-room.ordered _ c.loop-k-test.true)
+    omega (arith, c.original_start-start.ensures, c.original_end-end.ensures, c.requires.lengths-room.ordered _ c.loop-k-test.true)
 
 pub bounds-lengths-k : goal.bounds-lengths-k
-bounds-lengths-k c = omega (arith, (c).pre.lengths-room.room, c.loop-k.invariant.lengths_on.laid.same)
+bounds-lengths-k c = omega (arith, c.requires.lengths-room.room, c.loop-k.invariant.lengths_on.laid.same)
 
 pub overflow_cast-a : goal.overflow_cast-a
 overflow_cast-a c = omega (arith, c.type_inv.from c.loop-k.k)
@@ -37,26 +37,26 @@ pub overflow_cast-b : goal.overflow_cast-b
 overflow_cast-b c = omega (arith, c.type_inv.to c.loop-k.k)
 
 pub lower_piece-requires : goal.lower_piece-requires
-lower_piece-requires c = piece-room (c).pre c.loop-k.invariant c.loop-k-test.true c.original_start-start.ensures
+lower_piece-requires c = piece-room c.requires c.loop-k.invariant c.loop-k-test.true c.original_start-start.ensures
 
 pub overflow_sub-at : goal.overflow_sub-at
-overflow_sub-at c = omega (arith, ((entry (c)).pre.shifts-room.spans.each _ c.loop-k-test.taken).forward)
+overflow_sub-at c = omega (arith, ((entry (c)).pre.shifts-room.spans.each _ c.loop-k-test.true).forward)
 
 pub overflow_add-at : goal.overflow_add-at
 overflow_add-at c =
-    let room = (piece-room (c).pre c.loop-k.invariant c.loop-k-test.taken c.original_start-start.ensures).starts_room.source.room in
-    let long : length (c).args.out_starts.now < 2 ^ 64 = (c).good.1.1.1.1.1.1.1.1.0.0 in
+    let room = (piece-room c.requires c.loop-k.invariant c.loop-k-test.true c.original_start-start.ensures).starts_room.source.room in
+    let long : length c.args.out_starts.now < 2 ^ 64 = c.good.1.1.1.1.1.1.1.1.0.0 in
     omega (arith, room, c.loop-k.invariant.starts_on.laid.same)
 
 pub overflow_add-k : goal.overflow_add-k
-overflow_add-k c = omega (arith, c.loop-k-test.taken, (entry (c)).good.1.1.0.0)
+overflow_add-k c = omega (arith, c.loop-k-test.true, (entry (c)).good.1.1.0.0)
 
 pub loop-k-smaller : goal.loop-k-smaller
-loop-k-smaller c = omega (arith, c.loop-k-test.taken)
+loop-k-smaller c = omega (arith, c.loop-k-test.true)
 
 pub loop-k-preserved : goal.loop-k-preserved
 loop-k-preserved c =
-    next-gone (c).pre c.loop-k.invariant c.loop-k-test.taken c.original_start-start.ensures c.original_end-end.ensures c.lower_piece.ensures
+    next-gone c.requires c.loop-k.invariant c.loop-k-test.true c.original_start-start.ensures c.original_end-end.ensures c.lower_piece.ensures
 
 pub shape_of-shifts : goal.shape_of-shifts
 shape_of-shifts c = c.loop-k.invariant.shifts_on.laid.same

@@ -1,5 +1,4 @@
 -- The note first, then the list, then the room for its pieces: by a bound that needs no look at the places, else by their number.
-use borrow.Author.Tests.{not-false}
 use Rattle.note.specs.Notes.{limit}
 use Rattle.pattern.proofs.Entries.{places-most}
 use Rattle.split_offsets.proofs.Judged.{judged-note, judged-list, judged-roomy, listed, judged-room}
@@ -21,4 +20,4 @@ measure-sizes-requires c =
 
 pub returns : goal.returns
 returns c =
-    judged-room limit _ _ _ _ c.check_note.ensures c.in_default.is c.covers.ensures (not-false _ c.if-not-covers.left) c.measure-sizes.ensures c.refused_if.ensures
+    judged-room limit _ _ _ _ c.check_note.ensures c.in_default.is c.covers.ensures c.if-not-covers.false c.measure-sizes.ensures c.refused_if.ensures

@@ -12,4 +12,4 @@ pub returns-in-Byte : goal.returns-in-Byte
 returns-in-Byte c = bytes-kept c.requires.spans_ready c.write_bytes.ensures _ c.in-Byte.is
 
 pub returns-in-Char : goal.returns-in-Char
-returns-in-Char c = chars-put (c).requires.0 c.write_bytes.ensures c.in-Char.is c.write_chars.ensures
+returns-in-Char c = chars-put c.requires.spans_ready c.write_bytes.ensures c.in-Char.is c.write_chars.ensures

@@ -5,20 +5,19 @@ use Rattle.split_offsets.proofs.get_splits.Goals as goal
 
 pub write_packed-count-requires : goal.write_packed-count-requires
 write_packed-count-requires c =
-    let args = c.args in
-    spans-room limit _ _ _ args.side args.unit args.out_starts.now args.out_ends.now c.least_of_two-room.ensures c.check_splits.ensures c.in-Accepted.is
+    spans-room limit _ _ _ c.args.side c.args.unit c.args.out_starts.now c.args.out_ends.now c.least_of_two-room.ensures c.check_splits.ensures c.in-Accepted.is
 
 pub convert_spans-requires : goal.convert_spans-requires
 convert_spans-requires c =
-    let both = let args = c.args in
-    let short = original_short limit _ _ _ args.side args.unit args.out_starts.now args.out_ends.now c.least_of_two-room.ensures c.check_splits.ensures c.in-Accepted.is in
-    let spans = spans-ready limit _ _ _ args.side args.unit args.out_starts.now args.out_ends.now c.least_of_two-room.ensures c.check_splits.ensures c.in-Accepted.is c.write_packed-count.ensures in
-    (spans, short) in record { spans_ready = both.0; original_len_bound = both.1 }
+    record { spans_ready = (let short = original_short limit _ _ _ c.args.side c.args.unit c.args.out_starts.now c.args.out_ends.now c.least_of_two-room.ensures c.check_splits.ensures c.in-Accepted.is in
+    let spans = spans-ready limit _ _ _ c.args.side c.args.unit c.args.out_starts.now c.args.out_ends.now c.least_of_two-room.ensures c.check_splits.ensures c.in-Accepted.is c.write_packed-count.ensures in
+    (spans, short)).0; original_len_bound = (let short = original_short limit _ _ _ c.args.side c.args.unit c.args.out_starts.now c.args.out_ends.now c.least_of_two-room.ensures c.check_splits.ensures c.in-Accepted.is in
+    let spans = spans-ready limit _ _ _ c.args.side c.args.unit c.args.out_starts.now c.args.out_ends.now c.least_of_two-room.ensures c.check_splits.ensures c.in-Accepted.is c.write_packed-count.ensures in
+    (spans, short)).1 }
 
 pub returns-in-Refused : goal.returns-in-Refused
 returns-in-Refused c = refused limit _ _ _ _ _ _ _ c.least_of_two-room.ensures c.check_splits.ensures c.in-Refused.is
 
 pub returns-in-Accepted : goal.returns-in-Accepted
 returns-in-Accepted c =
-    let args = c.args in
-    listed limit _ _ _ args.side args.unit args.out_starts.now args.out_ends.now c.least_of_two-room.ensures c.check_splits.ensures c.in-Accepted.is c.write_packed-count.ensures c.convert_spans.ensures
+    listed limit _ _ _ c.args.side c.args.unit c.args.out_starts.now c.args.out_ends.now c.least_of_two-room.ensures c.check_splits.ensures c.in-Accepted.is c.write_packed-count.ensures c.convert_spans.ensures

@@ -10,7 +10,7 @@ pub bounds-out_starts-k : goal.bounds-out_starts-k
 bounds-out_starts-k c = (in-columns c.requires c.loop-k.invariant c.loop-k-test.true).0
 
 pub piece_bytes-bytes-requires : goal.piece_bytes-bytes-requires
-piece_bytes-bytes-requires c = piece-here (c).pre c.loop-k.invariant c.loop-k-test.true c.span_start.ensures c.span_end.ensures
+piece_bytes-bytes-requires c = piece-here c.requires c.loop-k.invariant c.loop-k-test.true c.span_start.ensures c.span_end.ensures
 
 pub offset_bounds-out_starts-k-in-loop-k : goal.offset_bounds-out_starts-k-in-loop-k
 offset_bounds-out_starts-k-in-loop-k c =
@@ -28,12 +28,12 @@ bounds-out_ends-k c = (in-columns c.requires c.loop-k.invariant c.loop-k-test.tr
 
 pub overflow_sub-sum : goal.overflow_sub-sum
 overflow_sub-sum c =
-    let piece = piece-here (c).pre c.loop-k.invariant c.loop-k-test.true c.span_start.ensures c.span_end.ensures in
+    let piece = piece-here c.requires c.loop-k.invariant c.loop-k-test.true c.span_start.ensures c.span_end.ensures in
     omega (arith, piece.some, piece.behind)
 
 pub overflow_add-sum : goal.overflow_add-sum
 overflow_add-sum c =
-    let piece = piece-here (c).pre c.loop-k.invariant c.loop-k-test.true c.span_start.ensures c.span_end.ensures in
+    let piece = piece-here c.requires c.loop-k.invariant c.loop-k-test.true c.span_start.ensures c.span_end.ensures in
     omega (arith, piece.some, piece.behind, piece.in_starts, piece.few)
 
 pub overflow_add-k : goal.overflow_add-k
@@ -41,7 +41,7 @@ overflow_add-k c = omega (arith, c.loop-k-test.true, c.ranges.count)
 
 pub loop-k-preserved : goal.loop-k-preserved
 loop-k-preserved c =
-    one-converted (c).pre c.loop-k.invariant c.loop-k-test.true c.span_start.ensures c.span_end.ensures
+    one-converted c.requires c.loop-k.invariant c.loop-k-test.true c.span_start.ensures c.span_end.ensures
     c.piece_bytes-bytes.ensures c.start_of.ensures c.end_of.ensures
 
 pub shape_of-out_starts : goal.shape_of-out_starts

@@ -1,4 +1,6 @@
 -- The range first, then the script's commands, then the room; past these the result is laid down.
+use mathlib.Core.Path.{ap}
+use mathlib.Core.Bool.{not}
 use Prim.Native.Nat.{◌-◌, ◌^◌, ◌<◌}
 use mathlib.Core.Path.{◌∙◌, sym}
 use lib.ListN.{length}
@@ -13,26 +15,26 @@ pub returns-then-not-is_char_range : goal.returns-then-not-is_char_range
 returns-then-not-is_char_range c =
     not-placed limit c.requires c.args.from.0 c.args.to.0 c.args.initial_offset
     (commands_of c.args.script.now) c.args.out.now c.args.out_starts.now c.args.out_ends.now
-    c.is_char_range.ensures c.if-not-is_char_range.true
+    c.is_char_range.ensures (ap not c.if-not-is_char_range.true)
 
 pub skip-position-requires : goal.skip-position-requires
 skip-position-requires c =
     from-standing limit c.requires c.args.from.0 c.args.to.0 c.args.initial_offset
     (commands_of c.args.script.now) c.args.out.now c.args.out_starts.now c.args.out_ends.now
-    c.is_char_range.ensures c.if-not-is_char_range.false
+    c.is_char_range.ensures (ap not c.if-not-is_char_range.false)
 
 pub measure-requires : goal.measure-requires
 measure-requires c =
     begun-standing limit c.requires c.args.from.0 c.args.to.0 c.args.initial_offset
     (commands_of c.args.script.now) c.args.out.now c.args.out_starts.now c.args.out_ends.now
-    c.is_char_range.ensures c.if-not-is_char_range.false c.skip-position.ensures
+    c.is_char_range.ensures (ap not c.if-not-is_char_range.false) c.skip-position.ensures
 
 pub overflow_sub-kept : goal.overflow_sub-kept
 overflow_sub-kept c =
     let entry = entry (c) in
     (range_inside limit entry.pre entry.args.from.0 entry.args.to.0 entry.args.initial-offset
     (commands_of entry.args.script.now) entry.args.out.now entry.args.out_starts.now entry.args.out_ends.now
-    (c).is-char-range.ensures c.if-not-is_char_range.false).1
+    c.is_char_range.ensures (ap not c.if-not-is_char_range.false)).1
 
 pub overflow_add-kept : goal.overflow_add-kept
 overflow_add-kept c =
@@ -40,7 +42,7 @@ overflow_add-kept c =
     let range =
     range_inside limit entry.pre entry.args.from.0 entry.args.to.0 entry.args.initial-offset
     (commands_of entry.args.script.now) entry.args.out.now entry.args.out_starts.now entry.args.out_ends.now
-    (c).is-char-range.ensures c.if-not-is_char_range.false in
+    c.is_char_range.ensures (ap not c.if-not-is_char_range.false) in
     let long : length entry.args.text.now < 2 ^ 64 = entry.good.0.0 in
     omega (arith, long, range.0, range.1)
 
@@ -48,7 +50,7 @@ pub returns-then-room-kept : goal.returns-then-room-kept
 returns-then-room-kept c =
     refused-kept limit c.requires c.args.from.0 c.args.to.0 c.args.initial_offset
     (commands_of c.args.script.now) c.args.out.now c.args.out_starts.now c.args.out_ends.now
-    c.is_char_range.ensures c.if-not-is_char_range.left
+    c.is_char_range.ensures (ap not c.if-not-is_char_range.false)
     c.skip-position.ensures c.measure.ensures
     c.in-Size.is c.least_room.ensures c.least_of_two-room.ensures c.if-room-kept.true
 
@@ -56,7 +58,7 @@ pub returns-then-room-kept-2 : goal.returns-then-room-kept-2
 returns-then-room-kept-2 c =
     refused-size limit c.requires c.args.from.0 c.args.to.0 c.args.initial_offset
     (commands_of c.args.script.now) c.args.out.now c.args.out_starts.now c.args.out_ends.now
-    c.is_char_range.ensures c.if-not-is_char_range.left
+    c.is_char_range.ensures (ap not c.if-not-is_char_range.false)
     c.skip-position.ensures c.measure.ensures
     c.in-Size.is c.least_room.ensures c.least_of_two-room.ensures c.if-room-kept.false
     c.if-room-kept-2.true
@@ -66,7 +68,7 @@ lay_edit-requires c =
     (
       edit-room limit c.requires c.args.from.0 c.args.to.0 c.args.initial_offset
           (commands_of c.args.script.now) c.args.out.now c.args.out_starts.now c.args.out_ends.now
-          c.is_char_range.ensures c.if-not-is_char_range.left
+          c.is_char_range.ensures (ap not c.if-not-is_char_range.false)
           c.skip-position.ensures c.measure.ensures
           c.in-Size.is c.least_room.ensures c.least_of_two-room.ensures
           c.if-room-kept.false c.if-room-kept-2.false,
@@ -77,7 +79,7 @@ pub returns-in-Starved : goal.returns-in-Starved
 returns-in-Starved c =
     starved-refused limit c.requires c.args.from.0 c.args.to.0 c.args.initial_offset
     (commands_of c.args.script.now) c.args.out.now c.args.out_starts.now c.args.out_ends.now
-    c.is_char_range.ensures c.if-not-is_char_range.false
+    c.is_char_range.ensures (ap not c.if-not-is_char_range.false)
     c.skip-position.ensures c.measure.ensures
     c.in-Starved.is
 
@@ -85,7 +87,7 @@ pub returns-else-room-kept-2 : goal.returns-else-room-kept-2
 returns-else-room-kept-2 c =
     edit-made limit c.requires c.args.from.0 c.args.to.0 c.args.initial_offset
     (commands_of c.args.script.now) c.args.out.now c.args.out_starts.now c.args.out_ends.now
-    c.is_char_range.ensures c.if-not-is_char_range.left
+    c.is_char_range.ensures (ap not c.if-not-is_char_range.false)
     c.skip-position.ensures c.measure.ensures
     c.in-Size.is c.least_room.ensures c.least_of_two-room.ensures
     c.if-room-kept.false c.if-room-kept-2.false

@@ -10,9 +10,8 @@ use Rattle.transform.proofs.transform.Goals as goal
 
 pub returns-then-original-gt-LIMIT : goal.returns-then-original-gt-LIMIT
 returns-then-original-gt-LIMIT c =
-    let given = c.args in
-    let note : Note = (lent given.original.now given.normalized.now given.starts.now given.ends.now given.original_shift) in
-    inputs-refused limit note (also (note_faults limit note) (script_faults given.script.now)) refl
-    (script_edit note (whole_original given.original.now) given.script.now given.initial-offset) given.out.now
-    given.out_starts.now given.out_ends.now
-    (note-refused limit note given.script.now refl (long-refused limit note c.if-original-gt-LIMIT.true)) refl
+    let note : Note = (lent c.args.original.now c.args.normalized.now c.args.starts.now c.args.ends.now c.args.original_shift) in
+    inputs-refused limit note (also (note_faults limit note) (script_faults c.args.script.now)) refl
+    (script_edit note (whole_original c.args.original.now) c.args.script.now c.args.initial_offset) c.args.out.now
+    c.args.out_starts.now c.args.out_ends.now
+    (note-refused limit note c.args.script.now refl (long-refused limit note c.if-original-gt-LIMIT.true)) refl

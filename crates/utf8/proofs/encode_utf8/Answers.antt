@@ -36,7 +36,8 @@ overflow_cast-result c = search rules
 
 pub returns-then-c-lt128 : goal.returns-then-c-lt128
 unfolding overlay
-returns-then-c-lt128 c = holding (bytes_of-scalar _ (is_scalar c.before) ∙ encoded-one _ (omega arith)) refl refl
+returns-then-c-lt128 c =
+    holding (bytes_of-scalar _ (is_scalar (goal.at.returns-then-c-lt128 c).Else-not-is_scalar) ∙ encoded-one _ (omega arith)) refl refl
 
 pub overflow_add-result : goal.overflow_add-result
 unfolding overlay
@@ -57,7 +58,7 @@ overflow_cast-result-then-c-lt2048-2 c = search rules
 pub returns-then-c-lt2048 : goal.returns-then-c-lt2048
 unfolding overlay
 returns-then-c-lt2048 c =
-    holding (bytes_of-scalar _ (is_scalar c.before.before) ∙ encoded-two _ (omega arith) (omega arith)) refl refl
+    holding (bytes_of-scalar _ (is_scalar (goal.at.returns-then-c-lt2048 c).Else-not-is_scalar) ∙ encoded-two _ (omega arith) (omega arith)) refl refl
 
 pub overflow_add-result-then-c-lt65536 : goal.overflow_add-result-then-c-lt65536
 unfolding overlay
@@ -86,7 +87,7 @@ overflow_cast-result-then-c-lt65536-3 c = search rules
 pub returns-then-c-lt65536 : goal.returns-then-c-lt65536
 unfolding overlay
 returns-then-c-lt65536 c =
-    holding (bytes_of-scalar _ (is_scalar c.before.before.before) ∙ encoded-three _ (omega arith) (omega arith)) refl refl
+    holding (bytes_of-scalar _ (is_scalar (goal.at.returns-then-c-lt65536 c).Else-not-is_scalar) ∙ encoded-three _ (omega arith) (omega arith)) refl refl
 
 pub overflow_add-result-2 : goal.overflow_add-result-2
 unfolding overlay
@@ -94,7 +95,7 @@ overflow_add-result-2 c = search rules
 
 pub overflow_cast-result-2 : goal.overflow_cast-result-2
 unfolding overlay
-overflow_cast-result-2 c = omega (arith, scalar-most _ (is_scalar c.before.before.before))
+overflow_cast-result-2 c = omega (arith, scalar-most _ (is_scalar (goal.at.overflow_cast-result-2 c).Else-not-is_scalar))
 
 pub overflow_add-result-3 : goal.overflow_add-result-3
 unfolding overlay
@@ -123,4 +124,4 @@ overflow_cast-result-5 c = search rules
 pub returns : goal.returns
 unfolding overlay
 returns c =
-    holding (bytes_of-scalar _ (is_scalar c.before.before.before) ∙ encoded-four _ (omega arith)) refl refl
+    holding (bytes_of-scalar _ (is_scalar (goal.at.returns c).Else-not-is_scalar) ∙ encoded-four _ (omega arith)) refl refl

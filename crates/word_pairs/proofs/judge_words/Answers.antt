@@ -22,7 +22,7 @@ pub slice_bounds-well_formed-end : goal.slice_bounds-well_formed-end
 slice_bounds-well_formed-end c = omega (arith, c.loop-i.invariant.most)
 
 pub loop-i-preserved : goal.loop-i-preserved
-loop-i-preserved c = word-judged c.loop-i.invariant c.loop-i-test.true (omega arith) c.well-formed-2.ensures
+loop-i-preserved c = word-judged c.loop-i.invariant c.loop-i-test.true (omega arith) c.well_formed-formed.ensures
 
 pub returns-then-at-bytes : goal.returns-then-at-bytes
 returns-then-at-bytes c = words_long c.loop-i.invariant c.loop-i-test.false c.if-at-bytes.true

@@ -21,23 +21,23 @@ pub loop-j-init : goal.loop-j-init
 loop-j-init c = (omega arith, lows-less c.requires.so_far _ (omega arith))
 
 pub overflow_add-i-in-loop-j : goal.overflow_add-i-in-loop-j
-overflow_add-i-in-loop-j c = omega (arith, (c).pre.inside)
+overflow_add-i-in-loop-j c = omega (arith, c.requires.inside)
 
 pub bounds-lows-i : goal.bounds-lows-i
-bounds-lows-i c = omega (arith, c.loop-j.invariant.1.same, (c).pre.inside, (c).pre.room)
+bounds-lows-i c = omega (arith, c.loop-j.invariant.1.same, c.requires.inside, c.requires.room)
 
 pub overflow_add-lows : goal.overflow_add-lows
-overflow_add-lows c = omega (arith, (c).pre.inside)
+overflow_add-lows c = omega (arith, c.requires.inside)
 
 pub overflow_add-lows-in-loop-j : goal.overflow_add-lows-in-loop-j
-overflow_add-lows-in-loop-j c = omega (arith, (c).pre.inside)
+overflow_add-lows-in-loop-j c = omega (arith, c.requires.inside)
 
 pub bounds-lows-i-in-loop-j : goal.bounds-lows-i-in-loop-j
-bounds-lows-i-in-loop-j c = omega (arith, c.loop-j.invariant.1.same, (c).pre.inside, (c).pre.room)
+bounds-lows-i-in-loop-j c = omega (arith, c.loop-j.invariant.1.same, c.requires.inside, c.requires.room)
 
 pub loop-j-preserved : goal.loop-j-preserved
 loop-j-preserved c =
-    let pre = (c).pre in
+    let pre = c.requires in
     let j = c.loop-j.j in
     let fours = c.write_fours.ensures in
     let low = far-low _ j c.loop-j.invariant.1 fours c.write_sixteens.ensures (omega arith) c.wrapping_add_u8.ensures in

@@ -8,27 +8,26 @@ loop-j-init c = (omega arith, none_filled _ _ _)
 
 pub overflow_add-fours : goal.overflow_add-fours
 overflow_add-fours c =
-    omega (arith, two-fit (c).args.text.now (c).args.from c.loop-j.j (omega arith) c.continues.ensures c.continues-in-loop-j.ensures)
+    omega (arith, two-fit c.args.text.now c.args.from c.loop-j.j (omega arith) c.continues.ensures c.continues-in-loop-j.ensures)
 
 pub overflow_add-fours-in-loop-j : goal.overflow_add-fours-in-loop-j
 overflow_add-fours-in-loop-j c =
-    omega (arith, three-fit (c).args.text.now (c).args.from c.loop-j.j (omega arith) c.continues.ensures c.continues-in-loop-j.ensures c.continues-in-loop-j-2.ensures)
+    omega (arith, three-fit c.args.text.now c.args.from c.loop-j.j (omega arith) c.continues.ensures c.continues-in-loop-j.ensures c.continues-in-loop-j-2.ensures)
 
 pub overflow_add-fours-in-loop-j-2 : goal.overflow_add-fours-in-loop-j-2
 overflow_add-fours-in-loop-j-2 c =
-    let args = (c).args in
     let j = c.loop-j.j in
     let sum =
-    four-flags args.text.now args.from j (omega arith)
+    four-flags c.args.text.now c.args.from j (omega arith)
     c.continues.ensures c.continues-in-loop-j.ensures c.continues-in-loop-j-2.ensures c.continues-in-loop-j-3.ensures in
-    omega (arith, sum, four-small args.text.now args.from j)
+    omega (arith, sum, four-small c.args.text.now c.args.from j)
 
 pub loop-j-preserved : goal.loop-j-preserved
 loop-j-preserved c =
-    let args = (c).args in (
+    (
       omega arith,
       filled-up _ _ _ _ _ _ c.loop-j.invariant.1 (omega arith)
-          (four-flags args.text.now args.from c.loop-j.j (omega arith)
+          (four-flags c.args.text.now c.args.from c.loop-j.j (omega arith)
           c.continues.ensures c.continues-in-loop-j.ensures c.continues-in-loop-j-2.ensures c.continues-in-loop-j-3.ensures),
     )
 

@@ -19,8 +19,7 @@ bounds-out-at c = omega (arith, c.loop-k.invariant.1.same)
 
 pub loop-k-preserved : goal.loop-k-preserved
 loop-k-preserved c =
-    let a = c.args in
-    (omega arith, filled_at _ _ _ _ _ _ _ (filled-up _ _ _ _ _ _ c.loop-k.invariant.1 (omega arith) (step-at a.base a.steps.now a.at c.loop-k.k)) refl (omega arith))
+    (omega arith, filled_at _ _ _ _ _ _ _ (filled-up _ _ _ _ _ _ c.loop-k.invariant.1 (omega arith) (step-at c.args.base c.args.steps.now c.args.at c.loop-k.k)) refl (omega arith))
 
 pub shape_of-out : goal.shape_of-out
 shape_of-out c = c.loop-k.invariant.1.same

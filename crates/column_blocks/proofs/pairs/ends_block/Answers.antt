@@ -9,10 +9,13 @@ use Rattle.column_blocks.proofs.pairs.ends_block.Goals as goal
 
 pub add_base-requires : goal.add_base-requires
 add_base-requires c =
-    let both = let counted = c.count_ahead.ensures in
+    record { steps_len = (let counted = c.count_ahead.ensures in
     let i = c.args.i in
     let s = c.args.text.now in
-    (omega (arith, counted.same), λ k. omega (arith, steps-most ((i - 2) % 64 + 68) refl counted (λ j h. omega (arith, pair_small (get_or (part s (i + 1) (i + 65)) j 0) (get_or (part s (i + 2) (i + 66)) j 0))) k)) in record { steps_len = both.0; by_index = both.1 }
+    (omega (arith, counted.same), λ k. omega (arith, steps-most ((i - 2) % 64 + 68) refl counted (λ j h. omega (arith, pair_small (get_or (part s (i + 1) (i + 65)) j 0) (get_or (part s (i + 2) (i + 66)) j 0))) k))).0; by_index = (let counted = c.count_ahead.ensures in
+    let i = c.args.i in
+    let s = c.args.text.now in
+    (omega (arith, counted.same), λ k. omega (arith, steps-most ((i - 2) % 64 + 68) refl counted (λ j h. omega (arith, pair_small (get_or (part s (i + 1) (i + 65)) j 0) (get_or (part s (i + 2) (i + 66)) j 0))) k))).1 }
 
 pub returns : goal.returns
 returns c =

@@ -7,10 +7,13 @@ use Rattle.column_blocks.proofs.runs.starts_block.Goals as goal
 
 pub step_back-requires : goal.step_back-requires
 step_back-requires c =
-    let both = let filled = c.count_runs.ensures in (
+    record { counts_in_bounds = (let filled = c.count_runs.ensures in (
       (omega (arith, filled.same), omega (arith, filled.same)),
       λ k. omega (arith, counts-small c.args.text.now c.args.i (c.args.i - 1) (c.args.i - 2) _ _ filled k),
-    ) in record { counts_in_bounds = both.0; by_index = both.1 }
+    )).0; by_index = (let filled = c.count_runs.ensures in (
+      (omega (arith, filled.same), omega (arith, filled.same)),
+      λ k. omega (arith, counts-small c.args.text.now c.args.i (c.args.i - 1) (c.args.i - 2) _ _ filled k),
+    )).1 }
 
 pub returns : goal.returns
 returns c =

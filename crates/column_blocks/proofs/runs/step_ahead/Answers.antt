@@ -15,8 +15,7 @@ overflow_add-ends-in-loop-k-2 c = omega (arith, c.requires.by_index c.loop-k.k)
 
 pub loop-k-preserved : goal.loop-k-preserved
 loop-k-preserved c =
-    let args = c.args in
-    let one = ahead-at args.counts.now args.i args.at c.loop-k.k in
+    let one = ahead-at c.args.counts.now c.args.i c.args.at c.loop-k.k in
     (omega arith, filled_at _ _ _ _ _ _ _ (filled-up _ _ _ _ _ _ c.loop-k.invariant.1 (omega arith) one) (omega arith) (omega arith))
 
 pub shape_of-ends : goal.shape_of-ends

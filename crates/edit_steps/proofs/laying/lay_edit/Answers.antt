@@ -14,19 +14,18 @@ overflow_add-first c =
     omega (arith, long, c.requires.0.text_room, c.requires.1)
 
 pub lay_script-at-requires : goal.lay_script-at-requires
-lay_script-at-requires c = (middle-room (c).requires.0 c.keep.ensures, omega (arith, (c).requires.1))
+lay_script-at-requires c = (middle-room c.requires.0 c.keep.ensures, omega (arith, c.requires.1))
 
 pub keep-requires-2 : goal.keep-requires-2
-keep-requires-2 c = back-room (entry (c).before).requires.0 (c).keep.ensures c.lay_script-at.ensures
+keep-requires-2 c = back-room c.requires.0 c.keep.ensures c.lay_script-at.ensures
 
 pub overflow_sub-result : goal.overflow_sub-result
-overflow_sub-result c = (entry (c).before).requires.0.inside
+overflow_sub-result c = c.requires.0.inside
 
 pub overflow_add-result : goal.overflow_add-result
 overflow_add-result c =
-    let entry = entry (c).before in
-    let long : length entry.args.out.now < 2 ^ 64 = entry.good.1.1.1.1.1.1.1.0.0 in
-    omega (arith, long, c.lay_script-at.ensures.reached, entry.pre.0.text_room)
+    let long : length c.args.out.now < 2 ^ 64 = c.good.1.1.1.1.1.1.1.0.0 in
+    omega (arith, long, c.lay_script-at.ensures.reached, c.requires.0.text_room)
 
 pub returns : goal.returns
 returns c = edit-laid c.requires.0 c.keep.ensures c.lay_script-at.ensures c.keep-2.ensures

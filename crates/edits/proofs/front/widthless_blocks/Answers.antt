@@ -1,3 +1,5 @@
+use mathlib.Core.Path.{ap}
+use mathlib.Core.Bool.{not}
 use Prim.Native.Nat.{◌-◌}
 use Rattle.edits.proofs.Head.{none_passed, block-passed}
 use native.Mathlib.Omega.{arith}
@@ -11,7 +13,7 @@ overflow_sub-starts c = omega (arith, c.loop-i.invariant.most)
 
 pub loop-i-preserved : goal.loop-i-preserved
 loop-i-preserved c =
-    block-passed c.loop-i.invariant c.requires (omega arith) c.same_offsets.ensures c.if-not-same_offsets.false
+    block-passed c.loop-i.invariant c.requires (omega arith) c.same_offsets.ensures (ap not c.if-not-same_offsets.false)
 
 pub returns-after-loop-i : goal.returns-after-loop-i
 returns-after-loop-i c = c.loop-i.invariant

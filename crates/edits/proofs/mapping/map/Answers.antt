@@ -1,77 +1,67 @@
 -- The note first, then the code points, then their number, the head and the room; past these they are laid down.
+use mathlib.Core.Path.{ap}
+use mathlib.Core.Bool.{not}
 use mathlib.Core.Path.{◌∙◌, refl, sym}
 use Rattle.note.specs.Refusals.{also}
-use Rattle.note.specs.Notes.{Note, lent, limit}
+use Rattle.note.specs.Notes.{lent, limit}
 use Rattle.note.specs.Faults.{note_faults}
 use Rattle.transform.proofs.Verdicts.{inputs-refused, note-editable}
 use Rattle.edits.specs.Whole.{codes_faults, map_edit}
 use Rattle.edits.proofs.Inputs.{note-first, bad-codes, count-refused}
 use Rattle.edits.proofs.Mapped.{head-refused, map-large, map-room, map-made}
 use Rattle.edits.proofs.mapping.map.Goals as goal
-use Rattle.edits.proofs.mapping.map.Goals.{Start}
-
-abbrev note : Start → Note
-note c = lent c.args.original.now c.args.normalized.now c.args.starts.now c.args.ends.now c.args.original_shift
 
 pub returns-then-not-judged : goal.returns-then-not-judged
 returns-then-not-judged c =
-    let given = c.args in
-    let note = note c.before.before.before.before.before.before.before.before.before.before.before.before.before.before in
-    inputs-refused limit note (also (note_faults limit note) (codes_faults given.normalized.now given.codes.now)) refl (map_edit note given.codes.now) given.out.now given.out_starts.now given.out_ends.now
-    (bad-codes limit note given.codes.now c.check_note.ensures c.in-Accepted.is c.judge-judged.ensures.scalar_is c.if-not-judged.true) refl
+    let note = (lent c.args.original.now c.args.normalized.now c.args.starts.now c.args.ends.now c.args.original_shift) in
+    inputs-refused limit note (also (note_faults limit note) (codes_faults c.args.normalized.now c.args.codes.now)) refl (map_edit note c.args.codes.now) c.args.out.now c.args.out_starts.now c.args.out_ends.now
+    (bad-codes limit note c.args.codes.now c.check_note.ensures c.in-Accepted.is c.judge-judged.ensures.scalar_is (ap not c.if-not-judged.true)) refl
 
 pub returns-then-codes-count_leads : goal.returns-then-codes-count_leads
 returns-then-codes-count_leads c =
-    let given = c.args in
-    let note = note c.before.before.before.before.before.before.before.before.before.before.before.before.before.before.before.before in
-    inputs-refused limit note (also (note_faults limit note) (codes_faults given.normalized.now given.codes.now)) refl (map_edit note given.codes.now) given.out.now given.out_starts.now given.out_ends.now
-    (count-refused limit note given.codes.now c.check_note.ensures c.in-Accepted.is c.judge-judged.ensures.scalar_is c.if-not-judged.false c.count_leads.ensures c.if-codes-count_leads.true) refl
+    let note = (lent c.args.original.now c.args.normalized.now c.args.starts.now c.args.ends.now c.args.original_shift) in
+    inputs-refused limit note (also (note_faults limit note) (codes_faults c.args.normalized.now c.args.codes.now)) refl (map_edit note c.args.codes.now) c.args.out.now c.args.out_starts.now c.args.out_ends.now
+    (count-refused limit note c.args.codes.now c.check_note.ensures c.in-Accepted.is c.judge-judged.ensures.scalar_is (ap not c.if-not-judged.false) c.count_leads.ensures c.if-codes-count_leads.true) refl
 
 pub has_head-requires : goal.has_head-requires
 has_head-requires c =
-    let given = c.args in
-    let k = note-editable limit (note c.before.before.before.before.before.before.before.before.before.before.before.before.before.before.before.before) c.check_note.ensures c.in-Accepted.is in
+    let k = note-editable limit (lent c.args.original.now c.args.normalized.now c.args.starts.now c.args.ends.now c.args.original_shift) c.check_note.ensures c.in-Accepted.is in
     k.one_start ∙ sym k.one_end
 
 pub returns-then-has_head : goal.returns-then-has_head
 returns-then-has_head c =
-    let given = c.args in
-    head-refused limit (note c.before.before.before.before.before.before.before.before.before.before.before.before.before.before.before.before.before.before) given.codes.now given.out.now given.out_starts.now given.out_ends.now
+    head-refused limit (lent c.args.original.now c.args.normalized.now c.args.starts.now c.args.ends.now c.args.original_shift) c.args.codes.now c.args.out.now c.args.out_starts.now c.args.out_ends.now
     c.check_note.ensures c.in-Accepted.is
-    c.judge-judged.ensures c.if-not-judged.false
+    c.judge-judged.ensures (ap not c.if-not-judged.false)
     c.count_leads.ensures c.if-codes-count_leads.false c.has_head.ensures c.if-has_head.true
 
 pub returns-then-room-judged : goal.returns-then-room-judged
 returns-then-room-judged c =
-    let given = (c).args in
-    map-large limit (note (c)) given.codes.now given.out.now given.out_starts.now given.out_ends.now
+    map-large limit (note (c)) c.args.codes.now c.args.out.now c.args.out_starts.now c.args.out_ends.now
     c.check_note.ensures c.in-Accepted.is
-    c.judge-judged.ensures c.if-not-judged.false
+    c.judge-judged.ensures (ap not c.if-not-judged.false)
     c.count_leads.ensures c.if-codes-count_leads.false c.has_head.ensures
     c.if-has_head.false c.least_room.ensures c.least_of_two-room.ensures c.if-room-judged.true
 
 pub lay_codes-laid-requires : goal.lay_codes-laid-requires
 lay_codes-laid-requires c =
-    let given = (c).args in
-    map-room limit (note (c)) given.codes.now given.out.now given.out_starts.now given.out_ends.now
+    map-room limit (note (c)) c.args.codes.now c.args.out.now c.args.out_starts.now c.args.out_ends.now
     c.check_note.ensures c.in-Accepted.is
-    c.judge-judged.ensures c.if-not-judged.left
-    c.count_leads.ensures c.if-codes-count_leads.left c.has_head.ensures
-    c.if-has_head.left c.least_room.ensures c.least_of_two-room.ensures c.if-room-judged.false
+    c.judge-judged.ensures (ap not c.if-not-judged.false)
+    c.count_leads.ensures c.if-codes-count_leads.false c.has_head.ensures
+    c.if-has_head.false c.least_room.ensures c.least_of_two-room.ensures c.if-room-judged.false
 
 pub returns-in-Refused : goal.returns-in-Refused
 returns-in-Refused c =
-    let given = c.args in
-    let note = note c.before.before.before.before.before.before.before.before.before.before.before.before in
-    inputs-refused limit note (also (note_faults limit note) (codes_faults given.normalized.now given.codes.now)) refl (map_edit note given.codes.now) given.out.now given.out_starts.now given.out_ends.now
-    (note-first limit note given.codes.now c.check_note.ensures c.in-Refused.is) refl
+    let note = (lent c.args.original.now c.args.normalized.now c.args.starts.now c.args.ends.now c.args.original_shift) in
+    inputs-refused limit note (also (note_faults limit note) (codes_faults c.args.normalized.now c.args.codes.now)) refl (map_edit note c.args.codes.now) c.args.out.now c.args.out_starts.now c.args.out_ends.now
+    (note-first limit note c.args.codes.now c.check_note.ensures c.in-Refused.is) refl
 
 pub returns-else-room-judged : goal.returns-else-room-judged
 returns-else-room-judged c =
-    let given = (c).args in
-    map-made limit (note (c)) given.codes.now given.out.now given.out_starts.now given.out_ends.now
+    map-made limit (note (c)) c.args.codes.now c.args.out.now c.args.out_starts.now c.args.out_ends.now
     c.check_note.ensures c.in-Accepted.is
-    c.judge-judged.ensures c.if-not-judged.left
-    c.count_leads.ensures c.if-codes-count_leads.left c.has_head.ensures
-    c.if-has_head.left c.least_room.ensures c.least_of_two-room.ensures c.if-room-judged.left
+    c.judge-judged.ensures (ap not c.if-not-judged.false)
+    c.count_leads.ensures c.if-codes-count_leads.false c.has_head.ensures
+    c.if-has_head.false c.least_room.ensures c.least_of_two-room.ensures c.if-room-judged.false
     c.lay_codes-laid.ensures

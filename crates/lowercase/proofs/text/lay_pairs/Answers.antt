@@ -1,22 +1,8 @@
 use Prim.Native.Nat.{◌-◌, ◌^◌, ◌<◌}
 use lib.ListN.{length}
 use native.Mathlib.Omega.{arith}
-use Rattle.lowercase.proofs.Fixing.{
-  Fixing,
-  places-few,
-  block-fits,
-  places-room,
-  begun,
-  out-same,
-  end-room,
-  place_inside,
-  place-ready,
-  place-fixed,
-  all-inside,
-  all_past,
+use Rattle.lowercase.proofs.Fixing.{places-few, block-fits, places-room, begun, out-same, end-room, place_inside, place-ready, place-fixed, all-inside, all_past}
 use Rattle.lowercase.proofs.text.lay_pairs.Goals as goal
-
-}
 
 pub lay_block-requires : goal.lay_block-requires
 lay_block-requires c = let given = c.requires in block-fits given.0 given.1 given.2

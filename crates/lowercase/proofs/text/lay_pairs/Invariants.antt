@@ -1,18 +1,6 @@
 -- The bytes each alone, then the places of the characters of two bytes, then one of these after the other.
 use Prim.Native.Nat.{◌-◌}
-use Rattle.lowercase.proofs.Fixing.{
-  Fixing,
-  places-few,
-  block-fits,
-  places-room,
-  begun,
-  out-same,
-  end-room,
-  place_inside,
-  place-ready,
-  place-fixed,
-  all-inside,
-  all_past,
+use Rattle.lowercase.proofs.Fixing.{Fixing}
 use Rattle.lowercase.proofs.text.lay_pairs.Given as goal
 
 abbrev pub invariant-loop-q : goal.invariant-loop-q

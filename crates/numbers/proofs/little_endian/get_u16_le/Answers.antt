@@ -19,4 +19,4 @@ overflow_add-result-2 c =
     omega (arith, c.shared_slice_known-1.given at, c.type_inv.bytes (at + 1))
 
 pub returns : goal.returns
-returns c = let given = c.args in value-at given.bytes.now given.at
+returns c = value-at c.args.bytes.now c.args.at

@@ -10,8 +10,7 @@ loop-j-init c = (omega arith, every-none _)
 pub loop-j-preserved : goal.loop-j-preserved
 unfolding placed_byte
 loop-j-preserved c =
-    let given = c.args in
-    (omega arith, every_more (placed_byte given.list.now given.i) c.loop-j.invariant.1 c.placed_at-ok.ensures)
+    (omega arith, every_more (placed_byte c.args.list.now c.args.i) c.loop-j.invariant.1 c.placed_at-ok.ensures)
 
 pub returns : goal.returns
 returns c = every-end 80 _ {j = c.loop-j.j} (omega arith) c.loop-j.invariant.1

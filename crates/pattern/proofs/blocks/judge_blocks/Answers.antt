@@ -1,3 +1,5 @@
+use mathlib.Core.Path.{ap}
+use mathlib.Core.Bool.{not}
 use Prim.Native.Nat.{◌-◌}
 use native.Mathlib.Omega.{arith}
 use Rattle.pattern.proofs.Placed.{broken-first, unfit-first, first-going, block-going, block-unfit, blocks-short, blocks-judged}
@@ -7,10 +9,10 @@ pub returns-in_default : goal.returns-in_default
 returns-in_default c = broken-first _ _ c.entry_at.ensures c.in_default.is
 
 pub returns-then-not-fits_at : goal.returns-then-not-fits_at
-returns-then-not-fits_at c = unfit-first _ _ c.entry_at.ensures c.in-At.is c.fits_at.ensures c.if-not-fits_at.true
+returns-then-not-fits_at c = unfit-first _ _ c.entry_at.ensures c.in-At.is c.fits_at.ensures (ap not c.if-not-fits_at.true)
 
 pub loop-i-init : goal.loop-i-init
-loop-i-init c = first-going _ _ c.entry_at.ensures c.in-At.is c.fits_at.ensures c.if-not-fits_at.false
+loop-i-init c = first-going _ _ c.entry_at.ensures c.in-At.is c.fits_at.ensures (ap not c.if-not-fits_at.false)
 
 pub overflow_add-i : goal.overflow_add-i
 overflow_add-i c = omega (arith, c.loop-i.invariant.most)
@@ -23,14 +25,14 @@ judged_to-requires c = let g = c.loop-i.invariant in (omega (arith, g.after_five
 
 pub returns-then-not-block_fits : goal.returns-then-not-block_fits
 returns-then-not-block_fits c =
-    blocks-judged _ _ c.entry_at.ensures c.in-At.is c.fits_at.ensures c.if-not-fits_at.false (block-unfit c.loop-i.invariant c.block_fits.ensures c.if-not-block_fits.true) c.judged_to.ensures
+    blocks-judged _ _ c.entry_at.ensures c.in-At.is c.fits_at.ensures (ap not c.if-not-fits_at.false) (block-unfit c.loop-i.invariant c.block_fits.ensures (ap not c.if-not-block_fits.true)) c.judged_to.ensures
 
 pub loop-i-preserved : goal.loop-i-preserved
-loop-i-preserved c = block-going c.loop-i.invariant (omega arith) c.block_fits.ensures c.if-not-block_fits.false
+loop-i-preserved c = block-going c.loop-i.invariant (omega arith) c.block_fits.ensures (ap not c.if-not-block_fits.false)
 
 pub judged_to-requires-2 : goal.judged_to-requires-2
 judged_to-requires-2 c = let g = c.loop-i.invariant in (omega (arith, g.after_five), g.most)
 
 pub returns : goal.returns
 returns c =
-    blocks-judged _ _ c.entry_at.ensures c.in-At.is c.fits_at.ensures c.if-not-fits_at.false (blocks-short c.loop-i.invariant (omega arith)) c.judged_to-2.ensures
+    blocks-judged _ _ c.entry_at.ensures c.in-At.is c.fits_at.ensures (ap not c.if-not-fits_at.false) (blocks-short c.loop-i.invariant (omega arith)) c.judged_to-2.ensures

@@ -9,7 +9,7 @@ pub keep-requires : goal.keep-requires
 keep-requires c = front-keeps c.requires
 
 pub lay_content-requires : goal.lay_content-requires
-lay_content-requires c = content-room (c).requires c.keep.ensures
+lay_content-requires c = content-room c.requires c.keep.ensures
 
 pub overflow_add-at : goal.overflow_add-at
 overflow_add-at c =
@@ -17,16 +17,15 @@ overflow_add-at c =
     omega (arith, long, c.requires.text_room)
 
 pub keep-requires-2 : goal.keep-requires-2
-keep-requires-2 c = back-keeps (entry (c).before).requires (c).keep.ensures c.lay_content.ensures
+keep-requires-2 c = back-keeps c.requires c.keep.ensures c.lay_content.ensures
 
 pub overflow_sub-result : goal.overflow_sub-result
-overflow_sub-result c = (edit-room (entry (c).before).requires).inside
+overflow_sub-result c = (edit-room c.requires).inside
 
 pub overflow_add-result : goal.overflow_add-result
 overflow_add-result c =
-    let entry = entry (c).before in
-    let long : length entry.args.out.now < 2 ^ 64 = entry.good.1.1.1.1.1.0.0 in
-    omega (arith, long, entry.pre.text_room)
+    let long : length c.args.out.now < 2 ^ 64 = c.good.1.1.1.1.1.0.0 in
+    omega (arith, long, c.requires.text_room)
 
 pub returns : goal.returns
 returns c = place-laid c.requires c.keep.ensures c.lay_content.ensures c.keep-2.ensures

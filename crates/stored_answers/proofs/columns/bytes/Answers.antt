@@ -17,4 +17,4 @@ copy_bytes-requires c =
 
 pub returns : goal.returns
 returns c =
-    let both = first-laid _ _ _ _ c.least_of_two-n.ensures c.copy_bytes.ensures c.field-field.ensures in record { prefix_len = both.0; laid = both.1 }
+    record { prefix_len = (first-laid _ _ _ _ c.least_of_two-n.ensures c.copy_bytes.ensures c.field-field.ensures).0; laid = (first-laid _ _ _ _ c.least_of_two-n.ensures c.copy_bytes.ensures c.field-field.ensures).1 }

@@ -15,4 +15,4 @@ shape_of-dst c = c.loop-i.invariant.laying.same
 
 pub returns : goal.returns
 returns c =
-    let both = all-summed c.loop-i.invariant c.loop-i-test.false c.least_of_two-n.ensures c.field-field.ensures in record { prefix_len = both.0; laid = both.1 }
+    record { prefix_len = (all-summed c.loop-i.invariant c.loop-i-test.false c.least_of_two-n.ensures c.field-field.ensures).0; laid = (all-summed c.loop-i.invariant c.loop-i-test.false c.least_of_two-n.ensures c.field-field.ensures).1 }

@@ -10,6 +10,4 @@ pub returns-then-list-at : goal.returns-then-list-at
 returns-then-list-at c = number_cut c.args.list.now c.args.at (omega arith)
 
 pub returns : goal.returns
-returns c =
-    let given = c.args in
-    number-whole given.list.now given.at c.get_u32_le.ensures (omega arith)
+returns c = number-whole c.args.list.now c.args.at c.get_u32_le.ensures (omega arith)

@@ -19,19 +19,20 @@ pub slice_bounds-bounds_of-end : goal.slice_bounds-bounds_of-end
 slice_bounds-bounds_of-end c = simp length-take (omega arith)
 
 pub returns-then-most-lt128 : goal.returns-then-most-lt128
-returns-then-most-lt128 c = sym (block-ascii _ _ (omega (arith, whole c.before)))
+returns-then-most-lt128 c = sym (block-ascii _ _ (omega (arith, whole (goal.at.returns-then-most-lt128 c).After-max_u8-most)))
 
 pub valid_two-requires : goal.valid_two-requires
-valid_two-requires c = (omega arith, omega (arith, whole c.before.before.before.before), omega (arith, past c.before))
+valid_two-requires c =
+    (omega arith, omega (arith, whole (goal.at.valid_two-requires c).After-max_u8-most), omega (arith, past (goal.at.valid_two-requires c).Else-least-lt2))
 
 pub valid_plain-requires : goal.valid_plain-requires
 valid_plain-requires c =
-    (omega arith, omega (arith, whole c.before.before.before.before.before.before), omega (arith, past c.before.before.before))
+    (omega arith, omega (arith, whole (goal.at.valid_plain-requires c).After-max_u8-most), omega (arith, past (goal.at.valid_plain-requires c).Else-least-lt2))
 
 pub valid_three-requires : goal.valid_three-requires
 valid_three-requires c =
-    (omega arith, omega (arith, whole c.before.before.before.before.before.before), omega (arith, past c.before.before.before))
+    (omega arith, omega (arith, whole (goal.at.valid_three-requires c).After-max_u8-most), omega (arith, past (goal.at.valid_three-requires c).Else-least-lt2))
 
 pub valid_plain_four-requires : goal.valid_plain_four-requires
 valid_plain_four-requires c =
-    (omega arith, omega (arith, whole c.before.before.before.before.before.before.before.before), omega (arith, past c.before.before.before.before.before))
+    (omega arith, omega (arith, whole (goal.at.valid_plain_four-requires c).After-max_u8-most), omega (arith, past (goal.at.valid_plain_four-requires c).Else-least-lt2))

@@ -17,10 +17,10 @@ pub returns-then-b1-select_or_zero_u8 : goal.returns-then-b1-select_or_zero_u8
 unfolding within
 returns-then-b1-select_or_zero_u8 c =
     let pre = c.requires in
-    three-if-odd _ pre.0 pre.1 (larger c.before.before.before) c.standing-flag.ensures c.select_or_zero_u8.ensures c.if-b1-select_or_zero_u8.true
+    three-if-odd _ pre.0 pre.1 (larger (goal.at.returns-then-b1-select_or_zero_u8 c).After-max_u8) c.standing-flag.ensures c.select_or_zero_u8.ensures c.if-b1-select_or_zero_u8.true
 
 pub returns : goal.returns
 unfolding within
 returns c =
     let pre = c.requires in
-    three-else _ pre.0 pre.1 (larger c.before.before.before) c.standing-flag.ensures c.select_or_zero_u8.ensures c.if-b1-select_or_zero_u8.false
+    three-else _ pre.0 pre.1 (larger (goal.at.returns c).After-max_u8) c.standing-flag.ensures c.select_or_zero_u8.ensures c.if-b1-select_or_zero_u8.false

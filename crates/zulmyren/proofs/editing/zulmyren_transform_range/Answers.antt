@@ -4,5 +4,4 @@ use Rattle.zulmyren.proofs.editing.zulmyren_transform_range.Goals as goal
 
 pub returns : goal.returns
 returns c =
-    let given = (c).args in
-    range-edit _ given.of-original given.start given.end _ _ c.side_of.ensures c.range_of-range.ensures c.transform_range.ensures c.edited_to_c.ensures
+    range-edit _ c.args.of_original c.args.start c.args.end _ _ c.side_of.ensures c.range_of-range.ensures c.transform_range.ensures c.edited_to_c.ensures

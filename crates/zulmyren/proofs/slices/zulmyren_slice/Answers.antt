@@ -4,8 +4,7 @@ use Rattle.zulmyren.proofs.slices.zulmyren_slice.Goals as goal
 
 pub returns : goal.returns
 returns c =
-    let args = c.args in
-    slice-call args.of-original args.start args.end
+    slice-call c.args.of_original c.args.start c.args.end
     c.side_of.ensures
     c.range_of-range.ensures
     c.slice.ensures c.slice_to_c.ensures
