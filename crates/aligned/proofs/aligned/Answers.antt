@@ -27,9 +27,7 @@ returns-then-plain c =
 
 pub uncut_all-requires : goal.uncut_all-requires
 uncut_all-requires c =
-    record { original_value = (let known = c.requires in
-    ((known.original_formed, known.starts_paired), (known.ends_paired, sym c.monotone.ensures ∙ c.if-not-monotone.false))).0; ends_len = (let known = c.requires in
-    ((known.original_formed, known.starts_paired), (known.ends_paired, sym c.monotone.ensures ∙ c.if-not-monotone.false))).1 }
+    let known = c.requires in record { original_value = (known.original_formed, known.starts_paired); ends_len = (known.ends_paired, sym c.monotone.ensures ∙ c.if-not-monotone.false) }
 
 pub returns : goal.returns
 returns c =

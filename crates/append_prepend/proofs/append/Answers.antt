@@ -8,14 +8,14 @@ use Rattle.append_prepend.proofs.append.Goals as goal
 
 pub returns-then-not-has_room : goal.returns-then-not-has_room
 returns-then-not-has_room c =
-    append-large limit (note (c)) c.args.string.now c.check_note-noted.ensures
+    append-large limit (lent c.args.original.now c.args.normalized.now c.args.starts.now c.args.ends.now c.args.original_shift) c.args.string.now c.check_note-noted.ensures
     c.check_string.ensures c.earlier.ensures c.in-Accepted.is
     c.args.out.now c.args.out_starts.now c.args.out_ends.now c.least_room.ensures
     c.least_of_two-room.ensures c.has_room.ensures (ap not c.if-not-has_room.true)
 
 pub lay_append-requires : goal.lay_append-requires
 lay_append-requires c =
-    append-room limit (note (c)) c.args.string.now c.check_note-noted.ensures
+    append-room limit (lent c.args.original.now c.args.normalized.now c.args.starts.now c.args.ends.now c.args.original_shift) c.args.string.now c.check_note-noted.ensures
     c.check_string.ensures c.earlier.ensures c.in-Accepted.is
     c.args.out.now c.args.out_starts.now c.args.out_ends.now c.least_room.ensures
     c.least_of_two-room.ensures c.has_room.ensures (ap not c.if-not-has_room.false)
@@ -29,7 +29,7 @@ returns-in-Refused c =
 
 pub returns-else-not-has_room : goal.returns-else-not-has_room
 returns-else-not-has_room c =
-    append-made limit (note (c)) c.args.string.now c.check_note-noted.ensures
+    append-made limit (lent c.args.original.now c.args.normalized.now c.args.starts.now c.args.ends.now c.args.original_shift) c.args.string.now c.check_note-noted.ensures
     c.check_string.ensures c.earlier.ensures c.in-Accepted.is
     c.args.out.now c.args.out_starts.now c.args.out_ends.now c.least_room.ensures
     c.least_of_two-room.ensures c.has_room.ensures (ap not c.if-not-has_room.false) c.lay_append.ensures

@@ -7,11 +7,11 @@ use Rattle.append_prepend.proofs.lay_append.Goals as goal
 
 pub overflow_add-result : goal.overflow_add-result
 overflow_add-result c =
-    let long : length (entry (c)).args.out.now < 2 ^ 64 = (entry (c)).well-formed.1.1.1.1.0.0 in
-    omega (arith, long, (entry (c)).requires.text_room)
+    let long : length c.args.out.now < 2 ^ 64 = c.well_formed.1.1.1.1.0.0 in
+    omega (arith, long, c.requires.text_room)
 
 pub returns : goal.returns
 returns c =
-    append-laid (entry (c)).requires c.keep.ensures c.copy_bytes.ensures
+    append-laid c.requires c.keep.ensures c.copy_bytes.ensures
     c.before_end.ensures c.fill_offsets.ensures
     c.before_end-2.ensures c.fill_offsets-2.ensures

@@ -17,9 +17,8 @@ lay_column-requires-2 c =
 
 pub overflow_add-result : goal.overflow_add-result
 overflow_add-result c =
-    let entry = entry (c) in
-    let long : length entry.args.out.now < 2 ^ 64 = entry.good.1.1.1.1.0.0 in
-    omega (arith, long, entry.pre.rooms.text_room)
+    let long : length c.args.out.now < 2 ^ 64 = c.good.1.1.1.1.0.0 in
+    omega (arith, long, c.requires.rooms.text_room)
 
 pub returns : goal.returns
 returns c =

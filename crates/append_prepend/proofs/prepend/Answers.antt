@@ -8,13 +8,13 @@ use Rattle.append_prepend.proofs.prepend.Goals as goal
 
 pub returns-then-normalized-eq0 : goal.returns-then-normalized-eq0
 returns-then-normalized-eq0 c =
-    prepend-empty limit (note (c)) c.args.string.now c.check_note-noted.ensures
+    prepend-empty limit (lent c.args.original.now c.args.normalized.now c.args.starts.now c.args.ends.now c.args.original_shift) c.args.string.now c.check_note-noted.ensures
     c.check_string.ensures c.earlier.ensures c.in-Accepted.is
     c.args.out.now c.args.out_starts.now c.args.out_ends.now c.if-normalized-eq0.true
 
 pub returns-then-not-has_room : goal.returns-then-not-has_room
 returns-then-not-has_room c =
-    prepend-large limit (note (c)) c.args.string.now c.check_note-noted.ensures
+    prepend-large limit (lent c.args.original.now c.args.normalized.now c.args.starts.now c.args.ends.now c.args.original_shift) c.args.string.now c.check_note-noted.ensures
     c.check_string.ensures c.earlier.ensures c.in-Accepted.is
     c.args.out.now c.args.out_starts.now c.args.out_ends.now c.if-normalized-eq0.false
     c.least_room.ensures c.least_of_two-room.ensures c.has_room.ensures
@@ -22,7 +22,7 @@ returns-then-not-has_room c =
 
 pub lay_prepend-requires : goal.lay_prepend-requires
 lay_prepend-requires c =
-    prepend-room limit (note (c)) c.args.string.now c.check_note-noted.ensures
+    prepend-room limit (lent c.args.original.now c.args.normalized.now c.args.starts.now c.args.ends.now c.args.original_shift) c.args.string.now c.check_note-noted.ensures
     c.check_string.ensures c.earlier.ensures c.in-Accepted.is
     c.args.out.now c.args.out_starts.now c.args.out_ends.now c.if-normalized-eq0.false
     c.least_room.ensures c.least_of_two-room.ensures c.has_room.ensures
@@ -37,7 +37,7 @@ returns-in-Refused c =
 
 pub returns-else-not-has_room : goal.returns-else-not-has_room
 returns-else-not-has_room c =
-    prepend-made limit (note (c)) c.args.string.now c.check_note-noted.ensures
+    prepend-made limit (lent c.args.original.now c.args.normalized.now c.args.starts.now c.args.ends.now c.args.original_shift) c.args.string.now c.check_note-noted.ensures
     c.check_string.ensures c.earlier.ensures c.in-Accepted.is
     c.args.out.now c.args.out_starts.now c.args.out_ends.now c.if-normalized-eq0.false
     c.least_room.ensures c.least_of_two-room.ensures c.has_room.ensures

@@ -10,6 +10,4 @@ overflow_cast-last c = omega (arith, c.type_inv.starts (length c.args.starts.now
 
 pub uncut_blocks-requires : goal.uncut_blocks-requires
 uncut_blocks-requires c =
-    record { ends_len = (let pre = c.requires.original_value in
-    (omega (arith, pre.0.1, pre.1.0), starts-inside _ _ _ _ _ pre.1.1 pre.0.0 pre.0.1 c.if-last-original.true)).0; starts_inside = (let pre = c.requires.original_value in
-    (omega (arith, pre.0.1, pre.1.0), starts-inside _ _ _ _ _ pre.1.1 pre.0.0 pre.0.1 c.if-last-original.true)).1 }
+    let pre = c.requires.original_value in record { ends_len = omega (arith, pre.0.1, pre.1.0); starts_inside = starts-inside _ _ _ _ _ pre.1.1 pre.0.0 pre.0.1 c.if-last-original.true }

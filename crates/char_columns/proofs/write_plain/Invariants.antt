@@ -4,7 +4,7 @@ use Rattle.char_columns.proofs.Pairs.{Ending}
 use Rattle.char_columns.proofs.write_plain.Given as goal
 
 abbrev pub invariant-loop-k : goal.invariant-loop-k
-invariant-loop-k l = Ending l.text l.count l.from l.to₀ l.k l.to
+invariant-loop-k l = Ending l.text l.count l.out_starts l.initial.out_ends l.k l.out_ends
 
 abbrev pub decreases-loop-k : goal.decreases-loop-k
 decreases-loop-k l = l.count - l.k

@@ -19,9 +19,7 @@ index_from-first-requires c =
 
 pub index_from-past-requires : goal.index_from-past-requires
 index_from-past-requires c =
-    record { index_known = (let short = text-short _ _ (sym c.check_text.ensures ∙ c.in_default.is) in
-    (record { short = short; inside = omega arith; so_far = c.index_from-first.ensures }, c.end_byte-last.ensures.inside)).0; to_in_bounds = (let short = text-short _ _ (sym c.check_text.ensures ∙ c.in_default.is) in
-    (record { short = short; inside = omega arith; so_far = c.index_from-first.ensures }, c.end_byte-last.ensures.inside)).1 }
+    let short = text-short _ _ (sym c.check_text.ensures ∙ c.in_default.is) in record { index_known = record { short = short; inside = omega arith; so_far = c.index_from-first.ensures }; to_in_bounds = c.end_byte-last.ensures.inside }
 
 pub overflow_add-result : goal.overflow_add-result
 overflow_add-result c =

@@ -23,7 +23,7 @@ pub all_expand-requires : goal.all_expand-requires
 all_expand-requires c = simp (length-take, length-drop) (omega (arith, c.requires.answer_room.same))
 
 pub slice_bounds-expand_block-end-then-all_expand : goal.slice_bounds-expand_block-end-then-all_expand
-slice_bounds-expand_block-end-then-all_expand c = omega (arith, (entry (c)).pre.1.same)
+slice_bounds-expand_block-end-then-all_expand c = omega (arith, c.requires.answer_room.same)
 
 pub expand_block-requires : goal.expand_block-requires
 expand_block-requires c =
@@ -34,9 +34,7 @@ expand_block-requires c =
 
 pub convert_between-requires : goal.convert_between-requires
 convert_between-requires c =
-    record { ordered_columns = (let room = zeroed-room _ c.requires.answer_room c.fill_bytes.ensures in
-    (c.requires.ordered_columns, between room c.loop-i.invariant c.loop-i-test.true c.least_of_two-past.ensures)).0; ranges_between = (let room = zeroed-room _ c.requires.answer_room c.fill_bytes.ensures in
-    (c.requires.ordered_columns, between room c.loop-i.invariant c.loop-i-test.true c.least_of_two-past.ensures)).1 }
+    let room = zeroed-room _ c.requires.answer_room c.fill_bytes.ensures in record { ordered_columns = c.requires.ordered_columns; ranges_between = between room c.loop-i.invariant c.loop-i-test.true c.least_of_two-past.ensures }
 
 pub loop-i-preserved-then-all_expand : goal.loop-i-preserved-then-all_expand
 loop-i-preserved-then-all_expand c =
@@ -49,7 +47,7 @@ loop-i-preserved-then-all_expand c =
 
 pub loop-i-preserved : goal.loop-i-preserved
 loop-i-preserved c =
-    let room = zeroed-room _ (entry (c)).pre.1 c.fill_bytes.ensures in
+    let room = zeroed-room _ c.requires.answer_room c.fill_bytes.ensures in
     more-answered room c.loop-i.invariant c.loop-i-test.true c.least_of_two-past.ensures c.convert_between.ensures
 
 pub shape_of-numbers : goal.shape_of-numbers

@@ -34,12 +34,11 @@ overflow_sub-kept c =
 
 pub overflow_add-kept : goal.overflow_add-kept
 overflow_add-kept c =
-    let entry = entry (c) in
     let range =
-    range_inside limit entry.pre.0 entry.args.from.0 entry.args.to.0 (skips entry.args.flags.now)
-    (flag_commands entry.args.text.now entry.args.flags.now) entry.args.out.now entry.args.out_starts.now
-    entry.args.out_ends.now c.is_char_range.ensures (ap not c.if-not-is_char_range.false) in
-    let long : length entry.args.text.now < 2 ^ 64 = entry.good.0.0 in
+    range_inside limit c.requires.0 c.args.from.0 c.args.to.0 (skips c.args.flags.now)
+    (flag_commands c.args.text.now c.args.flags.now) c.args.out.now c.args.out_starts.now
+    c.args.out_ends.now c.is_char_range.ensures (ap not c.if-not-is_char_range.false) in
+    let long : length c.args.text.now < 2 ^ 64 = c.good.0.0 in
     omega (arith, long, range.0, range.1)
 
 pub returns-then-room-kept : goal.returns-then-room-kept

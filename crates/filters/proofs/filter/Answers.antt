@@ -40,7 +40,7 @@ returns-in-Refused c =
 
 pub returns-in-Found : goal.returns-in-Found
 returns-in-Found c =
-    let note = note (c) in
+    let note = (lent c.args.original.now c.args.normalized.now c.args.starts.now c.args.ends.now c.args.original_shift) in
     inputs-accepted limit note (also (note_faults limit note) (flag_faults c.args.normalized.now c.args.flags.now)) refl (filter_edit note c.args.flags.now) c.args.out.now c.args.out_starts.now c.args.out_ends.now
     (well-counted limit note c.args.flags.now c.check_note.ensures c.in-Accepted.is c.count_leads.ensures c.if-flags-count_leads.false) refl
     (filter-found note c.args.flags.now c.as_normalized.ensures c.in-Found.is c.start_of.ensures c.end_of.ensures)
@@ -48,7 +48,7 @@ returns-in-Found c =
 
 pub returns-in-Refused-as_normalized : goal.returns-in-Refused-as_normalized
 returns-in-Refused-as_normalized c =
-    let note = note (c) in
+    let note = (lent c.args.original.now c.args.normalized.now c.args.starts.now c.args.ends.now c.args.original_shift) in
     inputs-accepted limit note (also (note_faults limit note) (flag_faults c.args.normalized.now c.args.flags.now)) refl (filter_edit note c.args.flags.now) c.args.out.now c.args.out_starts.now c.args.out_ends.now
     (well-counted limit note c.args.flags.now c.check_note.ensures c.in-Accepted.is c.count_leads.ensures c.if-flags-count_leads.false) refl
     (filter_none note c.args.flags.now c.as_normalized.ensures c.in-Refused-as_normalized.is)

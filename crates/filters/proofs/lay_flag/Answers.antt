@@ -28,15 +28,15 @@ fill_offsets-requires c = (kept-room c.requires c.if-flag-eq0.false).1.0
 
 pub offset_bounds-ends-p : goal.offset_bounds-ends-p
 offset_bounds-ends-p c =
-    let long : length (entry (c)).args.ends.now * 2 < 2 ^ 63 = (entry (c)).well-formed.1.1.1.0.1 in
-    let found : (entry (c)).args.position.0 < length (entry (c)).args.ends.now = (entry (c)).requires.end-found (ne_eqb _ 0 c.if-flag-eq0.false) in
+    let long : length c.args.ends.now * 2 < 2 ^ 63 = c.well_formed.1.1.1.0.1 in
+    let found : c.args.position.0 < length c.args.ends.now = c.requires.end-found (ne_eqb _ 0 c.if-flag-eq0.false) in
     omega (arith, long, found)
 
 pub bounds-ends-p : goal.bounds-ends-p
-bounds-ends-p c = (entry (c)).requires.end-found (ne_eqb _ 0 c.if-flag-eq0.false)
+bounds-ends-p c = c.requires.end-found (ne_eqb _ 0 c.if-flag-eq0.false)
 
 pub fill_offsets-requires-2 : goal.fill_offsets-requires-2
-fill_offsets-requires-2 c = (kept-room (entry (c)).requires c.if-flag-eq0.false).1.1
+fill_offsets-requires-2 c = (kept-room c.requires c.if-flag-eq0.false).1.1
 
 pub returns : goal.returns
 returns c = flag-kept c.if-flag-eq0.false c.copy_bytes.ensures c.fill_offsets.ensures c.fill_offsets-2.ensures

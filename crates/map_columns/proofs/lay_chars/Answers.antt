@@ -37,7 +37,7 @@ offset_bounds-ends-q c =
 
 pub bounds-ends-q : goal.bounds-ends-q
 bounds-ends-q c =
-    omega (arith, more (goal.at.bounds-ends-q c).After-select_or_zero_usize-size, (entry (c)).pre.ends_room.one_each)
+    omega (arith, more (goal.at.bounds-ends-q c).After-select_or_zero_usize-size, c.requires.ends_room.one_each)
 
 pub fill_char-requires-in-loop-i : goal.fill_char-requires-in-loop-i
 fill_char-requires-in-loop-i c =

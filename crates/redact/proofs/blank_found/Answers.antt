@@ -28,4 +28,4 @@ blank-requires-2 c =
     (blankable f met, bounded-padded f met c.max_byte-max.ensures c.safe_margin-share.ensures c.margin_of-margin.ensures c.block_limit-until.ensures _ (omega arith) c.copy_bytes.ensures)
 
 pub returns : goal.returns
-returns c = all_found (entry (partial (c)).before).requires (partial (c)).if1.false c.blank-2.ensures
+returns c = all_found c.requires c.if-first-text.false c.blank-2.ensures

@@ -7,16 +7,16 @@ use Rattle.redact_blocks.proofs.blank.Goals as goal
 pub blank_blocks-laid-requires : goal.blank_blocks-laid-requires
 blank_blocks-laid-requires c =
     let stage = c.blank_bytes-begun.ensures in
-    (blankable-on (entry (c)).requires.0 stage.0, bounded-on (entry (c)).requires.0 stage.0 (entry (c)).requires.1, (λ h. omega (arith, stage.1, c.least_of_two-stop.ensures)), c.front_of-front.ensures)
+    (blankable-on c.requires.0 stage.0, bounded-on c.requires.0 stage.0 c.requires.1, (λ h. omega (arith, stage.1, c.least_of_two-stop.ensures)), c.front_of-front.ensures)
 
 pub blank_bytes-all-requires : goal.blank_bytes-all-requires
 blank_bytes-all-requires c =
-    let r = (entry (begun (c))).requires.0 in
+    let r = c.requires.0 in
     (blankable-on r (blanked-on r c.blank_bytes-begun.ensures.0 c.blank_blocks-laid.ensures), omega arith)
 
 pub shape_of-out : goal.shape_of-out
 shape_of-out c =
-    c.blank_bytes-all.ensures.0.text_on.same ∙ c.blank_blocks-laid.ensures.text_on.same ∙ c.blank_bytes-begun.ensures.0.text_on.same
+    c.blank_bytes-all.ensures.0.text-on.same ∙ c.blank_blocks-laid.ensures.text-on.same ∙ c.blank_bytes-begun.ensures.0.text-on.same
 
 pub shape_of-out_starts : goal.shape_of-out_starts
 shape_of-out_starts c =
@@ -28,5 +28,5 @@ shape_of-out_ends c =
 
 pub returns : goal.returns
 returns c =
-    let r = (entry (begun (c))).requires.0 in
+    let r = c.requires.0 in
     all_laid r (blanked-on r (blanked-on r c.blank_bytes-begun.ensures.0 c.blank_blocks-laid.ensures) c.blank_bytes-all.ensures.0) c.blank_bytes-all.ensures.1

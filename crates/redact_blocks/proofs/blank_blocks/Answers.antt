@@ -26,7 +26,7 @@ pub overflow_add-at-in-loop-i : goal.overflow_add-at-in-loop-i
 overflow_add-at-in-loop-i c = let r = c.requires.0 in omega (arith, blanked-size r c.loop-i.invariant.1, r.within)
 
 pub shape_of-out-then-until-at : goal.shape_of-out-then-until-at
-shape_of-out-then-until-at c = c.loop-i.invariant.1.text_on.same
+shape_of-out-then-until-at c = c.loop-i.invariant.1.text-on.same
 
 pub shape_of-out_starts-then-until-at : goal.shape_of-out_starts-then-until-at
 shape_of-out_starts-then-until-at c = c.loop-i.invariant.1.starts_on.same
@@ -58,8 +58,7 @@ begins-requires c =
     }
 
 pub overflow_add-i-then-begins : goal.overflow_add-i-then-begins
-overflow_add-i-then-begins c =
-    omega (arith, inside (goal.at.overflow_add-i-then-begins c).After-lay_ahead-k, (entry (c)).pre.0.short)
+overflow_add-i-then-begins c = omega (arith, inside (goal.at.overflow_add-i-then-begins c).After-lay_ahead-k, c.requires.0.short)
 
 pub fill-requires : goal.fill-requires
 fill-requires c =
@@ -69,18 +68,17 @@ fill-requires c =
 
 pub overflow_add-gap-then-begins : goal.overflow_add-gap-then-begins
 overflow_add-gap-then-begins c =
-    let turn = turn (c) in
     let on =
-    turned (entry turn).pre.0 turn.loop.inv.1 (entry turn).pre.1
+    turned c.requires.0 c.loop-i.invariant.1 c.requires.1
     c.loop-i-test.true
     c.if-until-at.false c.lay_ahead-k.ensures in
-    omega (arith, match-within (entry turn).pre.0 on (sym c.begins.ensures ∙ c.if-begins.true), blanked-size (entry turn).pre.0 turn.loop.inv.1, (entry turn).pre.0.within, (entry turn).pre.0.short)
+    omega (arith, match-within c.requires.0 on (sym c.begins.ensures ∙ c.if-begins.true), blanked-size c.requires.0 c.loop-i.invariant.1, c.requires.0.within, c.requires.0.short)
 
 pub overflow_sub-gap-then-begins : goal.overflow_sub-gap-then-begins
-overflow_sub-gap-then-begins c = omega (arith, (turn (c)).loop.inv.0, (entry (turn (c))).pre.1.window, c.loop-i-test.true)
+overflow_sub-gap-then-begins c = omega (arith, c.loop-i.invariant.0, c.requires.1.window, c.loop-i-test.true)
 
 pub loop-i-smaller-then-begins : goal.loop-i-smaller-then-begins
-loop-i-smaller-then-begins c = omega (arith, (entry (turn (c))).pre.0.some, inside (c))
+loop-i-smaller-then-begins c = omega (arith, c.requires.0.some, inside (goal.at.loop-i-smaller-then-begins c).After-lay_ahead-k)
 
 pub loop-i-preserved-then-begins : goal.loop-i-preserved-then-begins
 loop-i-preserved-then-begins c =
@@ -98,10 +96,10 @@ lay_byte-requires c =
     byte-room c.requires.0 on (omega (arith, inside (goal.at.lay_byte-requires c).After-lay_ahead-k)) (sym c.begins.ensures ∙ c.if-begins.false)
 
 pub overflow_add-i-else-begins : goal.overflow_add-i-else-begins
-overflow_add-i-else-begins c = omega (arith, inside (c), (entry (turn (c))).pre.0.short)
+overflow_add-i-else-begins c = omega (arith, inside (goal.at.overflow_add-i-else-begins c).After-lay_ahead-k, c.requires.0.short)
 
 pub loop-i-smaller-else-begins : goal.loop-i-smaller-else-begins
-loop-i-smaller-else-begins c = omega (arith, inside (c))
+loop-i-smaller-else-begins c = omega (arith, inside (goal.at.loop-i-smaller-else-begins c).After-lay_ahead-k)
 
 pub loop-i-preserved-else-begins : goal.loop-i-preserved-else-begins
 loop-i-preserved-else-begins c =
@@ -126,7 +124,7 @@ pub overflow_sub-at-2 : goal.overflow_sub-at-2
 overflow_sub-at-2 c = c.loop-i.invariant.0
 
 pub shape_of-out : goal.shape_of-out
-shape_of-out c = c.loop-i.invariant.1.text_on.same
+shape_of-out c = c.loop-i.invariant.1.text-on.same
 
 pub shape_of-out_starts : goal.shape_of-out_starts
 shape_of-out_starts c = c.loop-i.invariant.1.starts_on.same

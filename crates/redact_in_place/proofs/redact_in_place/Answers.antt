@@ -21,7 +21,7 @@ pub slice_bounds-copy_bytes-end : goal.slice_bounds-copy_bytes-end
 slice_bounds-copy_bytes-end c = sym (length-take-le _ _ (call_fits c.redact_note.ensures c.in-Published.is).text_fits)
 
 pub copy_bytes-requires : goal.copy_bytes-requires
-copy_bytes-requires c = text-copied (call_fits c.redact_note.ensures c.in-Published.is) (entry (c)).requires
+copy_bytes-requires c = text-copied (call_fits c.redact_note.ensures c.in-Published.is) c.requires
 
 pub slice_bounds-out_starts-end : goal.slice_bounds-out_starts-end
 slice_bounds-out_starts-end c = (call_fits c.redact_note.ensures c.in-Published.is).starts_fit
@@ -30,28 +30,26 @@ pub slice_bounds-copy_offsets-end : goal.slice_bounds-copy_offsets-end
 slice_bounds-copy_offsets-end c = sym (length-take-le _ _ (call_fits c.redact_note.ensures c.in-Published.is).starts_fit)
 
 pub copy_offsets-requires : goal.copy_offsets-requires
-copy_offsets-requires c = starts-copied (call_fits c.redact_note.ensures c.in-Published.is) (entry (made (c))).requires
+copy_offsets-requires c = starts-copied (call_fits c.redact_note.ensures c.in-Published.is) c.requires
 
 pub slice_bounds-out_ends-end : goal.slice_bounds-out_ends-end
-slice_bounds-out_ends-end c = (call_fits (called (c)).redact-note.ensures c.in-Published.is).ends_fit
+slice_bounds-out_ends-end c = (call_fits c.redact_note.ensures c.in-Published.is).ends_fit
 
 pub slice_bounds-copy_offsets-end-in-Published : goal.slice_bounds-copy_offsets-end-in-Published
-slice_bounds-copy_offsets-end-in-Published c = sym (length-take-le _ _ (call_fits (called (c)).redact-note.ensures c.in-Published.is).ends_fit)
+slice_bounds-copy_offsets-end-in-Published c = sym (length-take-le _ _ (call_fits c.redact_note.ensures c.in-Published.is).ends_fit)
 
 pub copy_offsets-requires-in-Published : goal.copy_offsets-requires-in-Published
-copy_offsets-requires-in-Published c =
-    ends-copied (call_fits (called (c)).redact-note.ensures c.in-Published.is) (entry (made (called (c)))).requires
+copy_offsets-requires-in-Published c = ends-copied (call_fits c.redact_note.ensures c.in-Published.is) c.requires
 
 pub returns-in-Published : goal.returns-in-Published
 returns-in-Published c =
-    let made = made (c) in
     record {
       list₀ = _;
       list = _;
-      list-room = sym made.before.before.before.list-buffer.ensures;
+      list-room = sym c.list_buffer-list.ensures;
       call =
-          moved-published c.redact_note.ensures _ _ _ (sym made.before.before.text-buffer.ensures ∙ sym (entry made).pre.text_long)
-          (sym made.before.column-buffer.ensures ∙ sym (entry made).pre.starts_long) (sym made.column-buffer2.ensures ∙ sym (entry made).pre.ends_long)
+          moved-published c.redact_note.ensures _ _ _ (sym c.text_buffer-out.ensures ∙ sym c.requires.text_long)
+          (sym c.column_buffer-out_starts.ensures ∙ sym c.requires.starts_long) (sym c.column_buffer-out_ends.ensures ∙ sym c.requires.ends_long)
           c.in-Published.is c.copy_bytes.ensures c.copy_offsets.ensures c.copy_offsets-in-Published.ensures;
     }
 

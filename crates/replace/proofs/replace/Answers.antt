@@ -5,11 +5,8 @@ use Rattle.replace.proofs.replace.Goals as goal
 
 pub lay_out-requires : goal.lay_out-requires
 lay_out-requires c =
-    record { ready = (let rooms = c.least_room-room.ensures in
-    let says = c.check_replace.ensures in
-    (ready limit _ _ _ _ _ _ rooms says c.in-Published.is, measured-size limit _ _ _ _ says c.in-Published.is)).0; until_bound = (let rooms = c.least_room-room.ensures in
-    let says = c.check_replace.ensures in
-    (ready limit _ _ _ _ _ _ rooms says c.in-Published.is, measured-size limit _ _ _ _ says c.in-Published.is)).1 }
+    let rooms = c.least_room-room.ensures in
+    let says = c.check_replace.ensures in record { ready = ready limit _ _ _ _ _ _ rooms says c.in-Published.is; until_bound = measured-size limit _ _ _ _ says c.in-Published.is }
 
 pub returns-in-Published : goal.returns-in-Published
 returns-in-Published c =

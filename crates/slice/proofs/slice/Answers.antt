@@ -25,19 +25,19 @@ pub write_lowered-requires : goal.write_lowered-requires
 write_lowered-requires c = (cuttable (goal.at.write_lowered-requires c).In-Cut-2).starts_lowerable
 
 pub slice_bounds-write_lowered-count-in-Cut : goal.slice_bounds-write_lowered-count-in-Cut
-slice_bounds-write_lowered-count-in-Cut c = (cuttable (c)).forward
+slice_bounds-write_lowered-count-in-Cut c = (cuttable (goal.at.slice_bounds-write_lowered-count-in-Cut c).In-Cut-2).forward
 
 pub slice_bounds-write_lowered-start-in-Cut : goal.slice_bounds-write_lowered-start-in-Cut
-slice_bounds-write_lowered-start-in-Cut c = (cuttable (c)).forward
+slice_bounds-write_lowered-start-in-Cut c = (cuttable (goal.at.slice_bounds-write_lowered-start-in-Cut c).In-Cut-2).forward
 
 pub slice_bounds-write_lowered-end-in-Cut : goal.slice_bounds-write_lowered-end-in-Cut
-slice_bounds-write_lowered-end-in-Cut c = (cuttable (c)).in_ends
+slice_bounds-write_lowered-end-in-Cut c = (cuttable (goal.at.slice_bounds-write_lowered-end-in-Cut c).In-Cut-2).in_ends
 
 pub overflow_cast-base-in-Cut : goal.overflow_cast-base-in-Cut
-overflow_cast-base-in-Cut c = omega (arith, (cuttable (c)).low)
+overflow_cast-base-in-Cut c = omega (arith, (cuttable (goal.at.overflow_cast-base-in-Cut c).In-Cut-2).low)
 
 pub write_lowered-requires-in-Cut : goal.write_lowered-requires-in-Cut
-write_lowered-requires-in-Cut c = (cuttable (c)).ends_lowerable
+write_lowered-requires-in-Cut c = (cuttable (goal.at.write_lowered-requires-in-Cut c).In-Cut-2).ends_lowerable
 
 pub returns-in-Refused : goal.returns-in-Refused
 returns-in-Refused c = refused limit _ _ _ _ c.least_of_two-room.ensures c.check_slice.ensures c.in-Refused.is

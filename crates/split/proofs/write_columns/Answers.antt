@@ -40,7 +40,7 @@ pub lower_piece-requires : goal.lower_piece-requires
 lower_piece-requires c = piece-room c.requires c.loop-k.invariant c.loop-k-test.true c.original_start-start.ensures
 
 pub overflow_sub-at : goal.overflow_sub-at
-overflow_sub-at c = omega (arith, ((entry (c)).pre.shifts-room.spans.each _ c.loop-k-test.true).forward)
+overflow_sub-at c = omega (arith, (c.requires.shifts-room.spans.each _ c.loop-k-test.true).forward)
 
 pub overflow_add-at : goal.overflow_add-at
 overflow_add-at c =
@@ -49,7 +49,7 @@ overflow_add-at c =
     omega (arith, room, c.loop-k.invariant.starts_on.laid.same)
 
 pub overflow_add-k : goal.overflow_add-k
-overflow_add-k c = omega (arith, c.loop-k-test.true, (entry (c)).good.1.1.0.0)
+overflow_add-k c = omega (arith, c.loop-k-test.true, c.good.1.1.0.0)
 
 pub loop-k-smaller : goal.loop-k-smaller
 loop-k-smaller c = omega (arith, c.loop-k-test.true)

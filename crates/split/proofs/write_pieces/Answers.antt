@@ -32,8 +32,8 @@ byte_count-alignments-requires c =
 
 pub write_columns-requires : goal.write_columns-requires
 write_columns-requires c =
-    columns-room limit _ _ _ _ (buffers (c)) c.requires c.write_spans-count.ensures c.byte_count-alignments.ensures
+    columns-room limit _ _ _ _ (columns c.args.piece_starts.now c.args.piece_ends.now c.args.piece_shifts.now c.args.piece_lengths.now c.args.out_starts.now c.args.out_ends.now) c.requires c.write_spans-count.ensures c.byte_count-alignments.ensures
 
 pub returns : goal.returns
 returns c =
-    all-cut limit _ _ _ _ (buffers (c)) c.requires c.write_spans-count.ensures c.byte_count-alignments.ensures c.write_columns.ensures
+    all-cut limit _ _ _ _ (columns c.args.piece_starts.now c.args.piece_ends.now c.args.piece_shifts.now c.args.piece_lengths.now c.args.out_starts.now c.args.out_ends.now) c.requires c.write_spans-count.ensures c.byte_count-alignments.ensures c.write_columns.ensures

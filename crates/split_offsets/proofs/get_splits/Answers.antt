@@ -9,11 +9,8 @@ write_packed-count-requires c =
 
 pub convert_spans-requires : goal.convert_spans-requires
 convert_spans-requires c =
-    record { spans_ready = (let short = original_short limit _ _ _ c.args.side c.args.unit c.args.out_starts.now c.args.out_ends.now c.least_of_two-room.ensures c.check_splits.ensures c.in-Accepted.is in
-    let spans = spans-ready limit _ _ _ c.args.side c.args.unit c.args.out_starts.now c.args.out_ends.now c.least_of_two-room.ensures c.check_splits.ensures c.in-Accepted.is c.write_packed-count.ensures in
-    (spans, short)).0; original_len_bound = (let short = original_short limit _ _ _ c.args.side c.args.unit c.args.out_starts.now c.args.out_ends.now c.least_of_two-room.ensures c.check_splits.ensures c.in-Accepted.is in
-    let spans = spans-ready limit _ _ _ c.args.side c.args.unit c.args.out_starts.now c.args.out_ends.now c.least_of_two-room.ensures c.check_splits.ensures c.in-Accepted.is c.write_packed-count.ensures in
-    (spans, short)).1 }
+    let short = original_short limit _ _ _ c.args.side c.args.unit c.args.out_starts.now c.args.out_ends.now c.least_of_two-room.ensures c.check_splits.ensures c.in-Accepted.is in
+    let spans = spans-ready limit _ _ _ c.args.side c.args.unit c.args.out_starts.now c.args.out_ends.now c.least_of_two-room.ensures c.check_splits.ensures c.in-Accepted.is c.write_packed-count.ensures in record { spans_ready = spans; original_len_bound = short }
 
 pub returns-in-Refused : goal.returns-in-Refused
 returns-in-Refused c = refused limit _ _ _ _ _ _ _ c.least_of_two-room.ensures c.check_splits.ensures c.in-Refused.is

@@ -31,19 +31,17 @@ measure-requires c =
 
 pub overflow_sub-kept : goal.overflow_sub-kept
 overflow_sub-kept c =
-    let entry = entry (c) in
-    (range_inside limit entry.pre entry.args.from.0 entry.args.to.0 entry.args.initial-offset
-    (commands_of entry.args.script.now) entry.args.out.now entry.args.out_starts.now entry.args.out_ends.now
+    (range_inside limit c.requires c.args.from.0 c.args.to.0 c.args.initial_offset
+    (commands_of c.args.script.now) c.args.out.now c.args.out_starts.now c.args.out_ends.now
     c.is_char_range.ensures (ap not c.if-not-is_char_range.false)).1
 
 pub overflow_add-kept : goal.overflow_add-kept
 overflow_add-kept c =
-    let entry = entry (c) in
     let range =
-    range_inside limit entry.pre entry.args.from.0 entry.args.to.0 entry.args.initial-offset
-    (commands_of entry.args.script.now) entry.args.out.now entry.args.out_starts.now entry.args.out_ends.now
+    range_inside limit c.requires c.args.from.0 c.args.to.0 c.args.initial_offset
+    (commands_of c.args.script.now) c.args.out.now c.args.out_starts.now c.args.out_ends.now
     c.is_char_range.ensures (ap not c.if-not-is_char_range.false) in
-    let long : length entry.args.text.now < 2 ^ 64 = entry.good.0.0 in
+    let long : length c.args.text.now < 2 ^ 64 = c.good.0.0 in
     omega (arith, long, range.0, range.1)
 
 pub returns-then-room-kept : goal.returns-then-room-kept

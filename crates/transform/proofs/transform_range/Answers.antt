@@ -38,7 +38,7 @@ returns-in-Refused c =
 
 pub returns-in-Found : goal.returns-in-Found
 returns-in-Found c =
-    let note = note (c) in
+    let note = (lent c.args.original.now c.args.normalized.now c.args.starts.now c.args.ends.now c.args.original_shift) in
     inputs-accepted limit note (also (note_faults limit note) (script_faults c.args.script.now)) refl (script_edit note c.args.range c.args.script.now c.args.initial_offset) c.args.out.now c.args.out_starts.now c.args.out_ends.now
     (script-accepted limit note c.args.script.now c.check_note.ensures c.in-Accepted.is c.whole.ensures (ap not c.if-not-whole.false)) refl
     (edit-found c.args.initial_offset (commands_of c.args.script.now) c.as_normalized.ensures c.in-Found.is c.start_of.ensures c.end_of.ensures)
@@ -46,7 +46,7 @@ returns-in-Found c =
 
 pub returns-in-Refused-as_normalized : goal.returns-in-Refused-as_normalized
 returns-in-Refused-as_normalized c =
-    let note = note (c) in
+    let note = (lent c.args.original.now c.args.normalized.now c.args.starts.now c.args.ends.now c.args.original_shift) in
     inputs-accepted limit note (also (note_faults limit note) (script_faults c.args.script.now)) refl (script_edit note c.args.range c.args.script.now c.args.initial_offset) c.args.out.now c.args.out_starts.now c.args.out_ends.now
     (script-accepted limit note c.args.script.now c.check_note.ensures c.in-Accepted.is c.whole.ensures (ap not c.if-not-whole.false)) refl
     (edit-none c.args.initial_offset (commands_of c.args.script.now) c.as_normalized.ensures c.in-Refused-as_normalized.is)

@@ -9,13 +9,9 @@ use Rattle.column_blocks.proofs.pairs.ends_block.Goals as goal
 
 pub add_base-requires : goal.add_base-requires
 add_base-requires c =
-    record { steps_len = (let counted = c.count_ahead.ensures in
+    let counted = c.count_ahead.ensures in
     let i = c.args.i in
-    let s = c.args.text.now in
-    (omega (arith, counted.same), λ k. omega (arith, steps-most ((i - 2) % 64 + 68) refl counted (λ j h. omega (arith, pair_small (get_or (part s (i + 1) (i + 65)) j 0) (get_or (part s (i + 2) (i + 66)) j 0))) k))).0; by_index = (let counted = c.count_ahead.ensures in
-    let i = c.args.i in
-    let s = c.args.text.now in
-    (omega (arith, counted.same), λ k. omega (arith, steps-most ((i - 2) % 64 + 68) refl counted (λ j h. omega (arith, pair_small (get_or (part s (i + 1) (i + 65)) j 0) (get_or (part s (i + 2) (i + 66)) j 0))) k))).1 }
+    let s = c.args.text.now in record { steps_len = omega (arith, counted.same); by_index = λ k. omega (arith, steps-most ((i - 2) % 64 + 68) refl counted (λ j h. omega (arith, pair_small (get_or (part s (i + 1) (i + 65)) j 0) (get_or (part s (i + 2) (i + 66)) j 0))) k) }
 
 pub returns : goal.returns
 returns c =

@@ -7,11 +7,8 @@ use Rattle.column_blocks.proofs.pairs.starts_block.Goals as goal
 
 pub add_base-requires : goal.add_base-requires
 add_base-requires c =
-    record { steps_len = (let counted = c.count_back.ensures in
-    let i = c.args.i in
-    (omega (arith, counted.same), λ k. omega (arith, steps-most ((i - 2) % 64 + 65) refl counted (λ j h. omega arith) k))).0; by_index = (let counted = c.count_back.ensures in
-    let i = c.args.i in
-    (omega (arith, counted.same), λ k. omega (arith, steps-most ((i - 2) % 64 + 65) refl counted (λ j h. omega arith) k))).1 }
+    let counted = c.count_back.ensures in
+    let i = c.args.i in record { steps_len = omega (arith, counted.same); by_index = λ k. omega (arith, steps-most ((i - 2) % 64 + 65) refl counted (λ j h. omega arith) k) }
 
 pub returns : goal.returns
 returns c =

@@ -7,13 +7,7 @@ use Rattle.column_blocks.proofs.runs.starts_block.Goals as goal
 
 pub step_back-requires : goal.step_back-requires
 step_back-requires c =
-    record { counts_in_bounds = (let filled = c.count_runs.ensures in (
-      (omega (arith, filled.same), omega (arith, filled.same)),
-      λ k. omega (arith, counts-small c.args.text.now c.args.i (c.args.i - 1) (c.args.i - 2) _ _ filled k),
-    )).0; by_index = (let filled = c.count_runs.ensures in (
-      (omega (arith, filled.same), omega (arith, filled.same)),
-      λ k. omega (arith, counts-small c.args.text.now c.args.i (c.args.i - 1) (c.args.i - 2) _ _ filled k),
-    )).1 }
+    let filled = c.count_runs.ensures in record { counts_in_bounds = (omega (arith, filled.same), omega (arith, filled.same)); by_index = λ k. omega (arith, counts-small c.args.text.now c.args.i (c.args.i - 1) (c.args.i - 2) _ _ filled k) }
 
 pub returns : goal.returns
 returns c =

@@ -37,7 +37,7 @@ returns-then-has_head c =
 
 pub returns-then-room-judged : goal.returns-then-room-judged
 returns-then-room-judged c =
-    map-large limit (note (c)) c.args.codes.now c.args.out.now c.args.out_starts.now c.args.out_ends.now
+    map-large limit (lent c.args.original.now c.args.normalized.now c.args.starts.now c.args.ends.now c.args.original_shift) c.args.codes.now c.args.out.now c.args.out_starts.now c.args.out_ends.now
     c.check_note.ensures c.in-Accepted.is
     c.judge-judged.ensures (ap not c.if-not-judged.false)
     c.count_leads.ensures c.if-codes-count_leads.false c.has_head.ensures
@@ -45,7 +45,7 @@ returns-then-room-judged c =
 
 pub lay_codes-laid-requires : goal.lay_codes-laid-requires
 lay_codes-laid-requires c =
-    map-room limit (note (c)) c.args.codes.now c.args.out.now c.args.out_starts.now c.args.out_ends.now
+    map-room limit (lent c.args.original.now c.args.normalized.now c.args.starts.now c.args.ends.now c.args.original_shift) c.args.codes.now c.args.out.now c.args.out_starts.now c.args.out_ends.now
     c.check_note.ensures c.in-Accepted.is
     c.judge-judged.ensures (ap not c.if-not-judged.false)
     c.count_leads.ensures c.if-codes-count_leads.false c.has_head.ensures
@@ -59,7 +59,7 @@ returns-in-Refused c =
 
 pub returns-else-room-judged : goal.returns-else-room-judged
 returns-else-room-judged c =
-    map-made limit (note (c)) c.args.codes.now c.args.out.now c.args.out_starts.now c.args.out_ends.now
+    map-made limit (lent c.args.original.now c.args.normalized.now c.args.starts.now c.args.ends.now c.args.original_shift) c.args.codes.now c.args.out.now c.args.out_starts.now c.args.out_ends.now
     c.check_note.ensures c.in-Accepted.is
     c.judge-judged.ensures (ap not c.if-not-judged.false)
     c.count_leads.ensures c.if-codes-count_leads.false c.has_head.ensures

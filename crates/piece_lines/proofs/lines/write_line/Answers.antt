@@ -14,21 +14,21 @@ copy_bytes-requires c = bytes-room _ _ _ _ _ c.requires c.write_field-second.ens
 
 pub overflow_add-last : goal.overflow_add-last
 overflow_add-last c =
-    omega (arith, ending-room _ _ _ _ _ (entry (c)).requires c.write_field-second.ensures c.write_field-third.ensures c.copy_bytes.ensures)
+    omega (arith, ending-room _ _ _ _ _ c.requires c.write_field-second.ensures c.write_field-third.ensures c.copy_bytes.ensures)
 
 pub fill_bytes-requires : goal.fill_bytes-requires
 fill_bytes-requires c =
-    ending-room _ _ _ _ _ (entry (c)).requires c.write_field-second.ensures c.write_field-third.ensures c.copy_bytes.ensures
+    ending-room _ _ _ _ _ c.requires c.write_field-second.ensures c.write_field-third.ensures c.copy_bytes.ensures
 
 pub overflow_add-result : goal.overflow_add-result
 overflow_add-result c =
     omega (
       arith,
-      ending-room _ _ _ _ _ (entry (c)).requires
+      ending-room _ _ _ _ _ c.requires
           c.write_field-second.ensures
           c.write_field-third.ensures c.copy_bytes.ensures,
     )
 
 pub returns : goal.returns
 returns c =
-    line-laid _ _ _ _ _ (entry (c)).requires c.write_field-second.ensures c.write_field-third.ensures c.copy_bytes.ensures c.fill_bytes.ensures
+    line-laid _ _ _ _ _ c.requires c.write_field-second.ensures c.write_field-third.ensures c.copy_bytes.ensures c.fill_bytes.ensures
