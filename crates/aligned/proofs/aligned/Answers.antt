@@ -8,10 +8,12 @@ use Rattle.aligned.proofs.aligned.Goals as goal
 
 pub is_starting-requires : goal.is_starting-requires
 is_starting-requires c =
-    record { plain_value = (let known = c.requires in
-    (known.kind ∙ ap ascii (known.alike c.if-same.true), (known.normalized_short, (known.starts_paired, known.ends_paired)))).0; text_len_bound = (let known = c.requires in
-    (known.kind ∙ ap ascii (known.alike c.if-same.true), (known.normalized_short, (known.starts_paired, known.ends_paired)))).1.0; starts_len = (let known = c.requires in
-    (known.kind ∙ ap ascii (known.alike c.if-same.true), (known.normalized_short, (known.starts_paired, known.ends_paired)))).1.1 }
+    let known = c.requires in
+    record {
+      plain_value = known.kind ∙ ap ascii (known.alike c.if-same.true);
+      text_len_bound = known.normalized_short;
+      starts_len = (known.starts_paired, known.ends_paired);
+    }
 
 pub returns-then-is_starting : goal.returns-then-is_starting
 returns-then-is_starting c =
@@ -27,7 +29,11 @@ returns-then-plain c =
 
 pub uncut_all-requires : goal.uncut_all-requires
 uncut_all-requires c =
-    let known = c.requires in record { original_value = (known.original_formed, known.starts_paired); ends_len = (known.ends_paired, sym c.monotone.ensures ∙ c.if-not-monotone.false) }
+    let known = c.requires in
+    record {
+      original_value = (known.original_formed, known.starts_paired);
+      ends_len = (known.ends_paired, sym c.monotone.ensures ∙ c.if-not-monotone.false);
+    }
 
 pub returns : goal.returns
 returns c =

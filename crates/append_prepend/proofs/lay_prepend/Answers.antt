@@ -17,8 +17,7 @@ lay_column-requires-2 c =
 
 pub overflow_add-result : goal.overflow_add-result
 overflow_add-result c =
-    let long : length c.args.out.now < 2 ^ 64 = c.good.1.1.1.1.0.0 in
-    omega (arith, long, c.requires.rooms.text_room)
+    omega (arith, c.requires.rooms.text_room)
 
 pub returns : goal.returns
 returns c =

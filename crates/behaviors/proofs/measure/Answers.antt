@@ -1,10 +1,12 @@
 use Prim.Native.Nat.{◌-◌}
-use mathlib.Core.Logic.{⊎_elim}
+use Rattle.std.proofs.Common.{◌≡◌, [], drop}
+use Rattle.pattern.specs.Entries.{places_of}
 use native.Mathlib.Omega.{arith}
 use Rattle.pattern.proofs.Entries.{entry-step}
 use Rattle.behaviors.proofs.Tests.{joined_by_lem, over_by, onward-by}
 use Rattle.behaviors.proofs.Runs.{none-counting, addable, next-counted, all-counted, none-measured, done-broken, done-past}
 use Rattle.behaviors.proofs.measure.Goals as goal
+use Rattle.behaviors.proofs.measure.Goals.{else-loop-i-test, then-loop-i-test+in-Broken}
 
 pub returns-in_default : goal.returns-in_default
 returns-in_default c = none-measured _ c.entry_at.ensures c.in_default.is _ _
@@ -31,5 +33,9 @@ counted-requires c = addable c.loop-i.invariant (omega arith) (omega arith)
 
 pub returns : goal.returns
 returns c =
-    let done = ⊎_elim (λ w. done-past _ w.left) (λ w. done-broken _ w.0.taken w.1.ensures w.3.given.1) c.loop-i-test.branch in
+    let done : places_of (drop c.loop-i.i c.args.list.now) ≡ [] =
+      elim c.loop-i-test.branch [
+        else-loop-i-test w ↦ done-past _ w.loop-i-test.false
+        | then-loop-i-test+in-Broken w ↦ done-broken _ w.loop-i-test.true w.entry_at-in-loop-i.ensures w.in-Broken.is
+      ] in
     all-counted c.loop-i.invariant done c.is_kept_run-2.ensures c.counted.ensures

@@ -10,4 +10,8 @@ overflow_cast-last c = omega (arith, c.type_inv.starts (length c.args.starts.now
 
 pub uncut_blocks-requires : goal.uncut_blocks-requires
 uncut_blocks-requires c =
-    let pre = c.requires.original_value in record { ends_len = omega (arith, pre.0.1, pre.1.0); starts_inside = starts-inside _ _ _ _ _ pre.1.1 pre.0.0 pre.0.1 c.if-last-original.true }
+    record {
+      ends_len = omega (arith, c.requires.original_value.1, c.requires.ends_len.0);
+      starts_inside =
+        starts-inside _ _ _ _ _ c.requires.ends_len.1 c.requires.original_value.0 c.requires.original_value.1 c.if-last-original.true;
+    }

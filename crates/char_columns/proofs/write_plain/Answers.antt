@@ -27,7 +27,7 @@ pub bounds-out_ends-k-in-loop-k : goal.bounds-out_ends-k-in-loop-k
 bounds-out_ends-k-in-loop-k c = end-room c.requires.pairs_ready c.loop-k.invariant c.loop-k-test.true
 
 pub overflow_add-k : goal.overflow_add-k
-overflow_add-k c = omega (arith, c.loop-k-test.true, c.fits.count)
+overflow_add-k c = omega (arith, c.loop-k-test.true)
 
 pub loop-k-preserved : goal.loop-k-preserved
 loop-k-preserved c =

@@ -10,4 +10,4 @@ pub overflow_add-result : goal.overflow_add-result
 overflow_add-result c = omega (arith, c.type_inv.marks (c.args.b / 128))
 
 pub returns : goal.returns
-returns c = looked-up _ _ _ c.wrapping_sub_u8.ensures (omega arith) (omega arith)
+returns c = looked-up _ _ _ c.wrapping_sub_u8.ensures.value (omega arith) (omega arith)

@@ -1,11 +1,11 @@
 use Prim.Native.Nat.{◌-◌}
-use mathlib.Core.Logic.{⊎_elim}
 use mathlib.Core.Path.{◌∙◌, sym}
 use native.Mathlib.Omega.{arith}
 use lib.ListN.{length}
 use Rattle.convert_list.proofs.TwoReads.{expandable-most, has-byte, has_end, answer-reads, answer-converted}
 use Rattle.convert_list.proofs.Answering.{none_between, one-expanded, one-answered, between_done}
 use Rattle.convert_list.proofs.convert_between.Goals as goal
+use Rattle.convert_list.proofs.convert_between.Goals.{then-expands, else-expands}
 
 pub overflow_cast-len : goal.overflow_cast-len
 overflow_cast-len c =
@@ -58,14 +58,16 @@ loop-i-preserved c =
     let known = c.requires.ranges_between in
     let more = c.loop-i-test.true in (
       omega arith,
-      ⊎_elim
-          (λ w.
+      elim c.if-expands.branch [
+        then-expands w ↦
           one-expanded known c.loop-i.invariant.1 more
-          (answer-reads _ _ _ _ _ _ c.expandable-len.ensures (sym c.expands.ensures ∙ w.0.taken) w.1.ensures w.2.ensures) w.3 w.4 w.5)
-          (λ w.
+          (answer-reads _ _ _ _ _ _ c.expandable-len.ensures (sym c.expands.ensures ∙ w.if-expands.true) w.first_start.ensures w.last_end.ensures)
+          w.numbers-is w.out_starts-is w.out_ends-is
+        | else-expands w ↦
           one-answered known c.loop-i.invariant.1 more
-          (answer-converted _ _ _ _ _ _ w.1.ensures w.2.ensures) w.3.ensures w.4.ensures w.5.ensures w.6 w.7 w.8)
-          c.if-expands.branch,
+          (answer-converted _ _ _ _ _ _ w.range_of.ensures w.convert_checked-answer.ensures)
+          w.number_in.ensures w.start_in.ensures w.end_in.ensures w.numbers-is w.out_starts-is w.out_ends-is
+      ],
     )
 
 pub shape_of-numbers : goal.shape_of-numbers

@@ -28,8 +28,7 @@ overflow_add-at c =
     one-between-chars c.requires c.loop-i.invariant.1 c.loop-i-test.true c.lead_len-size.ensures
     c.copy_four_bytes.ensures c.copy_four_offsets.ensures
     c.copy_four_offsets-in-loop-i.ensures c.kept_len-at.ensures in
-    let long : length c.args.out.now < 2 ^ 64 = c.good.1.1.1.1.1.0.0 in
-    omega (arith, long, next.laid.text.room, next.laid.text.same)
+    omega (arith, next.laid.text.room, next.laid.text.same)
 
 pub overflow_add-q : goal.overflow_add-q
 overflow_add-q c =

@@ -20,8 +20,7 @@ overflow_sub-result c = c.requires.rooms.inside
 
 pub overflow_add-result : goal.overflow_add-result
 overflow_add-result c =
-    let long : length c.args.out.now < 2 ^ 64 = c.good.1.1.1.1.1.1.0.0 in
-    omega (arith, long, c.lay_flags-at.ensures.reached, c.requires.rooms.text_room)
+    omega (arith, c.lay_flags-at.ensures.reached, c.requires.rooms.text_room)
 
 pub returns : goal.returns
 returns c = edit-laid c.requires.rooms c.keep.ensures c.lay_flags-at.ensures c.keep-2.ensures

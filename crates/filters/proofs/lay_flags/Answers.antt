@@ -19,15 +19,13 @@ skip-p-requires c = c.loop-i.invariant.beside.standing
 
 pub overflow_add-q : goal.overflow_add-q
 overflow_add-q c =
-    let long : length c.args.text.now < 2 ^ 64 = c.good.0.0 in
     let inside : c.loop-i.q + c.char_len-size.result ≤ length c.args.text.now = c.char_len-size.ensures.inside in
-    omega (arith, long, inside)
+    omega (arith, inside)
 
 pub overflow_add-i : goal.overflow_add-i
 overflow_add-i c =
-    let long : length c.args.flags.now < 2 ^ 64 = c.good.1.1.1.1.1.0.0 in
     let less : c.loop-i.i < length c.args.flags.now = c.loop-i-test.true in
-    omega (arith, long, less)
+    omega (arith, less)
 
 pub loop-i-preserved : goal.loop-i-preserved
 loop-i-preserved c =

@@ -19,8 +19,7 @@ bounds-text-q c = more-text c.requires c.loop-i.invariant c.loop-i-test.true
 
 pub offset_bounds-starts-q : goal.offset_bounds-starts-q
 offset_bounds-starts-q c =
-    let long : length c.args.starts.now * 2 < 2 ^ 63 = c.good.1.0.1 in
-    omega (arith, long, more c, c.requires.starts_room.one_each)
+    omega (arith, more c, c.requires.starts_room.one_each)
 
 pub bounds-starts-q : goal.bounds-starts-q
 bounds-starts-q c =
@@ -32,8 +31,7 @@ fill_char-requires c =
 
 pub offset_bounds-ends-q : goal.offset_bounds-ends-q
 offset_bounds-ends-q c =
-    let long : length c.args.ends.now * 2 < 2 ^ 63 = c.good.1.1.0.1 in
-    omega (arith, long, more (goal.at.offset_bounds-ends-q c).After-select_or_zero_usize-size, c.requires.ends_room.one_each)
+    omega (arith, more (goal.at.offset_bounds-ends-q c).After-select_or_zero_usize-size, c.requires.ends_room.one_each)
 
 pub bounds-ends-q : goal.bounds-ends-q
 bounds-ends-q c =
@@ -46,8 +44,7 @@ fill_char-requires-in-loop-i c =
 pub overflow_add-at : goal.overflow_add-at
 overflow_add-at c =
     let room = char-room c.requires.starts_room c.loop-i.invariant.starts_carried c.loop-i-test.true (more (goal.at.overflow_add-at c).After-select_or_zero_usize-size) c.continues-lead.ensures c.len_utf8.ensures c.select_or_zero_usize-size.ensures in
-    let long : length c.args.out_starts.now < 2 ^ 64 = c.good.1.1.1.1.1.0.0 in
-    omega (arith, room.0, long, c.loop-i.invariant.starts_carried.parts.over.same)
+    omega (arith, room.0, c.loop-i.invariant.starts_carried.parts.over.same)
 
 pub overflow_cast-i : goal.overflow_cast-i
 overflow_cast-i c = omega (arith, bool-most (not c.continues-lead.result))

@@ -35,4 +35,4 @@ pub slice_bounds-same_offsets-end-2 : goal.slice_bounds-same_offsets-end-2
 slice_bounds-same_offsets-end-2 c = let in_both = within c.requires in omega (arith, in_both.onward, in_both.in_other)
 
 pub returns : goal.returns
-returns c = column-unmatched _ _ _ _ c.if-place.false c.same_offsets.ensures
+returns c = column-unmatched c.args.a.now c.args.b.now c.args.place c.args.content_len c.if-place.false c.same_offsets.ensures

@@ -25,4 +25,4 @@ pub slice_bounds-same_bytes-end-2 : goal.slice_bounds-same_bytes-end-2
 slice_bounds-same_bytes-end-2 c = let in_both = within c.requires in omega (arith, in_both.onward, in_both.in_other)
 
 pub returns : goal.returns
-returns c = text-unmatched _ _ _ c.if-place.false c.same_bytes.ensures
+returns c = text-unmatched c.args.a.now c.args.b.now c.args.place c.if-place.false c.same_bytes.ensures

@@ -10,9 +10,7 @@ returns-in-Refused c = refused_all _ _ _ _ _ _ _ refl (inputs-refused _ _ _ _ _ 
 
 pub count_matches-count-requires : goal.count_matches-count-requires
 count_matches-count-requires c =
-    (
-  (inputs-formed _ _ _ c.check_inputs.ensures c.in_default.is).short,
-  c.first_match-first.ensures,
+    ((inputs-formed _ _ _ c.check_inputs.ensures c.in_default.is).short, c.first_match-first.ensures)
 
 pub rooms_fit-requires : goal.rooms_fit-requires
 rooms_fit-requires c =

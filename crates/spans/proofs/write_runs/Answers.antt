@@ -1,5 +1,6 @@
 use Prim.Native.Nat.{◌-◌}
-use mathlib.Core.Logic.{⊎_elim}
+use Rattle.std.proofs.Common.{◌≡◌, [], drop}
+use Rattle.pattern.specs.Entries.{places_of}
 use mathlib.Core.Path.{◌∙◌}
 use native.Mathlib.Omega.{arith}
 use Rattle.pattern.proofs.Entries.{entry-step}
@@ -7,6 +8,7 @@ use Rattle.behaviors.proofs.Tests.{joined_by_lem, over_by, onward-by}
 use Rattle.behaviors.proofs.Runs.{none-listed, done-broken, done-past}
 use Rattle.spans.proofs.Placing.{none-placed, nothing_placed, next-room, next-placed, last-room, all_placed}
 use Rattle.spans.proofs.write_runs.Goals as goal
+use Rattle.spans.proofs.write_runs.Goals.{else-loop-i-test, then-loop-i-test+in-Broken}
 
 pub returns-in_default : goal.returns-in_default
 returns-in_default c = nothing_placed c.requires (omega arith) (none-listed _ c.entry_at.ensures c.in_default.is _ _)
@@ -32,7 +34,11 @@ loop-i-preserved c =
 
 pub write_run-requires : goal.write_run-requires
 write_run-requires c =
-    let done = ⊎_elim (λ w. done-past _ w.left) (λ w. done-broken _ w.0.taken w.1.ensures w.3.given.1) c.loop-i-test.branch in
+    let done : places_of (drop c.loop-i.i c.args.list.now) ≡ [] =
+      elim c.loop-i-test.branch [
+        else-loop-i-test w ↦ done-past _ w.loop-i-test.false
+        | then-loop-i-test+in-Broken w ↦ done-broken _ w.loop-i-test.true w.entry_at-in-loop-i.ensures w.in-Broken.is
+      ] in
     last-room c.loop-i.invariant done c.is_kept_run-2.ensures
 
 pub shape_of-spans : goal.shape_of-spans
@@ -40,5 +46,9 @@ shape_of-spans c = c.spans-2-1.given ∙ c.loop-i.invariant.laid.same
 
 pub returns : goal.returns
 returns c =
-    let done = ⊎_elim (λ w. done-past _ w.left) (λ w. done-broken _ w.0.taken w.1.ensures w.3.given.1) c.loop-i-test.branch in
+    let done : places_of (drop c.loop-i.i c.args.list.now) ≡ [] =
+      elim c.loop-i-test.branch [
+        else-loop-i-test w ↦ done-past _ w.loop-i-test.false
+        | then-loop-i-test+in-Broken w ↦ done-broken _ w.loop-i-test.true w.entry_at-in-loop-i.ensures w.in-Broken.is
+      ] in
     all_placed c.loop-i.invariant done c.is_kept_run-2.ensures c.requires (omega arith) c.write_run.ensures

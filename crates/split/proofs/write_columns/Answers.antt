@@ -45,11 +45,10 @@ overflow_sub-at c = omega (arith, (c.requires.shifts-room.spans.each _ c.loop-k-
 pub overflow_add-at : goal.overflow_add-at
 overflow_add-at c =
     let room = (piece-room c.requires c.loop-k.invariant c.loop-k-test.true c.original_start-start.ensures).starts_room.source.room in
-    let long : length c.args.out_starts.now < 2 ^ 64 = c.good.1.1.1.1.1.1.1.1.0.0 in
     omega (arith, room, c.loop-k.invariant.starts_on.laid.same)
 
 pub overflow_add-k : goal.overflow_add-k
-overflow_add-k c = omega (arith, c.loop-k-test.true, c.good.1.1.0.0)
+overflow_add-k c = omega (arith, c.loop-k-test.true)
 
 pub loop-k-smaller : goal.loop-k-smaller
 loop-k-smaller c = omega (arith, c.loop-k-test.true)

@@ -14,14 +14,14 @@ piece_bytes-bytes-requires c = piece-here c.requires c.loop-k.invariant c.loop-k
 
 pub offset_bounds-out_starts-k-in-loop-k : goal.offset_bounds-out_starts-k-in-loop-k
 offset_bounds-out_starts-k-in-loop-k c =
-    omega (arith, c.good.1.1.1.1.1.0, c.loop-k.invariant.starts_laid.same, (in-columns c.requires c.loop-k.invariant c.loop-k-test.true).0)
+    omega (arith, c.loop-k.invariant.starts_laid.same, (in-columns c.requires c.loop-k.invariant c.loop-k-test.true).0)
 
 pub bounds-out_starts-k-in-loop-k : goal.bounds-out_starts-k-in-loop-k
 bounds-out_starts-k-in-loop-k c = (in-columns c.requires c.loop-k.invariant c.loop-k-test.true).0
 
 pub offset_bounds-out_ends-k : goal.offset_bounds-out_ends-k
 offset_bounds-out_ends-k c =
-    omega (arith, c.good.1.1.1.1.1.1.0, c.loop-k.invariant.ends_laid.same, (in-columns c.requires c.loop-k.invariant c.loop-k-test.true).1)
+    omega (arith, c.loop-k.invariant.ends_laid.same, (in-columns c.requires c.loop-k.invariant c.loop-k-test.true).1)
 
 pub bounds-out_ends-k : goal.bounds-out_ends-k
 bounds-out_ends-k c = (in-columns c.requires c.loop-k.invariant c.loop-k-test.true).1

@@ -41,8 +41,7 @@ overflow_add-kept c =
     range_inside limit c.requires c.args.from.0 c.args.to.0 c.args.initial_offset
     (commands_of c.args.script.now) c.args.out.now c.args.out_starts.now c.args.out_ends.now
     c.is_char_range.ensures (ap not c.if-not-is_char_range.false) in
-    let long : length c.args.text.now < 2 ^ 64 = c.good.0.0 in
-    omega (arith, long, range.0, range.1)
+    omega (arith, range.0, range.1)
 
 pub returns-then-room-kept : goal.returns-then-room-kept
 returns-then-room-kept c =

@@ -15,7 +15,7 @@ loop-i-init c = (omega arith, (omega arith, char-aligned-first _ _ _ _ refl))
 pub loop-i-preserved : goal.loop-i-preserved
 loop-i-preserved c =
     let inv = c.loop-i.invariant in
-    (omega arith, (omega (arith, c.loop-i-test.true), char-aligned-more _ _ _ _ _ _ inv.0 inv.1.1 c.Carries-own.ensures))
+    (omega arith, (omega (arith, c.loop-i-test.true), char-aligned-more _ _ _ _ _ _ inv.0 inv.1.1 c.carries_own-ok.ensures))
 
 pub returns : goal.returns
 returns c =

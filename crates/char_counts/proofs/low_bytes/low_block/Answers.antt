@@ -40,7 +40,7 @@ loop-j-preserved c =
     let pre = c.requires in
     let j = c.loop-j.j in
     let fours = c.write_fours.ensures in
-    let low = far-low _ j c.loop-j.invariant.1 fours c.write_sixteens.ensures (omega arith) c.wrapping_add_u8.ensures in
+    let low = far-low _ j c.loop-j.invariant.1 fours c.write_sixteens.ensures (omega arith) c.wrapping_add_u8.ensures.value in
     (omega arith, lows-less (one-low c.loop-j.invariant.1 (omega (arith, pre.inside, pre.room)) low) _ (omega arith))
 
 pub shape_of-lows : goal.shape_of-lows

@@ -17,7 +17,7 @@ bounds-lows-i-in-loop-i c = omega (arith, c.loop-i.invariant.1.same, c.requires.
 pub loop-i-preserved : goal.loop-i-preserved
 loop-i-preserved c =
     let pre = c.requires in
-    (omega arith, one-low c.loop-i.invariant.1 (omega (arith, pre.room, pre.inside)) (next_low c.loop-i.invariant.1 c.loop-i.invariant.0 (omega (arith, pre.inside)) c.continues.ensures c.wrapping_add_u8.ensures))
+    (omega arith, one-low c.loop-i.invariant.1 (omega (arith, pre.room, pre.inside)) (next_low c.loop-i.invariant.1 c.loop-i.invariant.0 (omega (arith, pre.inside)) c.continues.ensures c.wrapping_add_u8.ensures.value))
 
 pub shape_of-lows : goal.shape_of-lows
 shape_of-lows c = c.loop-i.invariant.1.same

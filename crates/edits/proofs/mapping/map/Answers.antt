@@ -15,13 +15,13 @@ pub returns-then-not-judged : goal.returns-then-not-judged
 returns-then-not-judged c =
     let note = (lent c.args.original.now c.args.normalized.now c.args.starts.now c.args.ends.now c.args.original_shift) in
     inputs-refused limit note (also (note_faults limit note) (codes_faults c.args.normalized.now c.args.codes.now)) refl (map_edit note c.args.codes.now) c.args.out.now c.args.out_starts.now c.args.out_ends.now
-    (bad-codes limit note c.args.codes.now c.check_note.ensures c.in-Accepted.is c.judge-judged.ensures.scalar_is (ap not c.if-not-judged.true)) refl
+    (bad-codes limit note c.args.codes.now c.check_note.ensures c.in-Accepted.is c.judge-judged.ensures.scalar_is c.if-not-judged.true) refl
 
 pub returns-then-codes-count_leads : goal.returns-then-codes-count_leads
 returns-then-codes-count_leads c =
     let note = (lent c.args.original.now c.args.normalized.now c.args.starts.now c.args.ends.now c.args.original_shift) in
     inputs-refused limit note (also (note_faults limit note) (codes_faults c.args.normalized.now c.args.codes.now)) refl (map_edit note c.args.codes.now) c.args.out.now c.args.out_starts.now c.args.out_ends.now
-    (count-refused limit note c.args.codes.now c.check_note.ensures c.in-Accepted.is c.judge-judged.ensures.scalar_is (ap not c.if-not-judged.false) c.count_leads.ensures c.if-codes-count_leads.true) refl
+    (count-refused limit note c.args.codes.now c.check_note.ensures c.in-Accepted.is c.judge-judged.ensures.scalar_is c.if-not-judged.false c.count_leads.ensures c.if-codes-count_leads.true) refl
 
 pub has_head-requires : goal.has_head-requires
 has_head-requires c =
@@ -32,14 +32,14 @@ pub returns-then-has_head : goal.returns-then-has_head
 returns-then-has_head c =
     head-refused limit (lent c.args.original.now c.args.normalized.now c.args.starts.now c.args.ends.now c.args.original_shift) c.args.codes.now c.args.out.now c.args.out_starts.now c.args.out_ends.now
     c.check_note.ensures c.in-Accepted.is
-    c.judge-judged.ensures (ap not c.if-not-judged.false)
+    c.judge-judged.ensures c.if-not-judged.false
     c.count_leads.ensures c.if-codes-count_leads.false c.has_head.ensures c.if-has_head.true
 
 pub returns-then-room-judged : goal.returns-then-room-judged
 returns-then-room-judged c =
     map-large limit (lent c.args.original.now c.args.normalized.now c.args.starts.now c.args.ends.now c.args.original_shift) c.args.codes.now c.args.out.now c.args.out_starts.now c.args.out_ends.now
     c.check_note.ensures c.in-Accepted.is
-    c.judge-judged.ensures (ap not c.if-not-judged.false)
+    c.judge-judged.ensures c.if-not-judged.false
     c.count_leads.ensures c.if-codes-count_leads.false c.has_head.ensures
     c.if-has_head.false c.least_room.ensures c.least_of_two-room.ensures c.if-room-judged.true
 
@@ -47,7 +47,7 @@ pub lay_codes-laid-requires : goal.lay_codes-laid-requires
 lay_codes-laid-requires c =
     map-room limit (lent c.args.original.now c.args.normalized.now c.args.starts.now c.args.ends.now c.args.original_shift) c.args.codes.now c.args.out.now c.args.out_starts.now c.args.out_ends.now
     c.check_note.ensures c.in-Accepted.is
-    c.judge-judged.ensures (ap not c.if-not-judged.false)
+    c.judge-judged.ensures c.if-not-judged.false
     c.count_leads.ensures c.if-codes-count_leads.false c.has_head.ensures
     c.if-has_head.false c.least_room.ensures c.least_of_two-room.ensures c.if-room-judged.false
 
@@ -61,7 +61,7 @@ pub returns-else-room-judged : goal.returns-else-room-judged
 returns-else-room-judged c =
     map-made limit (lent c.args.original.now c.args.normalized.now c.args.starts.now c.args.ends.now c.args.original_shift) c.args.codes.now c.args.out.now c.args.out_starts.now c.args.out_ends.now
     c.check_note.ensures c.in-Accepted.is
-    c.judge-judged.ensures (ap not c.if-not-judged.false)
+    c.judge-judged.ensures c.if-not-judged.false
     c.count_leads.ensures c.if-codes-count_leads.false c.has_head.ensures
     c.if-has_head.false c.least_room.ensures c.least_of_two-room.ensures c.if-room-judged.false
     c.lay_codes-laid.ensures

@@ -5,10 +5,8 @@ use Rattle.redact_blocks.proofs.stretches.lay_block.Goals as goal
 
 pub returns-then-max_byte-lt128 : goal.returns-then-max_byte-lt128
 returns-then-max_byte-lt128 c =
-    let copied : tie.After-copy-bytes-block = c.before.before.before.before.before.before.before.before.before.before.before in
-    let e = entry copied in
-    plain-laid e.args.text.now (omega (arith, e.pre.1, c.if-max_byte-lt128.true)) e.pre.0.0
-    copied.copy-bytes-block.ensures c.count_up.ensures c.count_up-then-max_byte-lt128.ensures
+    plain-laid c.args.text.now (omega (arith, c.requires.text_bound, c.if-max_byte-lt128.true)) c.requires.stretch_room.0
+    c.copy_bytes_block.ensures c.count_up.ensures c.count_up-then-max_byte-lt128.ensures
 
 pub starts_block-requires : goal.starts_block-requires
 starts_block-requires c =

@@ -13,8 +13,7 @@ lay_content-requires c = content-room c.requires c.keep.ensures
 
 pub overflow_add-at : goal.overflow_add-at
 overflow_add-at c =
-    let long : length c.args.out.now < 2 ^ 64 = c.good.1.1.1.1.1.0.0 in
-    omega (arith, long, c.requires.text_room)
+    omega (arith, c.requires.text_room)
 
 pub keep-requires-2 : goal.keep-requires-2
 keep-requires-2 c = back-keeps c.requires c.keep.ensures c.lay_content.ensures
@@ -24,8 +23,7 @@ overflow_sub-result c = (edit-room c.requires).inside
 
 pub overflow_add-result : goal.overflow_add-result
 overflow_add-result c =
-    let long : length c.args.out.now < 2 ^ 64 = c.good.1.1.1.1.1.0.0 in
-    omega (arith, long, c.requires.text_room)
+    omega (arith, c.requires.text_room)
 
 pub returns : goal.returns
 returns c = place-laid c.requires c.keep.ensures c.lay_content.ensures c.keep-2.ensures

@@ -11,7 +11,7 @@ pub loop-i-preserved : goal.loop-i-preserved
 unfolding from_lead
 loop-i-preserved c =
     let inv = c.loop-i.invariant in
-    (largest-more inv.0 c.loop-i-test.true c.max_u8-most.ensures, least_more inv.1 c.loop-i-test.true c.wrapping_add_u8.ensures c.min_u8-least.ensures)
+    (largest-more inv.0 c.loop-i-test.true c.max_u8-most.ensures, least_more inv.1 c.loop-i-test.true c.wrapping_add_u8.ensures.value c.min_u8-least.ensures)
 
 pub returns : goal.returns
 returns c =

@@ -16,4 +16,4 @@ returns-in-4 c = behavior-four c.in-4.is
 
 pub returns-in_default : goal.returns-in_default
 returns-in_default c =
-    behavior-other c.in_default.rest.0.0.0.1 c.in_default.rest.0.0.1 c.in_default.rest.0.1 c.in_default.rest.1
+    behavior-other c.in_default.in_default-own.rest.0.0.0.1 c.in_default.in_default-own.rest.0.0.1 c.in_default.in_default-own.rest.0.1 c.in_default.in_default-own.rest.1
