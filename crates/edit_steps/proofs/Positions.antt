@@ -53,7 +53,8 @@ standing-skipped {s} {b} {p} (suc k) at =
     le-or-lt b p
     (λ past. rw (skipped-past s b (suc k) p past) (at, omega arith))
     (λ more.
-    let rest : Standing s b (skipped s b k (p + announced (get_or s p 0))) × (p + announced (get_or s p 0) ≤ skipped s b k (p + announced (get_or s p 0))) = standing-skipped k (standing-next at more) in
+    let rest : Standing s b (skipped s b k (p + announced (get_or s p 0))) × (p + announced (get_or s p 0) ≤ skipped s b k (p + announced (get_or s p 0))) =
+    standing-skipped {p = p + announced (get_or s p 0)} k (standing-next at more) in
     rw (skipped-on s b k p more) (rest.0, omega (arith, rest.1)))
 
 -- a command's step

@@ -1,13 +1,11 @@
-use Prim.Native.Nat.{◌-◌, ◌^◌, ◌<◌}
-use lib.ListN.{length}
 use native.Mathlib.Omega.{arith}
 use Rattle.script.proofs.Scripts.{Stepped, entry-step, entry-broken, entries-end}
 use Rattle.edit_steps.proofs.Given.{none_going, command-room, counting, going-over, below_all, gone}
 use Rattle.edit_steps.proofs.laying.lay_script.Goals as goal
-use Rattle.edit_steps.proofs.laying.lay_script.Goals.{In-At-2}
+use Rattle.edit_steps.proofs.laying.lay_script.Goals.{In-At}
 
 -- the command that a turn reads, and where it goes on
-step : (c : In-At-2) → Stepped c.args.script.now c.loop-i.i c.in-At.command c.in-At.next
+step : (c : In-At) → Stepped c.args.script.now c.loop-i.i c.in-At.command c.in-At.next
 step c = entry-step _ c.entry_at.ensures c.in-At.is
 
 pub loop-i-init : goal.loop-i-init
@@ -15,19 +13,18 @@ loop-i-init c = (omega arith, none_going c.requires.0)
 
 pub lay_command-requires : goal.lay_command-requires
 lay_command-requires c =
-    (command-room c.requires.0 c.loop-i.invariant.1 (step (goal.at.lay_command-requires c).In-At-2).commands, below_all c.requires.0 c.loop-i.invariant.1 c.requires.1)
+    (command-room c.requires.0 c.loop-i.invariant.1 (step (goal.at.lay_command-requires c).In-At).commands, below_all c.requires.0 c.loop-i.invariant.1 c.requires.1)
 
 pub advanced-progress-requires : goal.advanced-progress-requires
 advanced-progress-requires c =
-    let long : length c.args.out.now < 2 ^ 64 = c.good.1.1.1.1.1.1.0.0 in
-    counting c.requires.0 c.loop-i.invariant.1 (step (goal.at.advanced-progress-requires c).In-At-2).commands long
+    counting c.requires.0 c.loop-i.invariant.1 (step (goal.at.advanced-progress-requires c).In-At).commands (omega arith)
 
 pub loop-i-smaller : goal.loop-i-smaller
-loop-i-smaller c = omega (arith, step (goal.at.loop-i-smaller c).In-At-2)
+loop-i-smaller c = omega (arith, step (goal.at.loop-i-smaller c).In-At)
 
 pub loop-i-preserved : goal.loop-i-preserved
 loop-i-preserved c =
-    ((step (goal.at.loop-i-preserved c).In-At-2).most, going-over c.requires.0 c.loop-i.invariant.1 (step (goal.at.loop-i-preserved c).In-At-2).commands c.lay_command.ensures c.requires.1 c.advanced-progress.ensures)
+    ((step (goal.at.loop-i-preserved c).In-At).most, going-over c.requires.0 c.loop-i.invariant.1 (step (goal.at.loop-i-preserved c).In-At).commands c.lay_command.ensures c.requires.1 c.advanced-progress.ensures)
 
 pub shape_of-out-in-Broken : goal.shape_of-out-in-Broken
 shape_of-out-in-Broken c = c.loop-i.invariant.1.text_laid.same

@@ -1,5 +1,3 @@
-use Prim.Native.Nat.{◌-◌, ◌^◌, ◌<◌}
-use lib.ListN.{length}
 use native.Mathlib.Omega.{arith}
 use Rattle.script.proofs.Scripts.{entry-step}
 use Rattle.edit_steps.proofs.Measured.{none-measured, starves-there, counting, one-measured, broken-measured, all-measured}
@@ -10,8 +8,7 @@ loop-i-init c = none-measured c.requires
 
 pub advanced-progress-requires : goal.advanced-progress-requires
 advanced-progress-requires c =
-    let long : length c.args.script.now < 2 ^ 64 = c.well_formed.1.1.1.0.0 in
-    counting c.loop-i.invariant c.entry_at.ensures c.in-At.is long
+    counting c.loop-i.invariant c.entry_at.ensures c.in-At.is (omega arith)
 
 pub returns-then-progress : goal.returns-then-progress
 returns-then-progress c =

@@ -1,8 +1,7 @@
-use Prim.Native.Nat.{◌-◌}
-use mathlib.Core.Logic.{⊎_elim}
 use native.Mathlib.Omega.{arith}
 use Rattle.edit_steps.proofs.Positions.{char-begins, none-skipped, one-skipped, range-ends, all-skipped}
 use Rattle.edit_steps.proofs.walking.skip.Goals as goal
+use Rattle.edit_steps.proofs.walking.skip.Goals.{else-loop-k-test, then-loop-k-test+then-end-p}
 
 pub loop-k-init : goal.loop-k-init
 loop-k-init c = none-skipped c.requires
@@ -21,4 +20,8 @@ overflow_cast-result c = omega (arith, c.loop-k.invariant.standing.most)
 
 pub returns : goal.returns
 returns c =
-    let inv = c.loop-k.invariant in ⊎_elim (λ w. all-skipped inv w.left) (λ w. range-ends inv w.1.taken) c.loop-k-test.branch
+    let inv = c.loop-k.invariant in
+    elim c.loop-k-test.branch [
+      | else-loop-k-test w ↦ all-skipped inv w.loop-k-test.false
+      | then-loop-k-test+then-end-p w ↦ range-ends inv w.if-end-p.true
+    ]
