@@ -103,7 +103,7 @@ module _ (n : Note) (sound : Sound n) where
       let q : ℕ = moved n.normalized b p c in
       let low = before-le n sound p q on.1 (omega (arith, on.0.most)) in
       let high = before-le n sound q b on.0.most inside in
-      joined n p q b _ _ _ _ _ _ (piece-stretch c at both.0) (stretches cs on.0 both.1) low.0 low.1 high.0 high.1
+      joined n p q b _ _ _ _ _ _ (piece-stretch c at both.0) (stretches {p = q} cs on.0 both.1) low.0 low.1 high.0 high.1
 
   -- what is before the range, what the commands give, what is after
   whole-stretch : (e : Edit) → char_range n.normalized e.from e.to ≡ true → starved n.normalized e.to (first_position n.normalized e) e.commands ≡ false

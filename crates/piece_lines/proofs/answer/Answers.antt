@@ -1,7 +1,7 @@
 -- Another shape, a line that is too long, or three lines to cut by.
 use mathlib.Core.Path.{◌≡◌, refl}
 use mathlib.Core.Bool.{false}
-use mathlib.Core.List.{◌∷◌}
+use mathlib.Core.List.{[], ◌∷◌}
 use mathlib.Core.Logic.{⊎_elim}
 use native.Mathlib.Omega.{arith}
 use types.Run.{OneOf}
@@ -23,7 +23,7 @@ not-whole (Whole n d m) h =
     ⊎_elim (λ e. absurd (omega arith)) (⊎_elim (λ e. absurd (omega arith)) (⊎_elim (λ e. absurd (omega arith)) (⊎_elim (λ e. absurd (omega arith)) (λ e. absurd (omega arith))))) h
 
 pub returns-in_default : goal.returns-in_default
-returns-in_default c input k = laid_as (shapeless-printed k (not-whole c.args.seen c.in_default.keys2)) c.write_refusal.ensures
+returns-in_default c input k = laid_as (shapeless-printed k (not-whole c.args.seen c.in_default.in_default-own.keys2)) c.write_refusal.ensures
 
 pub returns-then-literal-gt-LONGEST : goal.returns-then-literal-gt-LONGEST
 returns-then-literal-gt-LONGEST c input k = laid_as (literal-long k c.in-Whole.is (omega arith)) c.write_refusal-then-literal-gt-LONGEST.ensures

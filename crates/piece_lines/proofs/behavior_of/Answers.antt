@@ -15,4 +15,5 @@ pub returns-in-52 : goal.returns-in-52
 returns-in-52 c = chosen-fourth c.in-52.is
 
 pub returns-in_default : goal.returns-in_default
-returns-in_default c = let none = c.in_default.rest in chosen_last none.0.0.0.1 none.0.0.1 none.0.1 none.1
+returns-in_default c =
+    let none = c.in_default.in_default-own.rest in chosen_last none.0.0.0.1 none.0.0.1 none.0.1 none.1
