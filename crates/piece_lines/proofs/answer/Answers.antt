@@ -1,29 +1,24 @@
 -- Another shape, a line that is too long, or three lines to cut by.
+use Rattle.std.proofs.Common.{ℕ}
 use mathlib.Core.Path.{◌≡◌, refl}
 use mathlib.Core.Bool.{false}
-use mathlib.Core.List.{[], ◌∷◌}
-use mathlib.Core.Logic.{⊎_elim}
 use native.Mathlib.Omega.{arith}
-use types.Run.{OneOf}
-use denote.Enum.Declared
 use Rattle.piece_lines.specs.declared.input.Seen.{Seen}
 use Rattle.piece_lines.specs.declared.input.Seen.TheVariants.{Literal, Behavior, Chosen, Note, Whole, Shapeless}
-use Rattle.piece_lines.specs.contracts.input.Seen as seens
 use Rattle.piece_lines.proofs.Scanning.{is_whole}
 use Rattle.piece_lines.proofs.Answering.{laid_as, shapeless-printed, literal-long, note-long, head-enough, literal-sized, lines-short, cut-printed}
 use Rattle.piece_lines.proofs.answer.Goals as goal
 
-not-whole : (s : Seen) → OneOf (0 ∷ 1 ∷ 2 ∷ 3 ∷ 5 ∷ []) (Declared.tag_of seens.the_type s) → is_whole s ≡ false
+not-whole : (s : Seen) → ((n d m : ℕ) → s ≡ Whole n d m → ⊥) → is_whole s ≡ false
 not-whole (Literal n) h = refl
 not-whole (Behavior n) h = refl
 not-whole (Chosen n d) h = refl
 not-whole (Note n d m) h = refl
 not-whole Shapeless h = refl
-not-whole (Whole n d m) h =
-    ⊎_elim (λ e. absurd (omega arith)) (⊎_elim (λ e. absurd (omega arith)) (⊎_elim (λ e. absurd (omega arith)) (⊎_elim (λ e. absurd (omega arith)) (λ e. absurd (omega arith))))) h
+not-whole (Whole n d m) h = absurd (h n d m refl)
 
 pub returns-in_default : goal.returns-in_default
-returns-in_default c input k = laid_as (shapeless-printed k (not-whole c.args.seen c.in_default.in_default-own.keys2)) c.write_refusal.ensures
+returns-in_default c input k = laid_as (shapeless-printed k (not-whole c.args.seen c.in_default.not-Whole)) c.write_refusal.ensures
 
 pub returns-then-literal-gt-LONGEST : goal.returns-then-literal-gt-LONGEST
 returns-then-literal-gt-LONGEST c input k = laid_as (literal-long k c.in-Whole.is (omega arith)) c.write_refusal-then-literal-gt-LONGEST.ensures
