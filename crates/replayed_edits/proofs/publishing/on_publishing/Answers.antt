@@ -5,6 +5,6 @@ use Rattle.replayed_edits.proofs.publishing.on_publishing.Goals as goal
 
 pub returns : goal.returns
 returns c =
-    buffers-lent (bytes-filled _ c.bytes-o.ensures.1 c.large_buffer-out.ensures)
-    (offsets-filled _ c.offsets-s.ensures.1 c.zeros-out_starts.ensures)
-    (offsets-filled _ c.offsets-e.ensures.1 c.zeros-out_ends.ensures) c.published.ensures
+    buffers-lent (bytes-filled _ c.bytes-o.ensures.laid c.large_buffer-out.ensures)
+    (offsets-filled _ c.offsets-s.ensures.laid c.zeros-out_starts.ensures)
+    (offsets-filled _ c.offsets-e.ensures.laid c.zeros-out_ends.ensures) c.published.ensures

@@ -13,4 +13,4 @@ returns-in-23 c =
 
 pub returns-in_default : goal.returns-in_default
 returns-in_default c =
-    prepends c.in_default.rest.0.1 c.in_default.rest.1 (whole-lent _ _ _ c.field-original.ensures c.field-normalized.ensures c.value-shift.ensures PrependTold c.field-given.ensures c.zulmyren_prepend.ensures)
+    prepends c.in_default.in_default-own.rest.0.1 c.in_default.in_default-own.rest.1 (whole-lent _ _ _ c.field-original.ensures c.field-normalized.ensures c.value-shift.ensures PrependTold c.field-given.ensures c.zulmyren_prepend.ensures)

@@ -6,4 +6,4 @@ use Rattle.replayed_edits.proofs.whole.map.Goals as goal
 
 pub returns : goal.returns
 returns c =
-    whole-lent _ _ _ c.field.ensures c.field-2.ensures c.value.ensures MapTold (numbers-filled _ c.numbers-n.ensures.1) c.zulmyren_map.ensures
+    whole-lent _ _ _ c.field.ensures c.field-2.ensures c.value.ensures MapTold (numbers-filled _ c.numbers-n.ensures.laid) c.zulmyren_map.ensures

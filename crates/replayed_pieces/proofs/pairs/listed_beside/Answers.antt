@@ -6,4 +6,4 @@ use Rattle.replayed_pieces.proofs.pairs.listed_beside.Goals as goal
 
 pub returns : goal.returns
 returns c =
-    answers-lent (take-laid c.bytes-r.ensures.1) (numbers-filled _ c.numbers-s.ensures.1) (numbers-filled _ c.numbers-e.ensures.1) c.listed.ensures
+    answers-lent (take-laid c.bytes-r.ensures.laid) (numbers-filled _ c.numbers-s.ensures.laid) (numbers-filled _ c.numbers-e.ensures.laid) c.listed.ensures

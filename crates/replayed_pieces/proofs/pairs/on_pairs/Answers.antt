@@ -5,4 +5,4 @@ use Rattle.replayed_pieces.proofs.pairs.on_pairs.Goals as goal
 
 pub returns : goal.returns
 returns c =
-    pairs-lent (numbers-filled _ c.numbers-f.ensures.1) (numbers-filled _ c.numbers-t.ensures.1) c.listed_beside.ensures
+    pairs-lent (numbers-filled _ c.numbers-f.ensures.laid) (numbers-filled _ c.numbers-t.ensures.laid) c.listed_beside.ensures

@@ -5,6 +5,6 @@ use Rattle.replayed_pieces.proofs.pieces.cut_beside.Goals as goal
 
 pub returns : goal.returns
 returns c =
-    alignments-lent (offsets-filled _ c.offsets-s.ensures.1 c.zeros-out_starts.ensures)
-    (offsets-filled _ c.offsets-e.ensures.1 c.zeros-out_ends.ensures)
+    alignments-lent (offsets-filled _ c.offsets-s.ensures.laid c.zeros-out_starts.ensures)
+    (offsets-filled _ c.offsets-e.ensures.laid c.zeros-out_ends.ensures)
     c.cut.ensures

@@ -5,4 +5,4 @@ use Rattle.replayed_pieces.proofs.pieces.cut_spans.Goals as goal
 
 pub returns : goal.returns
 returns c =
-    sizes-lent (numbers-filled _ c.numbers-s.ensures.1) (offsets-filled _ c.offsets-l.ensures.1 c.zeros-lengths.ensures) c.cut_beside.ensures
+    sizes-lent (numbers-filled _ c.numbers-s.ensures.laid) (offsets-filled _ c.offsets-l.ensures.laid c.zeros-lengths.ensures) c.cut_beside.ensures

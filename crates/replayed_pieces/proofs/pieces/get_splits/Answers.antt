@@ -5,4 +5,4 @@ use Rattle.replayed_pieces.proofs.pieces.get_splits.Goals as goal
 
 pub returns : goal.returns
 returns c =
-    splits-lent (numbers-filled _ c.numbers-s.ensures.1) (numbers-filled _ c.numbers-e.ensures.1) c.listed.ensures
+    splits-lent (numbers-filled _ c.numbers-s.ensures.laid) (numbers-filled _ c.numbers-e.ensures.laid) c.listed.ensures

@@ -5,4 +5,4 @@ use Rattle.replayed_pieces.proofs.pieces.split.Goals as goal
 
 pub returns : goal.returns
 returns c =
-    spans-lent (offsets-filled _ c.offsets-s.ensures.1 c.zeros-piece_starts.ensures) (offsets-filled _ c.offsets-e.ensures.1 c.zeros-piece_ends.ensures) c.cut_spans.ensures
+    spans-lent (offsets-filled _ c.offsets-s.ensures.laid c.zeros-piece_starts.ensures) (offsets-filled _ c.offsets-e.ensures.laid c.zeros-piece_ends.ensures) c.cut_spans.ensures

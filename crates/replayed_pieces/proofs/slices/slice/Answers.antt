@@ -5,4 +5,4 @@ use Rattle.replayed_pieces.proofs.slices.slice.Goals as goal
 
 pub returns : goal.returns
 returns c =
-    slice-lent (offsets-filled _ c.offsets-s.ensures.1 c.zeros-out_starts.ensures) (offsets-filled _ c.offsets-e.ensures.1 c.zeros-out_ends.ensures) c.sliced.ensures
+    slice-lent (offsets-filled _ c.offsets-s.ensures.laid c.zeros-out_starts.ensures) (offsets-filled _ c.offsets-e.ensures.laid c.zeros-out_ends.ensures) c.sliced.ensures

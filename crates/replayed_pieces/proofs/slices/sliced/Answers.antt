@@ -8,4 +8,4 @@ returns c =
     c.field-2.ensures
     c.value.ensures c.value-2.ensures
     c.value-3.ensures c.value-4.ensures c.zulmyren_slice-answer.ensures
-    c.is_Slice.ensures c.are_offsets.ensures c.are_offsets-2.ensures
+    c.is_slice.ensures c.are_offsets.ensures c.are_offsets-2.ensures
