@@ -23,7 +23,7 @@ OF = {"originalStart", "originalEnd", "normalizedStart", "normalizedEnd"}
 LEMMAS = {"end_moved": ("behaviors",), "joined_by": ("behaviors", "spans"), "of_number": ("note",), "of_row": ("utf8",)}
 # a file of specs/ cannot be called so any more
 MOVED = [("crates/zulmyren/specs/Contracts.antt", "crates/zulmyren/specs/Promised.antt")]
-RECORD = re.compile(r"^(\s*)(?:pub )?record [^\n]* where$")
+RECORD = re.compile(r"^(\s*)(?:pub )?record ")
 FIELD = re.compile(r"^(\s+)(?:pub )?(\S+)((?: \S+)*) : ")
 
 
@@ -40,11 +40,14 @@ def files():
 
 
 def fields(text):
-    found, inside = set(), None
+    found, inside, head = set(), None, None
     for line in text.splitlines():
         m = RECORD.match(line)
         if m:
-            inside = len(m.group(1))
+            head, inside = len(m.group(1)), None
+        if head is not None:
+            if line.rstrip().endswith("where"):
+                inside, head = head, None
             continue
         if inside is not None:
             if line.strip() and len(line) - len(line.lstrip()) <= inside:

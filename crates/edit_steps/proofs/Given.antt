@@ -45,7 +45,7 @@ module _ (starts ends : List ℕ) (g : Progress) (c : Command) {size x y : ℕ} 
       → x ≡ carried_value starts g.position.0 c → y ≡ carried_value ends g.position.0 c
       → Over (replicate size x) starts₀ g.written until starts₁ → Over (replicate size y) ends₀ g.written until ends₁
       → CommandOver starts ends g c out₀ starts₀ ends₀ until out starts₁ ends₁
-  command-over until l sx sy ps pe = record { text-over = l; starts-over = rw (wide, sx) at ps; ends-over = rw (wide, sy) at pe }
+  command-over until l sx sy ps pe = record { text_over = l; starts_over = rw (wide, sx) at ps; ends_over = rw (wide, sy) at pe }
 
 -- all commands
 module _ (piece : ℕ → Command → List ℕ) (wide : (p : ℕ) (c : Command) → length (piece p c) ≡ len_utf8 c.character) (s : List ℕ) (b : ℕ) where
@@ -164,9 +164,9 @@ module _ {s starts ends : List ℕ} {b p : ℕ} {all : List Command} {out₀ sta
             (record {
               standing = (standing-moved c k.standing).0;
               feeding = both-fed.1;
-              text_laid = column-next characters characters-wide s b p all at g rest k.text_laid next (omega (arith, r.text_room)) below m.text-over;
-              starts_laid = column-next (carried_values starts) (carried-wide starts) s b p all at g rest k.starts_laid next (omega (arith, r.starts_room)) below m.starts-over;
-              ends_laid = column-next (carried_values ends) (carried-wide ends) s b p all at g rest k.ends_laid next (omega (arith, r.ends_room)) below m.ends-over;
+              text_laid = column-next characters characters-wide s b p all at g rest k.text_laid next (omega (arith, r.text_room)) below m.text_over;
+              starts_laid = column-next (carried_values starts) (carried-wide starts) s b p all at g rest k.starts_laid next (omega (arith, r.starts_room)) below m.starts_over;
+              ends_laid = column-next (carried_values ends) (carried-wide ends) s b p all at g rest k.ends_laid next (omega (arith, r.ends_room)) below m.ends_over;
             })
 
       pub going_on : {h : Progress} {out₂ starts₂ ends₂ : List ℕ} → CommandLaid starts ends g c out starts₁ ends₁ out₂ starts₂ ends₂ → h ≡ progress_after s b g c → Going s starts ends b p all out₀ starts₀ ends₀ at h others out₂ starts₂ ends₂
@@ -174,9 +174,9 @@ module _ {s starts ends : List ℕ} {b p : ℕ} {all : List Command} {out₀ sta
           let room = command-room in
           going-over
           (record {
-            text-over = over-exact (characters g.position.0 c) out g.written 0 (omega (arith, room.text_room, characters-wide g.position.0 c)) m.text_is;
-            starts-over = over-exact (carried_values starts g.position.0 c) starts₁ g.written 0 (omega (arith, room.starts_room, carried-wide starts g.position.0 c)) m.starts_are;
-            ends-over = over-exact (carried_values ends g.position.0 c) ends₁ g.written 0 (omega (arith, room.ends_room, carried-wide ends g.position.0 c)) m.ends_are;
+            text_over = over-exact (characters g.position.0 c) out g.written 0 (omega (arith, room.text_room, characters-wide g.position.0 c)) m.text_is;
+            starts_over = over-exact (carried_values starts g.position.0 c) starts₁ g.written 0 (omega (arith, room.starts_room, carried-wide starts g.position.0 c)) m.starts_are;
+            ends_over = over-exact (carried_values ends g.position.0 c) ends₁ g.written 0 (omega (arith, room.ends_room, carried-wide ends g.position.0 c)) m.ends_are;
           })
           (omega arith)
           on

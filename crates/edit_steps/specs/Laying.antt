@@ -43,9 +43,9 @@ pub record Below (until : ℕ) (out starts₀ ends₀ : List ℕ) : Type 0 where
 -- one command laid, where after it the buffers are told from a bound on only
 pub record CommandOver (starts ends : List ℕ) (g : Progress) (c : Command) (out₀ starts₀ ends₀ : List ℕ) (until : ℕ)
     (out starts₁ ends₁ : List ℕ) : Type 0 where
-  pub text-over : Over (characters g.position.0 c) out₀ g.written until out
-  pub starts-over : Over (carried_values starts g.position.0 c) starts₀ g.written until starts₁
-  pub ends-over : Over (carried_values ends g.position.0 c) ends₀ g.written until ends₁
+  pub text_over : Over (characters g.position.0 c) out₀ g.written until out
+  pub starts_over : Over (carried_values starts g.position.0 c) starts₀ g.written until starts₁
+  pub ends_over : Over (carried_values ends g.position.0 c) ends₀ g.written until ends₁
 
 -- commands of which none starves, and room for what they give from `at` on
 pub record CommandsRoom (s starts ends : List ℕ) (b p : ℕ) (cs : List Command) (out starts₀ ends₀ : List ℕ)

@@ -24,7 +24,7 @@ use Rattle.edits.specs.declared.Clearing.TheVariants.{Cleared, Refused}
 use Rattle.edits.specs.Whole.{clear_edit, clear_faults, Emptied}
 use Rattle.edits.specs.Plain.{widthless, head_bytes, cleared}
 use Rattle.edits.proofs.Head.{head-most, cleared-closed}
-use Rattle.edits.proofs.Inputs.{text-short}
+use Rattle.edits.proofs.Inputs.{text_short}
 use Rattle.edits.proofs.Made.{made-large, made-small, clear-refused, clear-done}
 
 module _ (most : ℕ) (n : Note) (out₀ starts₀ ends₀ : List ℕ) {v : Verdict} (noted : v ≡ verdict (note_faults most n)) where
@@ -62,5 +62,5 @@ module _ (most : ℕ) (n : Note) (out₀ starts₀ ends₀ : List ℕ) {v : Verd
       pub has-cleared : left ≤ low → {out starts ends : List ℕ} → out ≡ splice out₀ 0 (take left n.normalized) → starts ≡ splice starts₀ 0 (take left n.starts) → ends ≡ splice ends₀ 0 (take left n.ends) → Result (Cleared (length n.normalized) left) out starts ends
       unfolding cleared
       has-cleared h o s t =
-          clear-done (made-small most n (note_faults most n) refl noted ok (clear_edit n) rooms (cleared-closed n sound) (omega (arith, long, left-most, lowest, text-short most n noted ok)))
+          clear-done (made-small most n (note_faults most n) refl noted ok (clear_edit n) rooms (cleared-closed n sound) (omega (arith, long, left-most, lowest, text_short most n noted ok)))
           (cleared-closed n sound).leaves (sym long) (rw head at o) (rw head at s) (rw head at t)

@@ -30,9 +30,9 @@ module _ (most : ℕ) (n : Note) {v : Verdict} (noted : v ≡ verdict (note_faul
       let within = (accepted-sound most n (sym noted ∙ ok)).1 in
       leb-true _ _ (and_elim_left _ (leb (length n.normalized) most) (and_elim_left _ _ within))
 
-  pub text-short : length n.normalized ≤ most
+  pub text_short : length n.normalized ≤ most
   unfolding fits
-  text-short =
+  text_short =
       let within = (accepted-sound most n (sym noted ∙ ok)).1 in
       leb-true _ _ (and_elim_right (leb (length n.original) most) _ (and_elim_left _ _ within))
 

@@ -126,6 +126,6 @@ module _ (most : ℕ) (n : Note) (codes out₀ starts₀ ends₀ : List ℕ) {v 
             inputs-accepted most n (also (note_faults most n) (codes_faults n.normalized codes)) refl (map_edit n codes) out₀ starts₀ ends₀ inputs refl refl
             (accepted-rewritten (small-enough most n.normalized (map_edit n codes) (least (length out₀) (length starts₀) (length ends₀)) makes.lies (makes.exhausts ∙ headless) (omega (arith, size, lowest, r)))
             (omega (arith, l.written_is, size, judged.size_is))
-            (over-splice l.text-over (omega (arith, judged.size_is)) ∙ splice-overlay out₀ (text_of codes) ∙ ap (λ (x : Note). overlay x.normalized out₀) (sym (makes.leaves headless)))
-            (column-made n.starts starts₀ starts (length-starts n sound) l.chars-laid.starts-over ∙ ap (λ (x : Note). overlay x.starts starts₀) (sym (makes.leaves headless)))
-            (column-made n.ends ends₀ ends (length-ends n sound) l.chars-laid.ends-over ∙ ap (λ (x : Note). overlay x.ends ends₀) (sym (makes.leaves headless))))
+            (over-splice l.text_over (omega (arith, judged.size_is)) ∙ splice-overlay out₀ (text_of codes) ∙ ap (λ (x : Note). overlay x.normalized out₀) (sym (makes.leaves headless)))
+            (column-made n.starts starts₀ starts (length-starts n sound) l.chars_laid.starts_over ∙ ap (λ (x : Note). overlay x.starts starts₀) (sym (makes.leaves headless)))
+            (column-made n.ends ends₀ ends (length-ends n sound) l.chars_laid.ends_over ∙ ap (λ (x : Note). overlay x.ends ends₀) (sym (makes.leaves headless))))

@@ -180,7 +180,7 @@ module _ {s starts ends flags : List ℕ} {stop : ℕ} {out₀ starts₀ ends₀
   pub none-between-chars : KeptBetween s starts ends flags out₀ starts₀ ends₀ 0 0 0 out₀ starts₀ ends₀
   none-between-chars =
       record {
-        laid = record { counted = none-counted; text = none_kept r.text_ready; starts-so-far = none_kept r.starts_ready; ends-so-far = none_kept r.ends_ready };
+        laid = record { counted = none-counted; text = none_kept r.text_ready; starts_so_far = none_kept r.starts_ready; ends_so_far = none_kept r.ends_ready };
         stands = boundary-zero s r.flagged.formed;
       }
 
@@ -202,10 +202,10 @@ module _ {s starts ends flags : List ℕ} {stop : ℕ} {out₀ starts₀ ends₀
       text-four = four-room r.text_ready r.flagged k.laid.counted k.stands k.laid.text left
 
       pub starts-four : (q + 4 ≤ length starts) × (at + 4 ≤ length starts₁)
-      starts-four = four-room r.starts_ready r.flagged k.laid.counted k.stands k.laid.starts-so-far left
+      starts-four = four-room r.starts_ready r.flagged k.laid.counted k.stands k.laid.starts_so_far left
 
       pub ends-four : (q + 4 ≤ length ends) × (at + 4 ≤ length ends₁)
-      ends-four = four-room r.ends_ready r.flagged k.laid.counted k.stands k.laid.ends-so-far left
+      ends-four = four-room r.ends_ready r.flagged k.laid.counted k.stands k.laid.ends_so_far left
 
       pub one-between-chars : {w size : ℕ} {out₂ starts₂ ends₂ : List ℕ} → w ≡ lead_len (get_or s q 0) → out₂ ≡ splice out at (part s q (q + 4))
           → starts₂ ≡ splice starts₁ at (part starts q (q + 4)) → ends₂ ≡ splice ends₁ at (part ends q (q + 4)) → size ≡ kept_len (get_or flags i 0) w
@@ -218,8 +218,8 @@ module _ {s starts ends flags : List ℕ} {stop : ℕ} {out₀ starts₀ ends₀
                 record {
                   counted = rw wide (next-counted r.flagged k.laid.counted k.stands char-there.0);
                   text = char-kept r.text_ready r.flagged k.laid.counted k.stands k.laid.text left wide sized o;
-                  starts-so-far = char-kept r.starts_ready r.flagged k.laid.counted k.stands k.laid.starts-so-far left wide sized st;
-                  ends-so-far = char-kept r.ends_ready r.flagged k.laid.counted k.stands k.laid.ends-so-far left wide sized en;
+                  starts_so_far = char-kept r.starts_ready r.flagged k.laid.counted k.stands k.laid.starts_so_far left wide sized st;
+                  ends_so_far = char-kept r.ends_ready r.flagged k.laid.counted k.stands k.laid.ends_so_far left wide sized en;
                 };
             stands = rw wide char.ends;
           }
@@ -261,16 +261,16 @@ module _ {s starts ends flags : List ℕ} {e : ℕ} {out₀ starts₀ ends₀ : 
             flagged = r.flagged;
             kept = r.kept;
             text_ready = column_again r.text_ready laid.text.same;
-            starts_ready = column_again r.starts_ready laid.starts-so-far.same;
-            ends_ready = column_again r.ends_ready laid.ends-so-far.same;
+            starts_ready = column_again r.starts_ready laid.starts_so_far.same;
+            ends_ready = column_again r.ends_ready laid.ends_so_far.same;
           },
           record {
             below = before-end;
-            laid = record { counted = laid.counted; text = again laid.text; starts-so-far = again laid.starts-so-far; ends-so-far = again laid.ends-so-far };
+            laid = record { counted = laid.counted; text = again laid.text; starts_so_far = again laid.starts_so_far; ends_so_far = again laid.ends_so_far };
           },
         )
 
     pub rest-kept : {n : ℕ} {out₂ starts₂ ends₂ : List ℕ} → KeptLaid s starts ends flags out starts₁ ends₁ n out₂ starts₂ ends₂ → KeptLaid s starts ends flags out₀ starts₀ ends₀ n out₂ starts₂ ends₂
     rest-kept l =
         let laid = k.between-chars.laid in
-        record { reached = l.reached; text_is = still laid.text l.text_is; starts_are = still laid.starts-so-far l.starts_are; ends_are = still laid.ends-so-far l.ends_are }
+        record { reached = l.reached; text_is = still laid.text l.text_is; starts_are = still laid.starts_so_far l.starts_are; ends_are = still laid.ends_so_far l.ends_are }

@@ -230,7 +230,7 @@ module _ {s starts ends flags : List ℕ} {e : ℕ} {out₀ starts₀ ends₀ : 
     pub rooms : q < e → (at < length out) × ((at < length starts₁) × (at < length ends₁))
     rooms h = (
       at_room r.text_ready r.flagged r.kept k.laid.counted k.laid.text h,
-      (at_room r.starts_ready r.flagged r.kept k.laid.counted k.laid.starts-so-far h, at_room r.ends_ready r.flagged r.kept k.laid.counted k.laid.ends-so-far h),
+      (at_room r.starts_ready r.flagged r.kept k.laid.counted k.laid.starts_so_far h, at_room r.ends_ready r.flagged r.kept k.laid.counted k.laid.ends_so_far h),
     )
 
     pub reads : q < e → (q < length s) × ((q < length starts) × (q < length ends))
@@ -247,8 +247,8 @@ module _ {s starts ends flags : List ℕ} {e : ℕ} {out₀ starts₀ ends₀ : 
           laid = record {
             counted = counted_next r.flagged k.laid.counted (reads h).0 is;
             text = one_kept r.text_ready r.flagged r.kept k.laid.counted k.laid.text h is refl;
-            starts-so-far = one_kept r.starts_ready r.flagged r.kept k.laid.counted k.laid.starts-so-far h is refl;
-            ends-so-far = one_kept r.ends_ready r.flagged r.kept k.laid.counted k.laid.ends-so-far h is refl;
+            starts_so_far = one_kept r.starts_ready r.flagged r.kept k.laid.counted k.laid.starts_so_far h is refl;
+            ends_so_far = one_kept r.ends_ready r.flagged r.kept k.laid.counted k.laid.ends_so_far h is refl;
           };
         }
 
@@ -258,8 +258,8 @@ module _ {s starts ends flags : List ℕ} {e : ℕ} {out₀ starts₀ ends₀ : 
         record {
           reached = text.1;
           text_is = text.0;
-          starts_are = (all-kept r.starts_ready r.flagged r.kept k.laid.counted k.laid.starts-so-far past k.below).0;
-          ends_are = (all-kept r.ends_ready r.flagged r.kept k.laid.counted k.laid.ends-so-far past k.below).0;
+          starts_are = (all-kept r.starts_ready r.flagged r.kept k.laid.counted k.laid.starts_so_far past k.below).0;
+          ends_are = (all-kept r.ends_ready r.flagged r.kept k.laid.counted k.laid.ends_so_far past k.below).0;
         }
 
 -- CHARACTER BY CHARACTER

@@ -25,8 +25,8 @@ pub record KeptBefore (s starts ends flags out₀ starts₀ ends₀ : List ℕ) 
     : Type 0 where
   pub counted : Counted s i q
   pub text : Reaching (chosen flags 0 s s) (chosen flags i (drop q s) (drop q s)) out₀ at out
-  pub starts-so-far : Reaching (chosen flags 0 s starts) (chosen flags i (drop q s) (drop q starts)) starts₀ at starts₁
-  pub ends-so-far : Reaching (chosen flags 0 s ends) (chosen flags i (drop q s) (drop q ends)) ends₀ at ends₁
+  pub starts_so_far : Reaching (chosen flags 0 s starts) (chosen flags i (drop q s) (drop q starts)) starts₀ at starts₁
+  pub ends_so_far : Reaching (chosen flags 0 s ends) (chosen flags i (drop q s) (drop q ends)) ends₀ at ends₁
 
 -- the kept bytes before q, which is no further than a bound, stand in the buffers
 pub record KeptSoFar (s starts ends flags : List ℕ) (e : ℕ) (out₀ starts₀ ends₀ : List ℕ) (q i at : ℕ)

@@ -110,8 +110,8 @@ module _ {s starts ends : List ℕ} {b from : ℕ} {flags out₀ starts₀ ends�
           (λ drops.
           record {
             inside = len.inside;
-            start-found = λ keeps. clash (eqb (get_or flags i 0) 0) drops keeps;
-            end-found = λ keeps. clash (eqb (get_or flags i 0) 0) drops keeps;
+            start_found = λ keeps. clash (eqb (get_or flags i 0) 0) drops keeps;
+            end_found = λ keeps. clash (eqb (get_or flags i 0) 0) drops keeps;
             text_room = rw drops (omega (arith, f.going.text_laid.room));
             starts_room = rw drops (omega (arith, f.going.starts_laid.room));
             ends_room = rw drops (omega (arith, f.going.ends_laid.room));
@@ -119,8 +119,8 @@ module _ {s starts ends : List ℕ} {b from : ℕ} {flags out₀ starts₀ ends�
           (λ keeps.
           record {
             inside = len.inside;
-            start-found = λ _. (found keeps).0;
-            end-found = λ _. (found keeps).1;
+            start_found = λ _. (found keeps).0;
+            end_found = λ _. (found keeps).1;
             text_room = rw keeps (omega (arith, fits keeps, (room keeps).text_room));
             starts_room = rw keeps (omega (arith, fits keeps, (room keeps).starts_room));
             ends_room = rw keeps (omega (arith, fits keeps, (room keeps).ends_room));

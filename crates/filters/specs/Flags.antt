@@ -39,8 +39,8 @@ pub record FlagsReady (s : List ℕ) (b from : ℕ) (flags : List ℕ) : Type 0 
 pub record FlagRoom (flag : ℕ) (s starts ends : List ℕ) (q size p : ℕ) (out starts₀ ends₀ : List ℕ) (at : ℕ)
     : Type 0 where
   pub inside : q + size ≤ length s
-  pub start-found : eqb flag 0 ≡ false → p < length starts
-  pub end-found : eqb flag 0 ≡ false → p < length ends
+  pub start_found : eqb flag 0 ≡ false → p < length starts
+  pub end_found : eqb flag 0 ≡ false → p < length ends
   pub text_room : at + kept_len flag size ≤ length out
   pub starts_room : at + kept_len flag size ≤ length starts₀
   pub ends_room : at + kept_len flag size ≤ length ends₀

@@ -58,11 +58,11 @@ module _ {s starts ends : List ℕ} {p : ℕ} {codes out₀ starts₀ ends₀ : 
       let wide-ends : length (part ends p (p + n)) ≡ p + n - p = length_part ends p (p + n) (omega (arith, r.chars_room.ends_room.one_each)) in
       record {
         written_is = l.reached;
-        text-over = l.over;
-        chars-laid =
+        text_over = l.over;
+        chars_laid =
             record {
               passed = record { most = omega arith; counted = rw size first.1 };
-              starts-over = rw first.0 (over-exact (part starts p (p + n)) starts₀ from until (omega (arith, r.chars_room.starts_room.room)) (rw size at st));
-              ends-over = rw last.0 (over-exact (part ends p (p + n)) ends₀ from until (omega (arith, r.chars_room.ends_room.room)) (rw size at en));
+              starts_over = rw first.0 (over-exact (part starts p (p + n)) starts₀ from until (omega (arith, r.chars_room.starts_room.room)) (rw size at st));
+              ends_over = rw last.0 (over-exact (part ends p (p + n)) ends₀ from until (omega (arith, r.chars_room.ends_room.room)) (rw size at en));
             };
       }

@@ -141,8 +141,8 @@ module _ {s starts ends : List ℕ} {p : ℕ} {cs starts₀ ends₀ : List ℕ} 
   all-spread h =
       record {
         passed = record { most = k.inside; counted = omega (arith, k.counted, k.most) };
-        starts-over = all-carried k.starts_carried h;
-        ends-over = all-carried k.ends_carried h;
+        starts_over = all-carried k.starts_carried h;
+        ends_over = all-carried k.ends_carried h;
       }
 
 -- a text whose characters begin where those of the code points do

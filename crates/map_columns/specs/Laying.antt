@@ -37,8 +37,8 @@ pub record CharsPassed (s : List ℕ) (p count q : ℕ) : Type 0 where
 pub record CharsLaid (s starts ends : List ℕ) (p : ℕ) (codes starts₀ ends₀ : List ℕ) (from until q : ℕ)
     (starts₁ ends₁ : List ℕ) : Type 0 where
   pub passed : CharsPassed s p (length codes) q
-  pub starts-over : Over (spread codes (of_chars (drop p s) (drop p starts))) starts₀ from until starts₁
-  pub ends-over : Over (spread codes (of_chars (drop p s) (drop p ends))) ends₀ from until ends₁
+  pub starts_over : Over (spread codes (of_chars (drop p s) (drop p starts))) starts₀ from until starts₁
+  pub ends_over : Over (spread codes (of_chars (drop p s) (drop p ends))) ends₀ from until ends₁
 
 -- scalar values, and room for their bytes too
 pub record CodesRoom (s starts ends : List ℕ) (p : ℕ) (codes out starts₀ ends₀ : List ℕ) (from until : ℕ) : Type 0 where
@@ -52,5 +52,5 @@ pub record CodesRoom (s starts ends : List ℕ) (p : ℕ) (codes out starts₀ e
 pub record CodesLaid (s starts ends : List ℕ) (p : ℕ) (codes out₀ starts₀ ends₀ : List ℕ) (from until : ℕ) (r : Reached)
     (out starts₁ ends₁ : List ℕ) : Type 0 where
   pub written_is : r.written ≡ from + length (text_of codes)
-  pub text-over : Over (text_of codes) out₀ from until out
-  pub chars-laid : CharsLaid s starts ends p codes starts₀ ends₀ from until r.position starts₁ ends₁
+  pub text_over : Over (text_of codes) out₀ from until out
+  pub chars_laid : CharsLaid s starts ends p codes starts₀ ends₀ from until r.position starts₁ ends₁

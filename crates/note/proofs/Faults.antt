@@ -36,8 +36,8 @@ normalized_short most n within =
     leb-true (length n.normalized) most (and_elim_right (leb (length n.original) most) _ (and_elim_left (leb (length n.original) most && leb (length n.normalized) most) _ within))
 
 -- an accepted text, string and room
-pub text-short : (most : ℕ) (s : List ℕ) → verdict (text_faults most s) ≡ Accepted → length s ≤ most
-text-short most s e = leb-true (length s) most (not-false (leb (length s) most) (accepted-meets (text_faults most s) e TooLong))
+pub text_short : (most : ℕ) (s : List ℕ) → verdict (text_faults most s) ≡ Accepted → length s ≤ most
+text_short most s e = leb-true (length s) most (not-false (leb (length s) most) (accepted-meets (text_faults most s) e TooLong))
 
 pub text_formed : (most : ℕ) (s : List ℕ) → verdict (text_faults most s) ≡ Accepted → well_formed s ≡ true
 text_formed most s e = not-false (well_formed s) (accepted-meets (text_faults most s) e IllFormed)

@@ -56,7 +56,7 @@ module _ {list text : List ℕ} (c : Cuttable list text) (behavior : SplitDelimi
   pub spans-room : {spans starts ends : List ℕ} → 2 * longest + 1 ≡ length spans → 2 * longest + 1 ≡ length starts → 2 * longest + 1 ≡ length ends → SpansRoom limit list behavior empty spans starts ends
   spans-room p s e =
       record {
-        packed-room = record {
+        packed_room = record {
           listed = record { text = text; short = omega (arith, c.brief); covered = covers-places text list c.covered };
           unbroken = covers-whole text list c.covered;
           room = omega (arith, few);

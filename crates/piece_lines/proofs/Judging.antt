@@ -18,7 +18,7 @@ use Rattle.note.specs.Notes.{limit}
 use Rattle.note.specs.Refusals.{verdict, unless_refused}
 use Rattle.note.specs.Faults.{text_faults}
 use Rattle.note.specs.Starting.{starting}
-use Rattle.note.proofs.Faults.{text-short, text_formed}
+use Rattle.note.proofs.Faults.{text_short, text_formed}
 use Rattle.note.proofs.FirstMet.{accepted-first, accepted-second}
 use Rattle.pattern.specs.Entries.{places_of}
 use Rattle.pattern.specs.Encoding.{room_for}
@@ -55,7 +55,7 @@ pub found-cuttable : (literal note : List ℕ) → lines_verdict literal note �
 found-cuttable literal note e =
     let first = accepted-first (text_faults longest literal) (text_faults longest note) e in
     let second = accepted-second (text_faults longest literal) (text_faults longest note) e in
-    let brief : length note ≤ longest = text-short longest note second in
+    let brief : length note ≤ longest = text_short longest note second in
     let formed = text_formed longest note second in
     let read = found-read note literal (omega arith) in
     record {
@@ -87,14 +87,14 @@ module _ {literal text list₀ : List ℕ} {r : Matches} {list : List ℕ} (f : 
     says : (verdict (find_faults limit text literal (length list₀)) ≡ Accepted) × (size ≡ length (found_bytes text literal))
     says = matches-written _ _ size (sym is ∙ f.answer)
 
-    list-is : list ≡ overlay (found_bytes text literal) list₀
-    list-is = f.list ∙ rw says.0
+    list_is : list ≡ overlay (found_bytes text literal) list₀
+    list_is = f.list ∙ rw says.0
 
     pub list-long : size ≤ length list
-    list-long = rw (says.1, list-is) (overlay-long (found_bytes text literal) list₀)
+    list-long = rw (says.1, list_is) (overlay-long (found_bytes text literal) list₀)
 
     list-front : take size list ≡ found_bytes text literal
-    list-front = rw (says.1, list-is) (take-overlay (found_bytes text literal) list₀)
+    list-front = rw (says.1, list_is) (take-overlay (found_bytes text literal) list₀)
 
     accepted : lines_verdict literal text ≡ Accepted
     accepted = sym same-verdict ∙ says.0

@@ -134,9 +134,9 @@ module _ {text literal content : List ℕ} {first : ℕ} {out starts ends : List
     bounded : (padded : List ℕ) → part padded 0 (length content) ≡ content → length content ≤ length padded → Bounded text most literal content padded 0 0 margin until
     bounded padded front long =
         record {
-          most-is = known;
-          padded-is = front;
-          padded-long = long;
+          most_is = known;
+          padded_is = front;
+          padded_long = long;
           window = content_len.0;
           enough = λ j b inside left fits is. le-or-lt share 1024
               (λ soon. let h = content_len.1 soon in omega (arith, block-left text literal (length content) w from_start.some inside (omega arith)))

@@ -19,7 +19,7 @@ use Rattle.note.specs.Faults.{note_faults, text_faults, string_faults, room_faul
 use Rattle.note.specs.Starting.{starting}
 use Rattle.note.specs.Rank.{up_to}
 use Rattle.note.proofs.FirstMet.{earlier-of, refused-then, accepted-then, accepted-first, accepted-second, both-accepted}
-use Rattle.note.proofs.Faults.{text-short, text_formed, string-formed, room-enough}
+use Rattle.note.proofs.Faults.{text_short, text_formed, string-formed, room-enough}
 use Rattle.note.proofs.Starting.{starting-accepted}
 use Rattle.pattern.specs.declared.Place.{Place}
 use Rattle.pattern.specs.Entries.{places_of}
@@ -64,7 +64,7 @@ inputs-formed text literal content e =
     let first = accepted-first (text_faults limit text) (also (string_faults literal) (string_faults content)) e in
     let strings = accepted-second (text_faults limit text) (also (string_faults literal) (string_faults content)) e in
     record {
-      short = text-short limit text first;
+      short = text_short limit text first;
       text_formed = text_formed limit text first;
       literal_formed = string-formed literal (accepted-first (string_faults literal) (string_faults content) strings);
       content_formed = string-formed content (accepted-second (string_faults literal) (string_faults content) strings);

@@ -112,10 +112,10 @@ module _ {n : Note} {original : List ℕ} {shift size : ℕ} {bytes sizes counts
   counts-as-many = length-blanked (pairs_of bytes sizes) n ∙ length_pairs bytes sizes
 
   pub counts-within : length sizes / 2 ≤ length counts
-  counts-within = omega (arith, counts-as-many, ap length left.counts-are, overlay-long (blanked_counts (pairs_of bytes sizes) n) counts₀)
+  counts-within = omega (arith, counts-as-many, ap length left.counts_are, overlay-long (blanked_counts (pairs_of bytes sizes) n) counts₀)
 
   counts-front : take (length sizes / 2) counts ≡ blanked_counts (pairs_of bytes sizes) n
-  counts-front = ap (take (length sizes / 2)) left.counts-are ∙ rw (← counts-as-many) (take-overlay (blanked_counts (pairs_of bytes sizes) n) counts₀)
+  counts-front = ap (take (length sizes / 2)) left.counts_are ∙ rw (← counts-as-many) (take-overlay (blanked_counts (pairs_of bytes sizes) n) counts₀)
 
 results-said : (x y z : Bool) → verdict (also (meets NoRoom (not x) none) (also (meets NoRoom (not y) none) (meets NoRoom (not z) none))) ≡ cond (x && (y && z)) Accepted (Rejected NoRoom)
 unfolding verdict
@@ -141,9 +141,9 @@ module _ (n : Note) (bytes sizes : List ℕ) (b₀ : AllBuffers) {v : Verdict} (
         text_is = refl;
         starts_are = refl;
         ends_are = refl;
-        blanked-are = refl;
-        left-are = refl;
-        fillers-are = refl;
+        blanked_are = refl;
+        left_are = refl;
+        fillers_are = refl;
       }
 
   pub refused-input : {j : Refusal} → v ≡ Rejected j → AllRedacted limit n bytes sizes b₀ (Refused j) b₀
@@ -184,17 +184,17 @@ module _ (n : Note) (bytes sizes : List ℕ) (b₀ : AllBuffers) {v : Verdict} (
               let e = length-take-le size ends (ends-within left.is_held) in
               record {
                 normalized_short = checked-short k;
-                text-short = omega (arith, t, left.is_held.size_most);
+                text_short = omega (arith, t, left.is_held.size_most);
                 even = k.even;
                 starts_long = s ∙ sym t;
                 ends_long = e ∙ sym t;
                 counts_long = length-take-le (length sizes / 2) counts (counts-within left);
-                out-room = omega (arith, t);
+                out_room = omega (arith, t);
                 starts_room = omega (arith, t);
                 ends_room = omega (arith, t);
-                blanked-room = omega arith;
-                left-room = omega arith;
-                fillers-room = omega arith;
+                blanked_room = omega arith;
+                left_room = omega arith;
+                fillers_room = omega arith;
               }
 
           pub all-published : {report : Report} {b : AllBuffers} → Told n.normalized bytes sizes (take size text) (take size starts) (take size ends) (take (length sizes / 2) counts) b₀ report b
@@ -208,7 +208,7 @@ module _ (n : Note) (bytes sizes : List ℕ) (b₀ : AllBuffers) {v : Verdict} (
                 text_is = told.text_is ∙ ap (λ (x : List ℕ). overlay x b₀.out) text_left;
                 starts_are = told.starts_are ∙ ap (λ (m : Note). overlay m.starts b₀.starts) left.left_is;
                 ends_are = told.ends_are ∙ ap (λ (m : Note). overlay m.ends b₀.ends) left.left_is;
-                blanked-are = told.blanked-are ∙ ap (λ (x : List ℕ). overlay x b₀.blanked) (counts-front left);
-                left-are = told.left-are ∙ ap (λ (x : List ℕ). overlay (word_counts Literal x (pairs_of bytes sizes)) b₀.left) text_left;
-                fillers-are = told.fillers-are;
+                blanked_are = told.blanked_are ∙ ap (λ (x : List ℕ). overlay x b₀.blanked) (counts-front left);
+                left_are = told.left_are ∙ ap (λ (x : List ℕ). overlay (word_counts Literal x (pairs_of bytes sizes)) b₀.left) text_left;
+                fillers_are = told.fillers_are;
               }

@@ -100,6 +100,6 @@ module _ {original : List ℕ} {shift size : ℕ} {literal content text₀ start
       (λ fit.
       let told : place.call.says ≡ Rejected k = says-refused place.call.says _ _ (sym is ∙ place.call.answer) in
       let list = list-fits (take size text₀) literal (short before pair noted l c) in
-      let ok : place.call.says ≡ Accepted = place.call.says_is ∙ sym (step-accepted before pair noted l c (length place.list₀) (least (length text₀) (length starts₀) (length ends₀)) (omega (arith, list, place.list-room)) (omega (arith, fit, t, s, e))) in
+      let ok : place.call.says ≡ Accepted = place.call.says_is ∙ sym (step-accepted before pair noted l c (length place.list₀) (least (length text₀) (length starts₀) (length ends₀)) (omega (arith, list, place.list_room)) (omega (arith, fit, t, s, e))) in
       refusal-clash (sym ok ∙ told))
       (λ big. lt-leb _ _ big)

@@ -53,7 +53,7 @@ report-fits n bytes sizes b₀ {r} {report} {b} given is =
       text_long = over-long call.says report.len left.normalized b₀.out b.out said.0 size call.text_is;
       starts_long = over-long call.says report.len left.starts b₀.starts b.starts said.0 (size ∙ sym (length-starts left sound.0)) call.starts_are;
       ends_long = over-long call.says report.len left.ends b₀.ends b.ends said.0 (size ∙ sym (length-ends left sound.0)) call.ends_are;
-      blanked_long = over-long call.says (length sizes / 2) (blanked_counts (pairs_of bytes sizes) n) b₀.blanked b.blanked said.0 (sym (length-blanked (pairs_of bytes sizes) n ∙ pairs)) call.blanked-are;
-      left_long = over-long call.says (length sizes / 2) (left_counts (pairs_of bytes sizes) n) b₀.left b.left said.0 (sym (length-counts Literal left.normalized (pairs_of bytes sizes) ∙ pairs)) call.left-are;
-      fillers_long = over-long call.says (length sizes / 2) (filler_counts (pairs_of bytes sizes) n) b₀.fillers b.fillers said.0 (sym (length-counts Filler n.normalized (pairs_of bytes sizes) ∙ pairs)) call.fillers-are;
+      blanked_long = over-long call.says (length sizes / 2) (blanked_counts (pairs_of bytes sizes) n) b₀.blanked b.blanked said.0 (sym (length-blanked (pairs_of bytes sizes) n ∙ pairs)) call.blanked_are;
+      left_long = over-long call.says (length sizes / 2) (left_counts (pairs_of bytes sizes) n) b₀.left b.left said.0 (sym (length-counts Literal left.normalized (pairs_of bytes sizes) ∙ pairs)) call.left_are;
+      fillers_long = over-long call.says (length sizes / 2) (filler_counts (pairs_of bytes sizes) n) b₀.fillers b.fillers said.0 (sym (length-counts Filler n.normalized (pairs_of bytes sizes) ∙ pairs)) call.fillers_are;
     }

@@ -185,5 +185,5 @@ module _ {n : Note} {original : List ℕ} {shift : ℕ} {bytes sizes counts₀ t
         is_held = s.is_held;
         fit = sym s.fit ∙ ap (λ (ps : List Pair). steps_fit limit ps before) done ∙ nothing-short before;
         left_is = sym (ap (λ (ps : List Pair). published_by ps before) done ∙ nothing-published before) ∙ s.left;
-        counts-are = all_laid (blanked_counts (pairs_of bytes sizes) n) counts₀ k counts (rw (ap (λ (ps : List Pair). blanked_counts ps before) done ∙ nothing-counted before) at s.laid);
+        counts_are = all_laid (blanked_counts (pairs_of bytes sizes) n) counts₀ k counts (rw (ap (λ (ps : List Pair). blanked_counts ps before) done ∙ nothing-counted before) at s.laid);
       }

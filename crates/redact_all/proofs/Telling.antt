@@ -54,7 +54,7 @@ module _ {normalized bytes sizes text starts ends counts : List ℕ} {b₀ b : A
         text_is = t ∙ splice-overlay b₀.out text;
         starts_are = s ∙ splice-overlay b₀.starts starts;
         ends_are = e ∙ splice-overlay b₀.ends ends;
-        blanked-are = c;
-        left-are = l;
-        fillers-are = f;
+        blanked_are = c;
+        left_are = l;
+        fillers_are = f;
       }

@@ -67,9 +67,9 @@ pub record AllRedacted (most : ℕ) (n : Note) (bytes sizes : List ℕ) (b₀ : 
   pub text_is : b.out ≡ after says (published_by (pairs_of bytes sizes) n).normalized b₀.out
   pub starts_are : b.starts ≡ after says (published_by (pairs_of bytes sizes) n).starts b₀.starts
   pub ends_are : b.ends ≡ after says (published_by (pairs_of bytes sizes) n).ends b₀.ends
-  pub blanked-are : b.blanked ≡ after says (blanked_counts (pairs_of bytes sizes) n) b₀.blanked
-  pub left-are : b.left ≡ after says (left_counts (pairs_of bytes sizes) n) b₀.left
-  pub fillers-are : b.fillers ≡ after says (filler_counts (pairs_of bytes sizes) n) b₀.fillers
+  pub blanked_are : b.blanked ≡ after says (blanked_counts (pairs_of bytes sizes) n) b₀.blanked
+  pub left_are : b.left ≡ after says (left_counts (pairs_of bytes sizes) n) b₀.left
+  pub fillers_are : b.fillers ≡ after says (filler_counts (pairs_of bytes sizes) n) b₀.fillers
 
 -- a literal with a byte occurs at no position of a text
 abbrev pub Unreadable : List ℕ → Pair → Type 0

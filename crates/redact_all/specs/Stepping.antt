@@ -43,7 +43,7 @@ pub record AllStepped (n : Note) (original : List ℕ) (shift size : ℕ) (bytes
   pub is_held : Held size text starts ends
   pub fit : steps_fit limit (pairs_of bytes sizes) n ≡ true
   pub left_is : held original shift size text starts ends ≡ published_by (pairs_of bytes sizes) n
-  pub counts-are : counts ≡ overlay (blanked_counts (pairs_of bytes sizes) n) counts₀
+  pub counts_are : counts ≡ overlay (blanked_counts (pairs_of bytes sizes) n) counts₀
 
 -- or one does not
 unfoldable pub StepsTaken : Note → List ℕ → ℕ → List ℕ → List ℕ → List ℕ
@@ -57,17 +57,17 @@ StepsTaken n original shift bytes sizes counts₀ Short text starts ends counts 
 pub record Tellable (normalized bytes sizes text starts ends counts out starts₀ ends₀ blanked left fillers : List ℕ)
     : Type 0 where
   pub normalized_short : length normalized ≤ limit
-  pub text-short : length text ≤ limit
+  pub text_short : length text ≤ limit
   pub even : even_words bytes sizes ≡ true
   pub starts_long : length starts ≡ length text
   pub ends_long : length ends ≡ length text
   pub counts_long : length counts ≡ length sizes / 2
-  pub out-room : length text ≤ length out
+  pub out_room : length text ≤ length out
   pub starts_room : length text ≤ length starts₀
   pub ends_room : length text ≤ length ends₀
-  pub blanked-room : length sizes / 2 ≤ length blanked
-  pub left-room : length sizes / 2 ≤ length left
-  pub fillers-room : length sizes / 2 ≤ length fillers
+  pub blanked_room : length sizes / 2 ≤ length blanked
+  pub left_room : length sizes / 2 ≤ length left
+  pub fillers_room : length sizes / 2 ≤ length fillers
 
 -- the report of it
 abbrev pub reported : List ℕ → List ℕ → List ℕ → List ℕ → List ℕ → Report
@@ -86,6 +86,6 @@ pub record Told (normalized bytes sizes text starts ends counts : List ℕ) (b�
   pub text_is : b.out ≡ overlay text b₀.out
   pub starts_are : b.starts ≡ overlay starts b₀.starts
   pub ends_are : b.ends ≡ overlay ends b₀.ends
-  pub blanked-are : b.blanked ≡ overlay counts b₀.blanked
-  pub left-are : b.left ≡ overlay (word_counts Literal text (pairs_of bytes sizes)) b₀.left
-  pub fillers-are : b.fillers ≡ overlay (word_counts Filler normalized (pairs_of bytes sizes)) b₀.fillers
+  pub blanked_are : b.blanked ≡ overlay counts b₀.blanked
+  pub left_are : b.left ≡ overlay (word_counts Literal text (pairs_of bytes sizes)) b₀.left
+  pub fillers_are : b.fillers ≡ overlay (word_counts Filler normalized (pairs_of bytes sizes)) b₀.fillers

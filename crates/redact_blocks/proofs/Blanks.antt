@@ -112,7 +112,7 @@ onward-run {fill} {text} {literal} {xs} {i} {at} {d} {i₁} {at₁} {d₁} run {
     }
 
 pub none-blanked : {text literal content : List ℕ} {i at : ℕ} {out starts ends : List ℕ} {at₁ : ℕ} → i ≤ length text → at₁ ≡ at → Blanked text literal content i at out starts ends i at₁ out starts ends
-none-blanked h e = rw e (record { onward = omega arith; inside = h; text-on = onward-none; starts_on = onward-none; ends_on = onward-none })
+none-blanked h e = rw e (record { onward = omega arith; inside = h; text_on = onward-none; starts_on = onward-none; ends_on = onward-none })
 
 module _ {text literal content : List ℕ} {i at : ℕ} {out starts ends : List ℕ} {i₁ at₁ : ℕ} {out₁ starts₁ ends₁ : List ℕ} (r : Blankable text literal content i at out starts ends) (b : Blanked text literal content i at out starts ends i₁ at₁ out₁ starts₁ ends₁) where
   text_size : {j : ℕ} → j ≤ length text → length (result_from (λ end. content) text literal text j) ≡ places_size (length content) (matches_from text literal j)
@@ -126,7 +126,7 @@ module _ {text literal content : List ℕ} {i at : ℕ} {out starts ends : List 
 
   -- what is laid and what is to come are the whole
   pub blanked-size : at₁ + places_size (length content) (matches_from text literal i₁) ≡ at + places_size (length content) (matches_from text literal i)
-  blanked-size = omega (arith, b.text-on.reach, text_size b.inside, text_size r.inside)
+  blanked-size = omega (arith, b.text_on.reach, text_size b.inside, text_size r.inside)
 
   -- past bytes at which the literal does not stand
   module _ (k : ℕ) (a : Absent text literal i₁ (i₁ + k)) where
@@ -142,14 +142,14 @@ module _ {text literal content : List ℕ} {i at : ℕ} {out starts ends : List 
         let on : Blanked text literal content i at out starts ends (i₁ + k) at₂ out₂ starts₂ ends₂ = record {
           onward = omega (arith, b.onward);
           inside = a.most;
-          text-on = onward-run (part text i₁ (i₁ + k)) b.text-on (rest-passed (λ end. content) text literal text r.some a) s.text-over (omega (arith, text_size r.inside)) (omega (arith, length_part text i₁ (i₁ + k) a.most));
+          text_on = onward-run (part text i₁ (i₁ + k)) b.text_on (rest-passed (λ end. content) text literal text r.some a) s.text_over (omega (arith, text_size r.inside)) (omega (arith, length_part text i₁ (i₁ + k) a.most));
           starts_on =
               onward-run (part (starting text).starts i₁ (i₁ + k)) b.starts_on
-              (rest-passed (carried (length content) (starting text).starts) text literal (starting text).starts r.some a) s.starts-over
+              (rest-passed (carried (length content) (starting text).starts) text literal (starting text).starts r.some a) s.starts_over
               (omega (arith, starts_size r.inside)) (omega (arith, length_part (starting text).starts i₁ (i₁ + k) (rw (length-starting-starts text) a.most)));
           ends_on =
               onward-run (part (starting text).ends i₁ (i₁ + k)) b.ends_on
-              (rest-passed (carried (length content) (starting text).ends) text literal (starting text).ends r.some a) s.ends-over
+              (rest-passed (carried (length content) (starting text).ends) text literal (starting text).ends r.some a) s.ends_over
               (omega (arith, ends_size r.inside)) (omega (arith, length_part (starting text).ends i₁ (i₁ + k) (rw (length-starting-ends text) a.most)));
         } in
         rw (sym to) at on
@@ -162,7 +162,7 @@ module _ {text literal content : List ℕ} {i at : ℕ} {out starts ends : List 
         short = r.short;
         onward = omega arith;
         inside = inside;
-        text_room = omega (arith, r.text_room, b.text-on.same);
+        text_room = omega (arith, r.text_room, b.text_on.same);
         starts_room = omega (arith, r.starts_room, b.starts_on.same);
         ends_room = omega (arith, r.ends_room, b.ends_on.same);
       }
@@ -192,12 +192,12 @@ module _ {text literal content : List ℕ} {i at : ℕ} {out starts ends : List 
           some = omega (arith, r.some);
           inside = match-ends;
           long = long;
-          text_room = omega (arith, match-within, r.text_room, b.text-on.same);
+          text_room = omega (arith, match-within, r.text_room, b.text_on.same);
           starts_room = omega (arith, match-within, r.starts_room, b.starts_on.same);
           ends_room = omega (arith, match-within, r.ends_room, b.ends_on.same);
-          text-until = omega (arith, r.text_room, b.text-on.same);
-          starts-until = omega (arith, r.starts_room, b.starts_on.same);
-          ends-until = omega (arith, r.ends_room, b.ends_on.same);
+          text_until = omega (arith, r.text_room, b.text_on.same);
+          starts_until = omega (arith, r.starts_room, b.starts_on.same);
+          ends_until = omega (arith, r.ends_room, b.ends_on.same);
         }
 
     pub more-match : {padded : List ℕ} {until i₂ at₂ : ℕ} {out₂ starts₂ ends₂ : List ℕ} → part padded 0 (length content) ≡ content
@@ -209,14 +209,14 @@ module _ {text literal content : List ℕ} {i at : ℕ} {out starts ends : List 
         let on : Blanked text literal content i at out starts ends (i₁ + length literal) at₂ out₂ starts₂ ends₂ = record {
           onward = omega (arith, b.onward);
           inside = match-ends;
-          text-on = onward-run content b.text-on (rest-matched (λ end. content) text literal text r.some i₁ t) (rw front at l.text-over) (omega (arith, text_size r.inside)) here;
+          text_on = onward-run content b.text_on (rest-matched (λ end. content) text literal text r.some i₁ t) (rw front at l.text_over) (omega (arith, text_size r.inside)) here;
           starts_on =
               onward-run (carried (length content) (starting text).starts (i₁ + length literal)) b.starts_on
-              (rest-matched (carried (length content) (starting text).starts) text literal (starting text).starts r.some i₁ t) l.starts-over
+              (rest-matched (carried (length content) (starting text).starts) text literal (starting text).starts r.some i₁ t) l.starts_over
               (omega (arith, starts_size r.inside)) (here ∙ rw (length-replicate (length content)));
           ends_on =
               onward-run (carried (length content) (starting text).ends (i₁ + length literal)) b.ends_on
-              (rest-matched (carried (length content) (starting text).ends) text literal (starting text).ends r.some i₁ t) l.ends-over
+              (rest-matched (carried (length content) (starting text).ends) text literal (starting text).ends r.some i₁ t) l.ends_over
               (omega (arith, ends_size r.inside)) (here ∙ rw (length-replicate (length content)));
         } in
         rw (sym to) at on
@@ -229,10 +229,10 @@ module _ {text literal content : List ℕ} {i at : ℕ} {out starts ends : List 
     pub block_room : (3 ≤ length text → 3 ≤ i) → {first last : ℕ} → first ≡ get_or literal 0 0 → last ≡ get_or literal (length literal - 1) 0 → SearchBlockRoom text most literal first last i₁ out₁ starts₁ ends₁ at₁
     block_room low f l =
         record {
-          most-is = m.most-is;
+          most_is = m.most_is;
           some = r.some;
           first_is = f;
-          last-is = l;
+          last_is = l;
           room = bytes-room 64 (omega (arith, m.window, r.some)) (omega (arith, block_within));
           low = omega (arith, low (omega (arith, m.window)), b.onward);
           high = omega (arith, m.window, r.some);
@@ -280,7 +280,7 @@ module _ {text literal content : List ℕ} {i at : ℕ} {out starts ends : List 
         some = r.some;
         inside = b.inside;
         within = omega (arith, blanked-size r b, r.within);
-        text_room = omega (arith, blanked-size r b, r.text_room, b.text-on.same);
+        text_room = omega (arith, blanked-size r b, r.text_room, b.text_on.same);
         starts_room = omega (arith, blanked-size r b, r.starts_room, b.starts_on.same);
         ends_room = omega (arith, blanked-size r b, r.ends_room, b.ends_on.same);
       }
@@ -288,9 +288,9 @@ module _ {text literal content : List ℕ} {i at : ℕ} {out starts ends : List 
   pub bounded-on : {most : ℕ} {padded : List ℕ} {margin until : ℕ} → Bounded text most literal content padded i at margin until → Bounded text most literal content padded i₁ at₁ margin until
   bounded-on m =
       record {
-        most-is = m.most-is;
-        padded-is = m.padded-is;
-        padded-long = m.padded-long;
+        most_is = m.most_is;
+        padded_is = m.padded_is;
+        padded_long = m.padded_long;
         window = m.window;
         enough = λ j c inside left below is. omega (arith, m.enough j c inside left below (is ∙ blanked-size r b), blanked-size r b);
       }
@@ -300,7 +300,7 @@ module _ {text literal content : List ℕ} {i at : ℕ} {out starts ends : List 
       record {
         onward = omega (arith, b.onward, n.onward);
         inside = n.inside;
-        text-on = onward-on b.text-on n.text-on;
+        text_on = onward-on b.text_on n.text_on;
         starts_on = onward-on b.starts_on n.starts_on;
         ends_on = onward-on b.ends_on n.ends_on;
       }
@@ -310,7 +310,7 @@ pub all_laid : {text literal content out starts ends : List ℕ} {i at : ℕ} {o
     → AllBlanked text literal content out starts ends at out₁ starts₁ ends₁
 all_laid {text} {literal} {content} {i = i} r b past =
     let end : i ≡ length text = omega (arith, b.inside) in
-    let t = onward-all (rest_ended (λ end. content) text literal text r.some end) (omega (arith, text_size r b r.inside, r.text_room)) b.text-on in
+    let t = onward-all (rest_ended (λ end. content) text literal text r.some end) (omega (arith, text_size r b r.inside, r.text_room)) b.text_on in
     record {
       reached = t.0;
       text_is = t.1;

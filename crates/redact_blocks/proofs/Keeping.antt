@@ -84,9 +84,9 @@ module _ {text : List ℕ} {i : ℕ} {out starts ends : List ℕ} {at : ℕ} whe
   byte-laid r b s e =
       let here : i < length text = omega (arith, r.inside) in
       record {
-        text-over = over-one text out i at 0 here (omega (arith, r.text_room)) b;
-        starts-over = over-one (column (length text) (char_start text)) starts i at 0 (rw (length-column (length text) (char_start text)) here) (omega (arith, r.starts_room)) (s ∙ sym (getD-column (length text) (char_start text) i here));
-        ends-over = over-one (column (length text) (char_end text)) ends i at 0 (rw (length-column (length text) (char_end text)) here) (omega (arith, r.ends_room)) (e ∙ sym (getD-column (length text) (char_end text) i here));
+        text_over = over-one text out i at 0 here (omega (arith, r.text_room)) b;
+        starts_over = over-one (column (length text) (char_start text)) starts i at 0 (rw (length-column (length text) (char_start text)) here) (omega (arith, r.starts_room)) (s ∙ sym (getD-column (length text) (char_start text) i here));
+        ends_over = over-one (column (length text) (char_end text)) ends i at 0 (rw (length-column (length text) (char_end text)) here) (omega (arith, r.ends_room)) (e ∙ sym (getD-column (length text) (char_end text) i here));
       }
 
   pub block-laid : StretchRoom text i (i + 64) out starts ends at → {out₁ starts₁ ends₁ : List ℕ} → out₁ ≡ splice out at (part text i (i + 64))
@@ -95,9 +95,9 @@ module _ {text : List ℕ} {i : ℕ} {out starts ends : List ℕ} {at : ℕ} whe
   unfolding starting
   block-laid r b s e =
       record {
-        text-over = over-exact (part text i (i + 64)) out at 0 (omega (arith, r.text_room, length_part text i (i + 64) r.inside)) b;
-        starts-over = filled-over (length text) (char_start text) i 64 starts at 0 s r.inside (omega (arith, r.starts_room));
-        ends-over = filled-over (length text) (char_end text) i 64 ends at 0 e r.inside (omega (arith, r.ends_room));
+        text_over = over-exact (part text i (i + 64)) out at 0 (omega (arith, r.text_room, length_part text i (i + 64) r.inside)) b;
+        starts_over = filled-over (length text) (char_start text) i 64 starts at 0 s r.inside (omega (arith, r.starts_room));
+        ends_over = filled-over (length text) (char_end text) i 64 ends at 0 e r.inside (omega (arith, r.ends_room));
       }
 
 -- of a text of bytes below 80 the numbers count up
@@ -144,9 +144,9 @@ stretch-none {text} {i} {out} {starts} {ends} {at} {until} =
     let z : i + 0 ≡ i = omega arith in
     rw z
     (record {
-      text-over = over_none text out i at until;
-      starts-over = over_none (starting text).starts starts i at until;
-      ends-over = over_none (starting text).ends ends i at until;
+      text_over = over_none text out i at until;
+      starts_over = over_none (starting text).starts starts i at until;
+      ends_over = over_none (starting text).ends ends i at until;
     })
 
 over-part : (xs : List ℕ) (i n k : ℕ) {d₀ d : List ℕ} {at : ℕ} → k ≤ n → i + n ≤ length xs → at ≤ length d₀ → Over (part xs i (i + n)) d₀ at 0 d → Over (part xs i (i + k)) d₀ at (at + n) d
@@ -161,9 +161,9 @@ pub stretch-front : {text : List ℕ} {i : ℕ} {out₀ starts₀ ends₀ : List
     → Stretch text i (i + k) out₀ starts₀ ends₀ at (at + 64) out starts ends
 stretch-front {text} {i} k few r s =
     record {
-      text-over = over-part text i 64 k few r.inside (omega (arith, r.text_room)) s.text-over;
-      starts-over = over-part (starting text).starts i 64 k few (rw (length-starting-starts text) r.inside) (omega (arith, r.starts_room)) s.starts-over;
-      ends-over = over-part (starting text).ends i 64 k few (rw (length-starting-ends text) r.inside) (omega (arith, r.ends_room)) s.ends-over;
+      text_over = over-part text i 64 k few r.inside (omega (arith, r.text_room)) s.text_over;
+      starts_over = over-part (starting text).starts i 64 k few (rw (length-starting-starts text) r.inside) (omega (arith, r.starts_room)) s.starts_over;
+      ends_over = over-part (starting text).ends i 64 k few (rw (length-starting-ends text) r.inside) (omega (arith, r.ends_room)) s.ends_over;
     }
 
 -- a content, each byte of which carries the range of the byte before the match's end
@@ -176,9 +176,9 @@ unfolding starting
 padded-laid {text} {end} r p q t s e =
     let last : end - 1 < length text = omega (arith, r.some, r.inside) in
     record {
-      text-over = t;
-      starts-over = rw (before-some (column (length text) (char_start text)) end r.some, getD-column (length text) (char_start text) (end - 1) last) (rw p at s);
-      ends-over = rw (before-some (column (length text) (char_end text)) end r.some, getD-column (length text) (char_end text) (end - 1) last) (rw q at e);
+      text_over = t;
+      starts_over = rw (before-some (column (length text) (char_start text)) end r.some, getD-column (length text) (char_start text) (end - 1) last) (rw p at s);
+      ends_over = rw (before-some (column (length text) (char_end text)) end r.some, getD-column (length text) (char_end text) (end - 1) last) (rw q at e);
     }
 
 pub padded-exact : {text : List ℕ} {end : ℕ} {content : List ℕ} {out starts ends : List ℕ} {at : ℕ}

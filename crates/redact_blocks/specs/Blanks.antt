@@ -43,7 +43,7 @@ pub record Blanked (text literal content : List ℕ) (i at : ℕ) (out starts en
     (out₁ starts₁ ends₁ : List ℕ) : Type 0 where
   pub onward : i ≤ i₁
   pub inside : i₁ ≤ length text
-  pub text-on : Onward (λ end. content) text literal text i at out i₁ at₁ out₁
+  pub text_on : Onward (λ end. content) text literal text i at out i₁ at₁ out₁
   pub starts_on :
       Onward (carried (length content) (starting text).starts) text literal (starting text).starts
       i at starts i₁ at₁ starts₁
@@ -55,9 +55,9 @@ pub record Blanked (text literal content : List ℕ) (i at : ℕ) (out starts en
 -- says, and 80 elements end below `until`, the result has them
 pub record Bounded (text : List ℕ) (most : ℕ) (literal content padded : List ℕ) (i at margin until : ℕ)
     : Type 0 where
-  pub most-is : largest text ≤ most
-  pub padded-is : part padded 0 (length content) ≡ content
-  pub padded-long : length content ≤ length padded
+  pub most_is : largest text ≤ most
+  pub padded_is : part padded 0 (length content) ≡ content
+  pub padded_long : length content ≤ length padded
   pub window : length literal + 80 ≤ margin
   pub enough :
       (j b : ℕ) → j ≤ length text → margin ≤ length text - j → b + 80 ≤ until
@@ -80,10 +80,10 @@ pub record FrontAt (text literal front : List ℕ) (p : ℕ) : Type 0 where
 -- a block of 64 from i on, with the bytes that it is searched and counted by
 pub record SearchBlockRoom (text : List ℕ) (most : ℕ) (literal : List ℕ) (first last i : ℕ) (out starts ends : List ℕ)
     (at : ℕ) : Type 0 where
-  pub most-is : largest text ≤ most
+  pub most_is : largest text ≤ most
   pub some : 0 < length literal
   pub first_is : first ≡ get_or literal 0 0
-  pub last-is : last ≡ get_or literal (length literal - 1) 0
+  pub last_is : last ≡ get_or literal (length literal - 1) 0
   pub room : StretchRoom text i (i + 64) out starts ends at
   pub low : 3 ≤ i
   pub high : i + length literal + 66 ≤ length text

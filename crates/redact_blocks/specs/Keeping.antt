@@ -20,9 +20,9 @@ pub record StretchRoom (text : List ℕ) (from to : ℕ) (out starts ends : List
 -- it is laid there; after it, and from `until` on, the buffers are as they were
 pub record Stretch (text : List ℕ) (from to : ℕ) (out₀ starts₀ ends₀ : List ℕ) (at until : ℕ)
     (out starts ends : List ℕ) : Type 0 where
-  pub text-over : Over (part text from to) out₀ at until out
-  pub starts-over : Over (part (starting text).starts from to) starts₀ at until starts
-  pub ends-over : Over (part (starting text).ends from to) ends₀ at until ends
+  pub text_over : Over (part text from to) out₀ at until out
+  pub starts_over : Over (part (starting text).starts from to) starts₀ at until starts
+  pub ends_over : Over (part (starting text).ends from to) ends₀ at until ends
 
 -- a content of `contentLen` bytes in the place of a match that ends at `end`, and room for it
 pub record ContentRoom (text : List ℕ) (end : ℕ) (padded : List ℕ) (content_len until : ℕ) (out starts ends : List ℕ)
@@ -35,12 +35,12 @@ pub record ContentRoom (text : List ℕ) (end : ℕ) (padded : List ℕ) (conten
   pub text_room : at + content_len ≤ length out
   pub starts_room : at + content_len ≤ length starts
   pub ends_room : at + content_len ≤ length ends
-  pub text-until : until ≤ length out
-  pub starts-until : until ≤ length starts
-  pub ends-until : until ≤ length ends
+  pub text_until : until ≤ length out
+  pub starts_until : until ≤ length starts
+  pub ends_until : until ≤ length ends
 
 pub record ContentLaid (text : List ℕ) (end : ℕ) (padded : List ℕ) (content_len : ℕ) (out₀ starts₀ ends₀ : List ℕ)
     (at until : ℕ) (out starts ends : List ℕ) : Type 0 where
-  pub text-over : Over (part padded 0 content_len) out₀ at until out
-  pub starts-over : Over (carried content_len (starting text).starts end) starts₀ at until starts
-  pub ends-over : Over (carried content_len (starting text).ends end) ends₀ at until ends
+  pub text_over : Over (part padded 0 content_len) out₀ at until out
+  pub starts_over : Over (carried content_len (starting text).starts end) starts₀ at until starts
+  pub ends_over : Over (carried content_len (starting text).ends end) ends₀ at until ends

@@ -22,7 +22,7 @@ pub record InPlace (original : List ℕ) (shift size : ℕ) (literal content tex
     (text starts ends : List ℕ) : Type 0 where
   pub list₀ : List ℕ
   pub list : List ℕ
-  pub list-room : length list₀ ≡ room_for (2 * limit + 1)
+  pub list_room : length list₀ ≡ room_for (2 * limit + 1)
   pub call :
       NoteRedacted limit (held original shift size text₀ starts₀ ends₀) literal content list₀ text₀ starts₀ ends₀ r
       list text starts ends

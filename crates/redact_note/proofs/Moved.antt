@@ -79,7 +79,7 @@ module _ {n : Note} {literal content list₀ out₀ starts₀ ends₀ : List ℕ
         says = known.says;
         says_is = known.says_is ∙ rw (t, s, e);
         answer = known.answer;
-        list-is = known.list-is;
+        list_is = known.list_is;
         text_is = ts;
         starts_are = ss;
         ends_are = es;

@@ -158,7 +158,7 @@ module _ (text literal list₀ : List ℕ) {list : List ℕ} {r : ℕ} (w : (r �
   list-ready h = rw list-front h
 
   pub list-blanked : {starts ends content out₀ starts₀ ends₀ out starts₁ ends₁ : List ℕ} {size : ℕ} → AllLaid text starts ends (take r list) content out₀ starts₀ ends₀ size out starts₁ ends₁ → NoteBlanked text starts ends literal content list₀ out₀ starts₀ ends₀ size list out starts₁ ends₁
-  list-blanked h = record { list-is = w.1; laid = rw list-front at h }
+  list-blanked h = record { list_is = w.1; laid = rw list-front at h }
 
 -- the call
 module _ (n : Note) (literal content list₀ out₀ starts₀ ends₀ : List ℕ) {room : ℕ} (rooms : room ≡ least (length out₀) (length starts₀) (length ends₀)) where
@@ -168,14 +168,14 @@ module _ (n : Note) (literal content list₀ out₀ starts₀ ends₀ : List ℕ
   -- a refusal leaves every buffer
   pub refused_all : {k : Refusal} → Rejected k ≡ verdict (note_redact_faults limit n literal content (length list₀) room) → NoteRedacted limit n literal content list₀ out₀ starts₀ ends₀ (Refused k) list₀ out₀ starts₀ ends₀
   refused_all {k} is =
-      record { says = Rejected k; says_is = all-rooms is; answer = refl; list-is = refl; text_is = refl; starts_are = refl; ends_are = refl }
+      record { says = Rejected k; says_is = all-rooms is; answer = refl; list_is = refl; text_is = refl; starts_are = refl; ends_are = refl }
 
   module _ (ok : Accepted ≡ verdict (note_redact_faults limit n literal content (length list₀) room)) where
     pub all-blankable : {first : ℕ} → first ≡ first_match n.normalized literal → NoteBlankable n.normalized n.starts n.ends literal content first list₀ out₀ starts₀ ends₀
     all-blankable is =
         record {
           searchable = record { short = (all-formed n literal content (length list₀) room ok).short; first_is = is };
-          list-room = list-fits n literal content (length list₀) room ok;
+          list_room = list-fits n literal content (length list₀) room ok;
           ready = ready limit n (found_bytes n.normalized literal) content out₀ starts₀ ends₀ rooms refl
               (ap (λ (v : Verdict). publication v (places_size (length content) (places_of (found_bytes n.normalized literal)))) (replaces n literal content (length list₀) room ok));
         }
@@ -190,7 +190,7 @@ module _ (n : Note) (literal content list₀ out₀ starts₀ ends₀ : List ℕ
           says = Accepted;
           says_is = all-rooms ok;
           answer = rw (sized, counted);
-          list-is = h.list-is;
+          list_is = h.list_is;
           text_is = h.laid.text_is;
           starts_are = h.laid.starts_are;
           ends_are = h.laid.ends_are;

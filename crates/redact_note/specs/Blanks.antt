@@ -33,11 +33,11 @@ pub record Searchable (text literal : List ℕ) (first : ℕ) : Type 0 where
 pub record NoteBlankable (text starts ends literal content : List ℕ) (first : ℕ) (list out starts₀ ends₀ : List ℕ)
     : Type 0 where
   pub searchable : Searchable text literal first
-  pub list-room : length (found_bytes text literal) ≤ length list
+  pub list_room : length (found_bytes text literal) ≤ length list
   pub ready : Ready text starts ends (found_bytes text literal) content out starts₀ ends₀
 
 -- list and result are in front of the passed buffers
 pub record NoteBlanked (text starts ends literal content list₀ out₀ starts₀ ends₀ : List ℕ) (r : ℕ)
     (list out starts₁ ends₁ : List ℕ) : Type 0 where
-  pub list-is : list ≡ overlay (found_bytes text literal) list₀
+  pub list_is : list ≡ overlay (found_bytes text literal) list₀
   pub laid : AllLaid text starts ends (found_bytes text literal) content out₀ starts₀ ends₀ r out starts₁ ends₁

@@ -49,7 +49,7 @@ pub record NoteRedacted (most : ℕ) (n : Note) (literal content list₀ out₀ 
   pub answer :
       r ≡ unless_refused Refused says
       (Published (length (blanked_note n literal content).text) (match_count (found_places n.normalized literal)))
-  pub list-is : list ≡ after says (found_bytes n.normalized literal) list₀
+  pub list_is : list ≡ after says (found_bytes n.normalized literal) list₀
   pub text_is : out ≡ after says (blanked_note n literal content).text out₀
   pub starts_are : starts ≡ after says (blanked_note n literal content).starts starts₀
   pub ends_are : ends ≡ after says (blanked_note n literal content).ends ends₀

@@ -196,8 +196,8 @@ module _ (most : ℕ) (original text starts ends : List ℕ) (shift : ℕ) (list
         text_is = refl;
         starts_are = refl;
         ends_are = refl;
-        first-left = record { text_left = refl; starts_left = refl; ends_left = refl };
-        second-left = record { text_left = refl; starts_left = refl; ends_left = refl };
+        first_left = record { text_left = refl; starts_left = refl; ends_left = refl };
+        second_left = record { text_left = refl; starts_left = refl; ends_left = refl };
       }
 
   module _ {size : ℕ} (e : r ≡ Published size) where
@@ -237,6 +237,6 @@ module _ (most : ℕ) (original text starts ends : List ℕ) (shift : ℕ) (list
           text_is = rw dressed l.laid.text_is;
           starts_are = rw dressed l.laid.starts_are;
           ends_are = rw dressed l.laid.ends_are;
-          first-left = l.rooms.first_same;
-          second-left = l.rooms.second_same;
+          first_left = l.rooms.first_same;
+          second_left = l.rooms.second_same;
         }

@@ -62,8 +62,8 @@ pub record ReplacingByEdits (most : ℕ) (n : Note) (list content out₀ starts�
   pub text_is : out ≡ after says (road_back (places_of list) content n).normalized out₀
   pub starts_are : starts ≡ after says (road_back (places_of list) content n).starts starts₀
   pub ends_are : ends ≡ after says (road_back (places_of list) content n).ends ends₀
-  pub first-left : ScratchLeft says a₀ a
-  pub second-left : ScratchLeft says b₀ b
+  pub first_left : ScratchLeft says a₀ a
+  pub second_left : ScratchLeft says b₀ b
 
 -- CLAIM: two calls with the same note, list, content and buffers, one by this road with scratch that is large enough,
 -- and one of replacing: they give the same answer, the same refusal too, and leave the same in the three buffers.

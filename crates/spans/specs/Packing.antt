@@ -63,7 +63,7 @@ pub record Unpacked (spans starts₀ ends₀ starts ends : List ℕ) : Type 0 wh
 -- room for a list's pieces in three columns
 pub record SpansRoom (most : ℕ) (list : List ℕ) (behavior : SplitDelimiterBehavior) (empty : EmptyPieces)
     (spans starts ends : List ℕ) : Type 0 where
-  pub packed-room : PackedRoom most list behavior empty spans
+  pub packed_room : PackedRoom most list behavior empty spans
   pub starts_room : length (list_pieces behavior empty list) ≤ length starts
   pub ends_room : length (list_pieces behavior empty list) ≤ length ends
 

@@ -144,13 +144,13 @@ module _ (n : Note) (sound : Sound n) where
       ∙ omega (arith, length-joined column one ps (spans-rest s), length-lowered (from_start n.starts p.start.0 p.end.0) (part column p.start.0 p.end.0), length_part column p.start.0 p.end.0 (omega (arith, (spans-first s).most)))
 
   module _ (ps : List Place) (s : PieceSpans (length n.normalized) (starts_of ps) (ends_of ps)) where
-    pub shifts-are : (cut n ps).shifts ≡ end_to_end (shift_of n.starts n.original_shift) (starts_of ps) (ends_of ps)
+    pub shifts_are : (cut n ps).shifts ≡ end_to_end (shift_of n.starts n.original_shift) (starts_of ps) (ends_of ps)
     unfolding cut
-    shifts-are = shifts-joined ps s
+    shifts_are = shifts-joined ps s
 
-    pub lengths-are : (cut n ps).lengths ≡ end_to_end (length_of n.starts n.ends) (starts_of ps) (ends_of ps)
+    pub lengths_are : (cut n ps).lengths ≡ end_to_end (length_of n.starts n.ends) (starts_of ps) (ends_of ps)
     unfolding cut
-    lengths-are = lengths-joined ps s
+    lengths_are = lengths-joined ps s
 
     pub alignment-starts-are : (cut n ps).alignment_starts ≡ end_to_end (lowered_column n.starts n.starts) (starts_of ps) (ends_of ps)
     unfolding cut

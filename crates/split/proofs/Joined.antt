@@ -182,8 +182,8 @@ module _ {most : ℕ} {starts ends from to : List ℕ} {shift until : ℕ} {shif
   pub none-gone : AllGoing starts ends from to shift shifts₀ lengths₀ out_starts₀ out_ends₀ 0 0 shifts₀ lengths₀ out_starts₀ out_ends₀
   none-gone =
       record {
-        shifts_on = none-shifted r.shifts-room;
-        lengths_on = none-measured r.lengths-room;
+        shifts_on = none-shifted r.shifts_room;
+        lengths_on = none-measured r.lengths_room;
         starts_on = none_going _ _ _ _ r.starts_room.room;
         ends_on = none_going _ _ _ _ r.ends_room.room;
       }
@@ -192,7 +192,7 @@ module _ {most : ℕ} {starts ends from to : List ℕ} {shift until : ℕ} {shif
     pub piece-room : k < length from → {start : ℕ} → start ≡ from_start starts (get_or from k 0) (get_or to k 0) → BothRoom starts ends (get_or from k 0) (get_or to k 0) start out_starts out_ends at until
     piece-room h is =
         record {
-          one_end = r.lengths-room.one_end;
+          one_end = r.lengths_room.one_end;
           starts_room = stretch-room r.starts_room g.starts_on h is;
           ends_room = stretch-room r.ends_room g.ends_on h is;
         }
@@ -202,8 +202,8 @@ module _ {most : ℕ} {starts ends from to : List ℕ} {shift until : ℕ} {shif
         → AllGoing starts ends from to shift shifts₀ lengths₀ out_starts₀ out_ends₀ (at + (get_or to k 0 - get_or from k 0)) (k + 1) (set shifts k (shift + start)) (set lengths k (end - start)) out_starts₁ out_ends₁
     next-gone h start end laid =
         record {
-          shifts_on = next-shifted r.shifts-room g.shifts_on h start;
-          lengths_on = next-measured r.lengths-room g.lengths_on h end start;
+          shifts_on = next-shifted r.shifts_room g.shifts_on h start;
+          lengths_on = next-measured r.lengths_room g.lengths_on h end start;
           starts_on = next-stretch r.starts_room g.starts_on h start laid.0;
           ends_on = next-stretch r.ends_room g.ends_on h start laid.1;
         }
@@ -211,8 +211,8 @@ module _ {most : ℕ} {starts ends from to : List ℕ} {shift until : ℕ} {shif
     pub all_laid : length from ≤ k → ColumnsLaid starts ends from to shift shifts₀ lengths₀ out_starts₀ out_ends₀ shifts lengths out_starts out_ends
     all_laid done =
         record {
-          shifts-are = all-gone _ g.shifts_on done;
-          lengths-are = all-gone _ g.lengths_on done;
+          shifts_are = all-gone _ g.shifts_on done;
+          lengths_are = all-gone _ g.lengths_on done;
           starts_are = all-gone _ g.starts_on done;
           ends_are = all-gone _ g.ends_on done;
         }

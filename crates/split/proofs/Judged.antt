@@ -35,7 +35,7 @@ use Rattle.split.specs.declared.Pieces.TheVariants.{Cut, Refused}
 use Rattle.split.specs.Splitting.{PieceColumns, cut_by, split_faults, cut_sizes, piece_room, alignment_room, Splitting}
 use Rattle.split.specs.PieceSlices.{bytes_before}
 use Rattle.split.specs.Writing.{PieceSpans, ColumnsRoom, ColumnsLaid, Countable, CutInto}
-use Rattle.split.proofs.Cuts.{pieces-spans, pieces-short, bytes_counted, in_order, starts-above, ends_above, shifts-are, lengths-are, alignment-starts-are, alignment-ends-are, starts_long, ends_long, alignments-long, starts_are, ends_are, pieces-long, shifts-long}
+use Rattle.split.proofs.Cuts.{pieces-spans, pieces-short, bytes_counted, in_order, starts-above, ends_above, shifts_are, lengths_are, alignment-starts-are, alignment-ends-are, starts_long, ends_long, alignments-long, starts_are, ends_are, pieces-long, shifts-long}
 
 -- the list, then the two rooms
 module _ (text list : List ℕ) (pieces alignments for_pieces for_alignments : ℕ) where
@@ -192,7 +192,7 @@ module _ (most : ℕ) (n : Note) (list : List ℕ) (b : SplitDelimiterBehavior) 
   pub spans-room : SpansRoom most list b e c.shifts c.starts c.ends
   spans-room =
       record {
-        packed-room = record {
+        packed_room = record {
           listed = record { text = n.normalized; short = (cut_short most n list b e (piece_room c) (alignment_room c) ok).normalized_short; covered = cut-covered most n list b e (piece_room c) (alignment_room c) ok };
           unbroken = cut-unbroken most n list b e (piece_room c) (alignment_room c) ok;
           room = omega (arith, fit);
@@ -243,12 +243,12 @@ module _ (most : ℕ) (n : Note) (list : List ℕ) (b : SplitDelimiterBehavior) 
       columns-room =
           rw (from_is, to_is)
           (record {
-            shifts-room = record {
+            shifts_room = record {
               spans = spans-of;
               low = (cut_short most n list b e (piece_room c) (alignment_room c) ok).shift_low;
               room = omega (arith, fit, starts-count, l.reach, packings-long);
             };
-            lengths-room = record {
+            lengths_room = record {
               spans = spans-of;
               one_end = length-ends n good ∙ sym (length-starts n good);
               ordered = λ k h. in_order n good _ _ (inside.each k h);
@@ -280,8 +280,8 @@ module _ (most : ℕ) (n : Note) (list : List ℕ) (b : SplitDelimiterBehavior) 
             answer = λ i. Cut (counts i) (bytes i);
             starts_are = l.starts_are ∙ rw (starts_are n ps);
             ends_are = l.ends_are ∙ rw (ends_are n ps);
-            shifts-are = w.shifts-are ∙ rw (from_is, to_is, shifts-are n good ps inside, l.spans_are) (overlay-overlay _ (packed_of ps) c.shifts (ap length (sym (shifts-are n good ps inside)) ∙ shifts-long n ps packed_span));
-            lengths-are = w.lengths-are ∙ rw (from_is, to_is, lengths-are n good ps inside);
+            shifts_are = w.shifts_are ∙ rw (from_is, to_is, shifts_are n good ps inside, l.spans_are) (overlay-overlay _ (packed_of ps) c.shifts (ap length (sym (shifts_are n good ps inside)) ∙ shifts-long n ps packed_span));
+            lengths_are = w.lengths_are ∙ rw (from_is, to_is, lengths_are n good ps inside);
             alignment-starts-are = w.starts_are ∙ rw (from_is, to_is, alignment-starts-are n good ps inside);
             alignment-ends-are = w.ends_are ∙ rw (from_is, to_is, alignment-ends-are n good ps inside);
           }
@@ -308,8 +308,8 @@ module _ (most : ℕ) (n : Note) (list : List ℕ) (b : SplitDelimiterBehavior) 
         answer = refl;
         starts_are = refl;
         ends_are = refl;
-        shifts-are = refl;
-        lengths-are = refl;
+        shifts_are = refl;
+        lengths_are = refl;
         alignment-starts-are = refl;
         alignment-ends-are = refl;
       }
@@ -326,8 +326,8 @@ module _ (most : ℕ) (n : Note) (list : List ℕ) (b : SplitDelimiterBehavior) 
           answer = w.answer;
           starts_are = w.starts_are;
           ends_are = w.ends_are;
-          shifts-are = w.shifts-are;
-          lengths-are = w.lengths-are;
+          shifts_are = w.shifts_are;
+          lengths_are = w.lengths_are;
           alignment-starts-are = w.alignment-starts-are;
           alignment-ends-are = w.alignment-ends-are;
         }

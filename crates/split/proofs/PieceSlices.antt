@@ -186,11 +186,11 @@ module _ (most : ℕ) (n : Note) (list : List ℕ) (b : SplitDelimiterBehavior) 
 
   shifts-now : c.shifts ≡ overlay (map (λ p. (piece_of n p).original_shift) all) c₀.shifts
   unfolding cut
-  shifts-now = after-told _ _ accepts call.shifts-are
+  shifts-now = after-told _ _ accepts call.shifts_are
 
   lengths-now : c.lengths ≡ overlay (map (λ p. original_length (piece_of n p)) all) c₀.lengths
   unfolding cut
-  lengths-now = after-told _ _ accepts call.lengths-are
+  lengths-now = after-told _ _ accepts call.lengths_are
 
   alignment-starts-now : c.alignment_starts ≡ overlay (flat_map (λ p. sliced_column (piece_of n p) n.starts) all) c₀.alignment_starts
   unfolding cut
@@ -243,14 +243,14 @@ module _ (most : ℕ) (n : Note) (list : List ℕ) (b : SplitDelimiterBehavior) 
         record {
           slice = sliced n (in_normalized (get_or c.starts k 0) (get_or c.ends k 0));
           answer = slice-told taken w.answer;
-          is-piece =
+          is_piece =
               record {
                 start_is = start-own n good _ _ in_text;
                 end_is = end-own n good _ _ in_text;
                 shift_is =
                     ap (λ (s : NoteSlice). s.original_shift) the-slice ∙ shift-at n good all k (omega (arith, counted))
                     ∙ sym (ap (λ (xs : List ℕ). get_or xs k 0) shifts-now ∙ getD-overlay _ c₀.shifts k (omega (arith, counted, length-map all (λ (p : Place). (piece_of n p).original_shift))));
-                length-is =
+                length_is =
                     ap original_length the-slice ∙ length_at n good all k (omega (arith, counted))
                     ∙ sym (ap (λ (xs : List ℕ). get_or xs k 0) lengths-now ∙ getD-overlay _ c₀.lengths k (omega (arith, counted, length-map all (λ (p : Place). original_length (piece_of n p)))));
                 starts_are = after-told _ _ taken w.starts_are ∙ ap (λ (x : List ℕ). overlay x starts₀) (ap (λ (s : NoteSlice). sliced_column s n.starts) the-slice ∙ sym stretch-starts);

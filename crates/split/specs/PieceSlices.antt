@@ -30,7 +30,7 @@ pub record IsPiece (c : PieceColumns) (k : ℕ) (starts₀ ends₀ : List ℕ) (
   pub start_is : normalized_start_of s ≡ get_or c.starts k 0
   pub end_is : normalized_end_of s ≡ get_or c.ends k 0
   pub shift_is : s.original_shift ≡ get_or c.shifts k 0
-  pub length-is : original_length s ≡ get_or c.lengths k 0
+  pub length_is : original_length s ≡ get_or c.lengths k 0
   pub starts_are : starts ≡ overlay (stretch_of c k c.alignment_starts) starts₀
   pub ends_are : ends ≡ overlay (stretch_of c k c.alignment_ends) ends₀
 
@@ -39,7 +39,7 @@ pub record Answers (c : PieceColumns) (k : ℕ) (starts₀ ends₀ : List ℕ) (
     (starts ends : List ℕ) : Type 0 where
   pub slice : NoteSlice
   pub answer : r ≡ Slice slice
-  pub is-piece : IsPiece c k starts₀ ends₀ slice starts ends
+  pub is_piece : IsPiece c k starts₀ ends₀ slice starts ends
 
 -- CLAIM: take a call of `split` that cut a note, and any of its pieces. A call of `slice` on the note, with the piece's
 -- cleaned range and columns that have room for it, is accepted, and answers and writes that very piece.

@@ -88,8 +88,8 @@ pub record Splitting (most : ℕ) (n : Note) (list : List ℕ) (behavior : Split
   pub answer : r ≡ unless_refused Refused says (cut_sizes (cut_by n list behavior empty))
   pub starts_are : c.starts ≡ after says (cut_by n list behavior empty).starts c₀.starts
   pub ends_are : c.ends ≡ after says (cut_by n list behavior empty).ends c₀.ends
-  pub shifts-are : c.shifts ≡ after says (cut_by n list behavior empty).shifts c₀.shifts
-  pub lengths-are : c.lengths ≡ after says (cut_by n list behavior empty).lengths c₀.lengths
+  pub shifts_are : c.shifts ≡ after says (cut_by n list behavior empty).shifts c₀.shifts
+  pub lengths_are : c.lengths ≡ after says (cut_by n list behavior empty).lengths c₀.lengths
   pub alignment-starts-are :
       c.alignment_starts ≡ after says (cut_by n list behavior empty).alignment_starts c₀.alignment_starts
   pub alignment-ends-are :

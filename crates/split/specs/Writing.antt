@@ -66,15 +66,15 @@ pub record PieceColumnRoom (starts column from to : List ℕ) (until : ℕ) (out
 -- room for all that pieces give beside their starts and ends, and that is there
 pub record ColumnsRoom (most : ℕ) (starts ends from to : List ℕ) (shift until : ℕ)
     (shifts lengths out_starts out_ends : List ℕ) : Type 0 where
-  pub shifts-room : ShiftsRoom most starts from to shift shifts
-  pub lengths-room : LengthsRoom starts ends from to lengths
+  pub shifts_room : ShiftsRoom most starts from to shift shifts
+  pub lengths_room : LengthsRoom starts ends from to lengths
   pub starts_room : PieceColumnRoom starts starts from to until out_starts
   pub ends_room : PieceColumnRoom starts ends from to until out_ends
 
 pub record ColumnsLaid (starts ends from to : List ℕ) (shift : ℕ) (shifts₀ lengths₀ out_starts₀ out_ends₀ : List ℕ)
     (shifts lengths out_starts out_ends : List ℕ) : Type 0 where
-  pub shifts-are : shifts ≡ overlay (end_to_end (shift_of starts shift) from to) shifts₀
-  pub lengths-are : lengths ≡ overlay (end_to_end (length_of starts ends) from to) lengths₀
+  pub shifts_are : shifts ≡ overlay (end_to_end (shift_of starts shift) from to) shifts₀
+  pub lengths_are : lengths ≡ overlay (end_to_end (length_of starts ends) from to) lengths₀
   pub starts_are : out_starts ≡ overlay (end_to_end (lowered_column starts starts) from to) out_starts₀
   pub ends_are : out_ends ≡ overlay (end_to_end (lowered_column starts ends) from to) out_ends₀
 
@@ -115,8 +115,8 @@ pub record CutInto (n : Note) (list : List ℕ) (behavior : SplitDelimiterBehavi
   pub answer : r ≡ cut_sizes (cut_by n list behavior empty)
   pub starts_are : c.starts ≡ overlay (cut_by n list behavior empty).starts c₀.starts
   pub ends_are : c.ends ≡ overlay (cut_by n list behavior empty).ends c₀.ends
-  pub shifts-are : c.shifts ≡ overlay (cut_by n list behavior empty).shifts c₀.shifts
-  pub lengths-are : c.lengths ≡ overlay (cut_by n list behavior empty).lengths c₀.lengths
+  pub shifts_are : c.shifts ≡ overlay (cut_by n list behavior empty).shifts c₀.shifts
+  pub lengths_are : c.lengths ≡ overlay (cut_by n list behavior empty).lengths c₀.lengths
   pub alignment-starts-are :
       c.alignment_starts ≡ overlay (cut_by n list behavior empty).alignment_starts c₀.alignment_starts
   pub alignment-ends-are :

@@ -126,5 +126,5 @@ end_step {s} {i} {k} w h e =
     let back : k + 1 - 1 ≡ k = omega arith in
     record { here = rw back (w.here ∙ sym (end-carried s k e (omega (arith, w.past)))); past = omega (arith, w.past); most = omega arith }
 
-pub end-found : {s : List ℕ} {i k : ℕ} → well_formed s ≡ true → EndAhead s i k → k < length s → continues (get_or s k 0) ≡ false → k ≡ char_end s i
-end-found {s} {i} {k} p w h e = end-begun s k p h e (omega (arith, w.past)) ∙ sym w.here
+pub end_found : {s : List ℕ} {i k : ℕ} → well_formed s ≡ true → EndAhead s i k → k < length s → continues (get_or s k 0) ≡ false → k ≡ char_end s i
+end_found {s} {i} {k} p w h e = end-begun s k p h e (omega (arith, w.past)) ∙ sym w.here

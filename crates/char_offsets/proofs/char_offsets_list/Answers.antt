@@ -1,6 +1,6 @@
 -- The earlier refusal of the text and the list, then the room; past these the pairs are answered one after the other.
 use native.Mathlib.Omega.{arith}
-use Rattle.note.proofs.Faults.{text-short}
+use Rattle.note.proofs.Faults.{text_short}
 use Rattle.note.proofs.LengthFaults.{input-accepted, list-even}
 use Rattle.char_offsets.proofs.CharOffsetsList.{list-refused, too-little-room, list_written}
 use Rattle.char_offsets.proofs.char_offsets_list.Goals as goal
@@ -15,7 +15,7 @@ returns-then-least_room-starts c =
 
 pub count_and_write-requires : goal.count_and_write-requires
 count_and_write-requires c =
-    record { text_len_bound = text-short _ _ (input-accepted _ c.args.starts.now c.args.ends.now c.check_text-checked.ensures c.refused_if-unpaired.ensures c.earlier.ensures c.in_default.is); pair_room = record {
+    record { text_len_bound = text_short _ _ (input-accepted _ c.args.starts.now c.args.ends.now c.check_text-checked.ensures c.refused_if-unpaired.ensures c.earlier.ensures c.in_default.is); pair_room = record {
         paired = list-even _ c.args.starts.now c.args.ends.now c.check_text-checked.ensures c.refused_if-unpaired.ensures c.earlier.ensures c.in_default.is;
         numbers_fit = omega arith;
         starts_fit = omega arith;

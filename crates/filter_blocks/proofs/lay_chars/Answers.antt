@@ -47,10 +47,10 @@ pub shape_of-out : goal.shape_of-out
 shape_of-out c = c.loop-i.invariant.1.laid.text.same
 
 pub shape_of-out_starts : goal.shape_of-out_starts
-shape_of-out_starts c = c.loop-i.invariant.1.laid.starts-so-far.same
+shape_of-out_starts c = c.loop-i.invariant.1.laid.starts_so_far.same
 
 pub shape_of-out_ends : goal.shape_of-out_ends
-shape_of-out_ends c = c.loop-i.invariant.1.laid.ends-so-far.same
+shape_of-out_ends c = c.loop-i.invariant.1.laid.ends_so_far.same
 
 pub returns : goal.returns
 returns c = all-between-chars c.requires c.loop-i.invariant.1 c.loop-i-test.false c.loop-i.invariant.0

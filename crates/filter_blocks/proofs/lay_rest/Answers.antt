@@ -74,10 +74,10 @@ pub shape_of-out : goal.shape_of-out
 shape_of-out c = c.loop-q.invariant.laid.text.same
 
 pub shape_of-out_starts : goal.shape_of-out_starts
-shape_of-out_starts c = c.loop-q.invariant.laid.starts-so-far.same
+shape_of-out_starts c = c.loop-q.invariant.laid.starts_so_far.same
 
 pub shape_of-out_ends : goal.shape_of-out_ends
-shape_of-out_ends c = c.loop-q.invariant.laid.ends-so-far.same
+shape_of-out_ends c = c.loop-q.invariant.laid.ends_so_far.same
 
 pub returns : goal.returns
 returns c = all-so-far c.requires.0 c.loop-q.invariant c.loop-q-test.false

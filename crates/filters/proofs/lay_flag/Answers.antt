@@ -17,11 +17,11 @@ copy_bytes-requires c =
 pub offset_bounds-starts-p : goal.offset_bounds-starts-p
 offset_bounds-starts-p c =
     let long : length c.args.starts.now * 2 < 2 ^ 63 = c.well_formed.1.1.0.1 in
-    let found : c.args.position.0 < length c.args.starts.now = c.requires.start-found (ne_eqb _ 0 c.if-flag-eq0.false) in
+    let found : c.args.position.0 < length c.args.starts.now = c.requires.start_found (ne_eqb _ 0 c.if-flag-eq0.false) in
     omega (arith, long, found)
 
 pub bounds-starts-p : goal.bounds-starts-p
-bounds-starts-p c = c.requires.start-found (ne_eqb _ 0 c.if-flag-eq0.false)
+bounds-starts-p c = c.requires.start_found (ne_eqb _ 0 c.if-flag-eq0.false)
 
 pub fill_offsets-requires : goal.fill_offsets-requires
 fill_offsets-requires c = (kept-room c.requires c.if-flag-eq0.false).1.0
@@ -29,11 +29,11 @@ fill_offsets-requires c = (kept-room c.requires c.if-flag-eq0.false).1.0
 pub offset_bounds-ends-p : goal.offset_bounds-ends-p
 offset_bounds-ends-p c =
     let long : length c.args.ends.now * 2 < 2 ^ 63 = c.well_formed.1.1.1.0.1 in
-    let found : c.args.position.0 < length c.args.ends.now = c.requires.end-found (ne_eqb _ 0 c.if-flag-eq0.false) in
+    let found : c.args.position.0 < length c.args.ends.now = c.requires.end_found (ne_eqb _ 0 c.if-flag-eq0.false) in
     omega (arith, long, found)
 
 pub bounds-ends-p : goal.bounds-ends-p
-bounds-ends-p c = c.requires.end-found (ne_eqb _ 0 c.if-flag-eq0.false)
+bounds-ends-p c = c.requires.end_found (ne_eqb _ 0 c.if-flag-eq0.false)
 
 pub fill_offsets-requires-2 : goal.fill_offsets-requires-2
 fill_offsets-requires-2 c = (kept-room c.requires c.if-flag-eq0.false).1.1

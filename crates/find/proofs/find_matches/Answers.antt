@@ -7,7 +7,7 @@ use Rattle.note.specs.Refusals.{also, verdict}
 use Rattle.note.specs.Notes.{limit}
 use Rattle.note.specs.Faults.{text_faults, string_faults}
 use Rattle.note.proofs.FirstMet.{earlier-of, accepted-first}
-use Rattle.note.proofs.Faults.{text-short}
+use Rattle.note.proofs.Faults.{text_short}
 use Rattle.find.proofs.Found.{input-refused, room-refused, list_written}
 use Rattle.find.proofs.find_matches.Goals as goal
 use Rattle.find.proofs.find_matches.Goals.{After-earlier}
@@ -21,7 +21,7 @@ returns-in-Refused c = input-refused _ _ _ _ (judged (goal.at.returns-in-Refused
 
 pub list_fits-requires : goal.list_fits-requires
 list_fits-requires c =
-    (text-short _ _ (accepted-first _ (string_faults c.args.literal.now) (sym (judged (goal.at.list_fits-requires c).After-earlier) ∙ c.in_default.is)), c.first_match-first.ensures)
+    (text_short _ _ (accepted-first _ (string_faults c.args.literal.now) (sym (judged (goal.at.list_fits-requires c).After-earlier) ∙ c.in_default.is)), c.first_match-first.ensures)
 
 pub returns-then-not-list_fits : goal.returns-then-not-list_fits
 returns-then-not-list_fits c =
@@ -30,7 +30,7 @@ returns-then-not-list_fits c =
 pub write_list-requires : goal.write_list-requires
 write_list-requires c =
     (
-      text-short _ _ (accepted-first _ (string_faults c.args.literal.now) (sym (judged (goal.at.write_list-requires c).After-earlier) ∙ c.in_default.is)),
+      text_short _ _ (accepted-first _ (string_faults c.args.literal.now) (sym (judged (goal.at.write_list-requires c).After-earlier) ∙ c.in_default.is)),
       c.first_match-first.ensures,
       leb-true _ _ (sym c.list_fits.ensures ∙ c.if-not-list_fits.false),
     )

@@ -5,7 +5,7 @@ use Rattle.note.specs.declared.Verdict.TheVariants.{Accepted}
 use Rattle.note.specs.Refusals.{verdict}
 use Rattle.note.specs.Notes.{limit}
 use Rattle.note.specs.Faults.{text_faults}
-use Rattle.note.proofs.Faults.{text-short, text_formed}
+use Rattle.note.proofs.Faults.{text_short, text_formed}
 use Rattle.from_text.proofs.Started.{text-refused, too-little-room, started}
 use Rattle.from_text.proofs.from_text.Goals as goal
 use Rattle.from_text.proofs.from_text.Goals.{Else-least_of_two-text}
@@ -22,11 +22,11 @@ returns-then-least_of_two-text c = too-little-room _ _ _ _ c.check_text.ensures 
 
 pub write_starts-requires : goal.write_starts-requires
 write_starts-requires c =
-    record { text_value = (text_formed _ _ (accepted (goal.at.write_starts-requires c).Else-least_of_two-text), text-short _ _ (accepted (goal.at.write_starts-requires c).Else-least_of_two-text)); text_in_bounds = omega arith }
+    record { text_value = (text_formed _ _ (accepted (goal.at.write_starts-requires c).Else-least_of_two-text), text_short _ _ (accepted (goal.at.write_starts-requires c).Else-least_of_two-text)); text_in_bounds = omega arith }
 
 pub write_ends-requires : goal.write_ends-requires
 write_ends-requires c =
-    record { text_value = (text_formed _ _ (accepted (goal.at.write_ends-requires c).Else-least_of_two-text), text-short _ _ (accepted (goal.at.write_ends-requires c).Else-least_of_two-text)); text_in_bounds = omega arith }
+    record { text_value = (text_formed _ _ (accepted (goal.at.write_ends-requires c).Else-least_of_two-text), text_short _ _ (accepted (goal.at.write_ends-requires c).Else-least_of_two-text)); text_in_bounds = omega arith }
 
 pub returns : goal.returns
 returns c =

@@ -16,7 +16,7 @@ blank_bytes-all-requires c =
 
 pub shape_of-out : goal.shape_of-out
 shape_of-out c =
-    c.blank_bytes-all.ensures.0.text-on.same ∙ c.blank_blocks-laid.ensures.text-on.same ∙ c.blank_bytes-begun.ensures.0.text-on.same
+    c.blank_bytes-all.ensures.0.text_on.same ∙ c.blank_blocks-laid.ensures.text_on.same ∙ c.blank_bytes-begun.ensures.0.text_on.same
 
 pub shape_of-out_starts : goal.shape_of-out_starts
 shape_of-out_starts c =

@@ -26,7 +26,7 @@ pub overflow_add-at-in-loop-i : goal.overflow_add-at-in-loop-i
 overflow_add-at-in-loop-i c = let r = c.requires.0 in omega (arith, blanked-size r c.loop-i.invariant.1, r.within)
 
 pub shape_of-out-then-until-at : goal.shape_of-out-then-until-at
-shape_of-out-then-until-at c = c.loop-i.invariant.1.text-on.same
+shape_of-out-then-until-at c = c.loop-i.invariant.1.text_on.same
 
 pub shape_of-out_starts-then-until-at : goal.shape_of-out_starts-then-until-at
 shape_of-out_starts-then-until-at c = c.loop-i.invariant.1.starts_on.same
@@ -64,7 +64,7 @@ pub fill-requires : goal.fill-requires
 fill-requires c =
     let on = turned c.requires.0 c.loop-i.invariant.1 c.requires.1 c.loop-i-test.true c.if-until-at.false c.lay_ahead-k.ensures in
     let fits = block_within c.requires.0 c.loop-i.invariant.1 c.requires.1 c.loop-i-test.true c.if-until-at.false in
-    match-room c.requires.0 on (sym c.begins.ensures ∙ c.if-begins.true) (omega (arith, c.requires.1.padded-long)) (omega (arith, fits, c.lay_ahead-k.ensures.most))
+    match-room c.requires.0 on (sym c.begins.ensures ∙ c.if-begins.true) (omega (arith, c.requires.1.padded_long)) (omega (arith, fits, c.lay_ahead-k.ensures.most))
 
 pub overflow_add-gap-then-begins : goal.overflow_add-gap-then-begins
 overflow_add-gap-then-begins c =
@@ -85,7 +85,7 @@ loop-i-preserved-then-begins c =
     let on = turned c.requires.0 c.loop-i.invariant.1 c.requires.1 c.loop-i-test.true c.if-until-at.false c.lay_ahead-k.ensures in
     let fits = block_within c.requires.0 c.loop-i.invariant.1 c.requires.1 c.loop-i-test.true c.if-until-at.false in (
       omega (arith, c.loop-i.invariant.0, c.requires.1.window, c.loop-i-test.true),
-      more-match c.requires.0 on (sym c.begins.ensures ∙ c.if-begins.true) c.requires.1.padded-is
+      more-match c.requires.0 on (sym c.begins.ensures ∙ c.if-begins.true) c.requires.1.padded_is
           (omega (arith, fits, c.lay_ahead-k.ensures.most)) c.fill.ensures refl
           (omega (arith, c.loop-i.invariant.0, c.requires.1.window, c.loop-i-test.true)),
     )
@@ -124,7 +124,7 @@ pub overflow_sub-at-2 : goal.overflow_sub-at-2
 overflow_sub-at-2 c = c.loop-i.invariant.0
 
 pub shape_of-out : goal.shape_of-out
-shape_of-out c = c.loop-i.invariant.1.text-on.same
+shape_of-out c = c.loop-i.invariant.1.text_on.same
 
 pub shape_of-out_starts : goal.shape_of-out_starts
 shape_of-out_starts c = c.loop-i.invariant.1.starts_on.same

@@ -68,7 +68,7 @@ loop-i-preserved c =
     more_bytes c.requires.0 c.loop-i.invariant 1 (away (goal.at.loop-i-preserved c).Else-stands) (omega arith) c.lay_byte.ensures refl refl
 
 pub shape_of-out : goal.shape_of-out
-shape_of-out c = c.loop-i.invariant.text-on.same
+shape_of-out c = c.loop-i.invariant.text_on.same
 
 pub shape_of-out_starts : goal.shape_of-out_starts
 shape_of-out_starts c = c.loop-i.invariant.starts_on.same

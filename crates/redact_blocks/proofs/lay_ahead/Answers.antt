@@ -17,7 +17,7 @@ returns-then-k-eq0 c = passed_none (omega (arith, c.requires.high))
 
 pub lay_block-requires : goal.lay_block-requires
 lay_block-requires c =
-    record { stretch_room = (c.requires.room, (c.requires.low, omega (arith, c.requires.high, c.requires.some))); text_bound = c.requires.most-is }
+    record { stretch_room = (c.requires.room, (c.requires.low, omega (arith, c.requires.high, c.requires.some))); text_bound = c.requires.most_is }
 
 pub returns : goal.returns
 returns c =
@@ -25,6 +25,6 @@ returns c =
     let found = first-candidate c.first_candidate-k.ensures in
     record {
       most = found.most;
-      away = absent-block _ _ _ r.some refl refl _ (absent_none (omega (arith, r.high))) (by-ends r.first_is r.last-is found) found.most (omega arith) (omega (arith, r.high, found.most));
+      away = absent-block _ _ _ r.some refl refl _ (absent_none (omega (arith, r.high))) (by-ends r.first_is r.last_is found) found.most (omega arith) (omega (arith, r.high, found.most));
       stretch = stretch-front _ found.most r.room c.lay_block.ensures;
     }

@@ -46,7 +46,7 @@ returns-in-Published c =
     record {
       list₀ = _;
       list = _;
-      list-room = sym c.list_buffer-list.ensures;
+      list_room = sym c.list_buffer-list.ensures;
       call =
           moved-published c.redact_note.ensures _ _ _ (sym c.text_buffer-out.ensures ∙ sym c.requires.text_long)
           (sym c.column_buffer-out_starts.ensures ∙ sym c.requires.starts_long) (sym c.column_buffer-out_ends.ensures ∙ sym c.requires.ends_long)
@@ -58,7 +58,7 @@ returns-in-Refused c =
     record {
       list₀ = _;
       list = _;
-      list-room = sym c.list_buffer-list.ensures;
+      list_room = sym c.list_buffer-list.ensures;
       call =
           moved-refused c.redact_note.ensures _ _ _ (sym c.text_buffer-out.ensures ∙ sym c.requires.text_long)
           (sym c.column_buffer-out_starts.ensures ∙ sym c.requires.starts_long) (sym c.column_buffer-out_ends.ensures ∙ sym c.requires.ends_long)

@@ -5,7 +5,7 @@ use Rattle.spans.proofs.Packing.{packed-long, unpackable, spans-laid}
 use Rattle.spans.proofs.write_spans.Goals as goal
 
 pub write_packed-count-requires : goal.write_packed-count-requires
-write_packed-count-requires c = c.requires.packed-room
+write_packed-count-requires c = c.requires.packed_room
 
 pub slice_bounds-unpack-end : goal.slice_bounds-unpack-end
 slice_bounds-unpack-end c = packed-long c.write_packed-count.ensures

@@ -8,27 +8,27 @@ pub loop-k-init : goal.loop-k-init
 loop-k-init c = none-gone c.requires
 
 pub bounds-to-k : goal.bounds-to-k
-bounds-to-k c = omega (arith, c.requires.shifts-room.spans.paired, c.loop-k-test.true)
+bounds-to-k c = omega (arith, c.requires.shifts_room.spans.paired, c.loop-k-test.true)
 
 pub original_start-start-requires : goal.original_start-start-requires
-original_start-start-requires c = c.requires.shifts-room.spans.each _ c.loop-k-test.true
+original_start-start-requires c = c.requires.shifts_room.spans.each _ c.loop-k-test.true
 
 pub original_end-end-requires : goal.original_end-end-requires
 original_end-end-requires c =
-    let pre = c.requires in inside_of (pre.shifts-room.spans.each _ c.loop-k-test.true) pre.lengths-room.one_end
+    let pre = c.requires in inside_of (pre.shifts_room.spans.each _ c.loop-k-test.true) pre.lengths_room.one_end
 
 pub overflow_add-shifts : goal.overflow_add-shifts
-overflow_add-shifts c = omega (arith, c.requires.shifts-room.low)
+overflow_add-shifts c = omega (arith, c.requires.shifts_room.low)
 
 pub bounds-shifts-k : goal.bounds-shifts-k
-bounds-shifts-k c = omega (arith, c.requires.shifts-room.room, c.loop-k.invariant.shifts_on.laid.same)
+bounds-shifts-k c = omega (arith, c.requires.shifts_room.room, c.loop-k.invariant.shifts_on.laid.same)
 
 pub overflow_sub-lengths : goal.overflow_sub-lengths
 overflow_sub-lengths c =
-    omega (arith, c.original_start-start.ensures, c.original_end-end.ensures, c.requires.lengths-room.ordered _ c.loop-k-test.true)
+    omega (arith, c.original_start-start.ensures, c.original_end-end.ensures, c.requires.lengths_room.ordered _ c.loop-k-test.true)
 
 pub bounds-lengths-k : goal.bounds-lengths-k
-bounds-lengths-k c = omega (arith, c.requires.lengths-room.room, c.loop-k.invariant.lengths_on.laid.same)
+bounds-lengths-k c = omega (arith, c.requires.lengths_room.room, c.loop-k.invariant.lengths_on.laid.same)
 
 pub overflow_cast-a : goal.overflow_cast-a
 overflow_cast-a c = omega (arith, c.type_inv.from c.loop-k.k)
@@ -40,7 +40,7 @@ pub lower_piece-requires : goal.lower_piece-requires
 lower_piece-requires c = piece-room c.requires c.loop-k.invariant c.loop-k-test.true c.original_start-start.ensures
 
 pub overflow_sub-at : goal.overflow_sub-at
-overflow_sub-at c = omega (arith, (c.requires.shifts-room.spans.each _ c.loop-k-test.true).forward)
+overflow_sub-at c = omega (arith, (c.requires.shifts_room.spans.each _ c.loop-k-test.true).forward)
 
 pub overflow_add-at : goal.overflow_add-at
 overflow_add-at c =

@@ -1,7 +1,7 @@
 use Prim.Native.Nat.{◌-◌}
 use mathlib.Core.Path.{◌∙◌, sym}
 use native.Mathlib.Omega.{arith}
-use Rattle.utf8.proofs.CharRanges.{end_none, end_step, end-found, end-last}
+use Rattle.utf8.proofs.CharRanges.{end_none, end_step, end_found, end-last}
 use Rattle.utf8.proofs.ranges.char_end.Goals as goal
 
 pub loop-k-init : goal.loop-k-init
@@ -9,7 +9,7 @@ loop-k-init c = end_none _ _ (omega arith)
 
 pub returns-then-not-continues : goal.returns-then-not-continues
 returns-then-not-continues c =
-    end-found c.requires.0 c.loop-k.invariant c.loop-k-test.true (sym c.continues.ensures ∙ c.if-not-continues.true)
+    end_found c.requires.0 c.loop-k.invariant c.loop-k-test.true (sym c.continues.ensures ∙ c.if-not-continues.true)
 
 pub loop-k-preserved : goal.loop-k-preserved
 loop-k-preserved c = end_step c.loop-k.invariant c.loop-k-test.true (sym c.continues.ensures ∙ c.if-not-continues.false)
