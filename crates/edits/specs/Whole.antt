@@ -1,6 +1,6 @@
 -- RULES 8: the edits of a whole note, each by the commands that the Rust builds and the range that it gives them
 -- (Rust: `filter`, `prepend`, `append`, `map`, `clear`).
-use Rattle.std.specs.Prelude.{ℕ, suc, ◌+◌, ◌-◌, ◌≡◌, Bool, true, false, cond, ◌||◌, not, List, [], ◌∷◌, ◌++◌, eqb, length, get_or}
+use Rattle.std.specs.Prelude.{ℕ, suc, ◌-◌, ◌≡◌, Bool, true, false, cond, ◌||◌, not, List, [], ◌∷◌, ◌++◌, eqb, length, get_or}
 use Rattle.utf8.specs.Formed.{announced}
 use Rattle.utf8.specs.Chars.{chars}
 use Rattle.note.specs.declared.Refusal.{Refusal}

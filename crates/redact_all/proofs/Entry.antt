@@ -32,7 +32,7 @@ use Rattle.redact_all.specs.declared.Redactions.TheVariants.{Published, Refused}
 use Rattle.redact_all.specs.declared.Steps.{Steps}
 use Rattle.redact_all.specs.declared.Steps.TheVariants.{Left, Short}
 use Rattle.redact_all.specs.Steps.{published_by, steps_fit, blanked_counts}
-use Rattle.redact_all.specs.RedactAll.{AllBuffers, buffers, all_input_faults, result_faults, all_faults, AllRedacted}
+use Rattle.redact_all.specs.RedactAll.{AllBuffers, all_input_faults, result_faults, all_faults, AllRedacted}
 use Rattle.redact_all.specs.Stepping.{Checked, LimitLong, StepsReady, AllStepped, StepsTaken, Tellable, Told, reported}
 use Rattle.redact_all.proofs.Stepping.{length-blanked}
 

@@ -11,7 +11,6 @@ use borrow.Author.Tests.{lt-leb}
 use Rattle.buffers.proofs.Cases.{le-or-lt}
 use Rattle.utf8.specs.Formed.{well_formed}
 use Rattle.note.specs.declared.Refusal.{Refusal}
-use Rattle.note.specs.declared.Verdict.{Verdict}
 use Rattle.note.specs.declared.Verdict.TheVariants.{Accepted, Refused as Rejected}
 use Rattle.note.specs.Refusals.{also, least, verdict}
 use Rattle.note.specs.Notes.{Note, limit}
@@ -23,8 +22,7 @@ use Rattle.pattern.proofs.Encoding.{room-enough}
 use Rattle.find.specs.Matching.{found_places}
 use Rattle.find.specs.Finding.{found_bytes}
 use Rattle.find.proofs.FoundPlaces.{found-cases, count-longest}
-use Rattle.replace.specs.declared.Publication.TheVariants.{Published as Replaced}
-use Rattle.replace.specs.Replacing.{replaced, replace_faults}
+use Rattle.replace.specs.Replacing.{replace_faults}
 use Rattle.replace.proofs.Replaced.{replaced-sound}
 use Rattle.redact_note.specs.declared.Redaction.{Redaction}
 use Rattle.redact_note.specs.declared.Redaction.TheVariants.{Published, Refused}

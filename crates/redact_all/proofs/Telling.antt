@@ -12,7 +12,7 @@ use Rattle.word_pairs.specs.Words.{pairs_of}
 use Rattle.word_pairs.specs.Counts.{word_counts, zero_count, some_count}
 use Rattle.word_pairs.proofs.Words.{length_pairs}
 use Rattle.word_pairs.proofs.Counts.{length-counts}
-use Rattle.redact_all.specs.RedactAll.{AllBuffers, buffers}
+use Rattle.redact_all.specs.RedactAll.{AllBuffers}
 use Rattle.redact_all.specs.Stepping.{Told}
 
 module _ {s d₀ d : List ℕ} {j : ℕ} (w : Written s d₀ 0 d j) where

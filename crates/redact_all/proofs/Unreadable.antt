@@ -1,13 +1,12 @@
 -- The claim that nothing is left: no match is counted exactly where the literal occurs nowhere.
-use Prim.Native.Nat.{ℕ, ◌+◌, ◌-◌, ◌≤◌, ◌<◌}
+use Prim.Native.Nat.{ℕ, ◌+◌, ◌≤◌, ◌<◌}
 use mathlib.Core.Path.{◌≡◌, ◌∙◌, ap, refl, sym}
-use mathlib.Core.Bool.{true, false}
+use mathlib.Core.Bool.{false}
 use mathlib.Core.List.{List, [], ◌∷◌}
 use native.Mathlib.Omega.{arith}
 use lib.Dec.{eqb}
 use lib.ListN.{length, take}
 use borrow.Author.Tests.{eq-eqb, eqb-true}
-use Rattle.buffers.specs.Splice.{overlay}
 use Rattle.buffers.proofs.Splice.{take-overlay}
 use Rattle.buffers.proofs.Cases.{le-or-lt, true-or-false, clash}
 use Rattle.note.specs.declared.Verdict.{Verdict}
@@ -25,7 +24,7 @@ use Rattle.word_pairs.specs.Counts.{word_counts, zero_count, some_count}
 use Rattle.word_pairs.proofs.Counts.{counts-cons, counts-nil, zeros-few}
 use Rattle.redact_all.specs.declared.Report.{Report}
 use Rattle.redact_all.specs.Steps.{published_by, left_counts}
-use Rattle.redact_all.specs.RedactAll.{Unreadable, EachUnreadable, NothingLeft, report_of}
+use Rattle.redact_all.specs.RedactAll.{EachUnreadable, NothingLeft, report_of}
 use Rattle.redact_all.proofs.Chained.{says-report}
 
 -- one literal

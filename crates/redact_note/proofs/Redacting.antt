@@ -32,7 +32,7 @@ use Rattle.find.specs.Finding.{found_bytes}
 use Rattle.find.specs.Searching.{first_match}
 use Rattle.find.proofs.FoundPlaces.{found-read, found-covers}
 use Rattle.replace.specs.declared.Publication.TheVariants.{Published as Replaced}
-use Rattle.replace.specs.Replacing.{laid, publication, replaced, replace_faults}
+use Rattle.replace.specs.Replacing.{publication, replaced, replace_faults}
 use Rattle.replace.specs.Sizes.{places_size}
 use Rattle.replace.specs.Laying.{Ready, AllLaid}
 use Rattle.replace.proofs.Sizes.{length-laid}

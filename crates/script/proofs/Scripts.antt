@@ -1,6 +1,6 @@
 -- Laws of `commandAt`, `commandsOf` and `whole`: a script is read command by command, and nobody needs to know how long one
 -- is.
-use Prim.Native.Nat.{ℕ, zero, ◌+◌, ◌-◌, ◌≤◌, ◌<◌}
+use Prim.Native.Nat.{ℕ, ◌+◌, ◌-◌, ◌≤◌, ◌<◌}
 use mathlib.Core.Path.{◌≡◌, ◌∙◌, refl, sym}
 use mathlib.Core.Bool.{Bool, true, false, cond, ◌&&◌, ◌||◌, or-true}
 use mathlib.Mathlib.Data.Bool.Basic.{and_elim_left, and_elim_right}

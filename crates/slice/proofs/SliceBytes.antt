@@ -1,5 +1,5 @@
 -- Which bytes an accepted slice has.
-use Prim.Native.Nat.{◌-◌, ◌≤◌, ◌<◌}
+use Prim.Native.Nat.{◌≤◌, ◌<◌}
 use mathlib.Core.Path.{◌≡◌, ◌∙◌, ap, refl, sym}
 use native.Mathlib.Omega.{arith}
 use Rattle.buffers.proofs.Cases.{le-or-lt, clash}

@@ -1,7 +1,7 @@
 -- Laws of words and pairs: how a list of them goes on from one to the next.
 use Prim.Native.Nat.{ℕ, suc, ◌+◌, ◌*◌, ◌-◌, ◌/◌, ◌%◌, ◌≤◌, ◌<◌}
 use mathlib.Core.Path.{◌≡◌, ◌∙◌, ap, refl}
-use mathlib.Core.Bool.{Bool, true}
+use mathlib.Core.Bool.{true}
 use mathlib.Core.List.{List, [], ◌∷◌}
 use mathlib.Mathlib.Data.Bool.Basic.{and_elim_left, and_elim_right}
 use native.Mathlib.Omega.{arith}
@@ -11,7 +11,6 @@ use lib.ListN.{length, take, drop, get_or, drop_of_length-le}
 use lib.Seq.{drop-cons, drop-drop}
 use borrow.Author.Tests.{eqb-true}
 use Rattle.buffers.specs.Splice.{part}
-use Rattle.redact_note.specs.Chain.{Pair}
 use Rattle.word_pairs.specs.Words.{words_of, in_pairs, pairs_of, pair_cut, total, even_words, Cut}
 
 words-cons : (bytes : List ℕ) (size : ℕ) (sizes : List ℕ) → words_of bytes (size ∷ sizes) ≡ take size bytes ∷ words_of (drop size bytes) sizes

@@ -1,4 +1,3 @@
-use Prim.Native.Nat.{◌-◌}
 use Rattle.boundaries.specs.Monotone.{monotone}
 use Rattle.boundaries.proofs.Monotone.{monotone-none, at-end}
 use Rattle.aligned.specs.MisalignedBits.{none_misaligned}

@@ -1,4 +1,3 @@
-use Prim.Native.Nat.{◌-◌}
 use native.Mathlib.Omega.{arith}
 use Rattle.alignment_lines.proofs.Runs.{none-walked, one-walked, at-end, other-start, other-end}
 use Rattle.alignment_lines.proofs.run_at.Goals as goal

@@ -1,4 +1,3 @@
-use Prim.Native.Nat.{◌-◌}
 use native.Mathlib.Omega.{arith}
 use Rattle.alignment_lines.proofs.Runs.{run-within}
 use Rattle.alignment_lines.proofs.Lines.{no_line, line-room, one_line, every-line}

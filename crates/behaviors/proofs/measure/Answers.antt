@@ -1,4 +1,3 @@
-use Prim.Native.Nat.{◌-◌}
 use Rattle.std.proofs.Common.{◌≡◌, [], drop}
 use Rattle.pattern.specs.Entries.{places_of}
 use native.Mathlib.Omega.{arith}
@@ -34,8 +33,8 @@ counted-requires c = addable c.loop-i.invariant (omega arith) (omega arith)
 pub returns : goal.returns
 returns c =
     let done : places_of (drop c.loop-i.i c.args.list.now) ≡ [] =
-      elim c.loop-i-test.branch [
-        else-loop-i-test w ↦ done-past _ w.loop-i-test.false
-        | then-loop-i-test+in-Broken w ↦ done-broken _ w.loop-i-test.true w.entry_at-in-loop-i.ensures w.in-Broken.is
-      ] in
+    elim c.loop-i-test.branch [
+      | else-loop-i-test w ↦ done-past _ w.loop-i-test.false
+      | then-loop-i-test+in-Broken w ↦ done-broken _ w.loop-i-test.true w.entry_at-in-loop-i.ensures w.in-Broken.is
+    ] in
     all-counted c.loop-i.invariant done c.is_kept_run-2.ensures c.counted.ensures

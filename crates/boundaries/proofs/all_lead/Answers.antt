@@ -1,4 +1,3 @@
-use Prim.Native.Nat.{◌-◌}
 use native.Mathlib.Omega.{arith}
 use Rattle.boundaries.specs.Spanning.{leads_below}
 use Rattle.boundaries.proofs.Monotone.{at-end}

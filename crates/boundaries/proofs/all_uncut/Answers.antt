@@ -1,4 +1,3 @@
-use Prim.Native.Nat.{◌-◌}
 use Rattle.boundaries.specs.Monotone.{uncut_below}
 use Rattle.boundaries.proofs.Monotone.{uncut-none, uncut-more, at-end}
 use native.Mathlib.Omega.{arith}

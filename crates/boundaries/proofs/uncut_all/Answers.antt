@@ -13,5 +13,5 @@ uncut_blocks-requires c =
     record {
       ends_len = omega (arith, c.requires.original_value.1, c.requires.ends_len.0);
       starts_inside =
-        starts-inside _ _ _ _ _ c.requires.ends_len.1 c.requires.original_value.0 c.requires.original_value.1 c.if-last-original.true;
+          starts-inside _ _ _ _ _ c.requires.ends_len.1 c.requires.original_value.0 c.requires.original_value.1 c.if-last-original.true;
     }

@@ -1,4 +1,3 @@
-use Prim.Native.Nat.{◌-◌}
 use native.Mathlib.Omega.{arith}
 use Rattle.buffers.proofs.Columns.{none_filled, filled-up, filled_at}
 use Rattle.boundaries.proofs.write_widths.Goals as goal

@@ -1,4 +1,3 @@
-use Prim.Native.Nat.{◌-◌}
 use mathlib.Core.Path.{refl}
 use Rattle.buffers.proofs.Splice.{none_yet, one_more, all-written}
 use Rattle.buffers.proofs.copy_offsets.Goals as goal

@@ -1,4 +1,3 @@
-use Prim.Native.Nat.{◌-◌}
 use Rattle.buffers.proofs.Splice.{none_yet, one_same, all_same}
 use Rattle.buffers.proofs.fill_bytes.Goals as goal
 

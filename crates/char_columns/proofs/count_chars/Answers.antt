@@ -1,4 +1,3 @@
-use Prim.Native.Nat.{◌-◌}
 use native.Mathlib.Omega.{arith}
 use Rattle.char_columns.proofs.FirstBytes.{flags-made}
 use Rattle.char_columns.proofs.Pairs.{none-counted, in_both, one-counted, all-counted}

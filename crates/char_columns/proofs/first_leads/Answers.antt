@@ -1,4 +1,3 @@
-use Prim.Native.Nat.{◌-◌}
 use native.Mathlib.Omega.{arith}
 use Rattle.char_columns.proofs.FirstBytes.{none-near, next-near, near-small, all_near}
 use Rattle.char_columns.proofs.first_leads.Goals as goal

@@ -1,4 +1,4 @@
-use Rattle.std.proofs.Common.{◌+◌, ◌-◌, ◌∙◌, arith, length-set}
+use Rattle.std.proofs.Common.{◌+◌, ◌∙◌, arith, length-set}
 use Rattle.char_counts.proofs.Counts.{begun-most, first-mark, next-mark, all-marks}
 use Rattle.char_counts.proofs.write_marks.Goals as goal
 

@@ -15,12 +15,15 @@ returns-then-least_room-starts c =
 
 pub count_and_write-requires : goal.count_and_write-requires
 count_and_write-requires c =
-    record { text_len_bound = text_short _ _ (input-accepted _ c.args.starts.now c.args.ends.now c.check_text-checked.ensures c.refused_if-unpaired.ensures c.earlier.ensures c.in_default.is); pair_room = record {
+    record {
+      text_len_bound = text_short _ _ (input-accepted _ c.args.starts.now c.args.ends.now c.check_text-checked.ensures c.refused_if-unpaired.ensures c.earlier.ensures c.in_default.is);
+      pair_room = record {
         paired = list-even _ c.args.starts.now c.args.ends.now c.check_text-checked.ensures c.refused_if-unpaired.ensures c.earlier.ensures c.in_default.is;
         numbers_fit = omega arith;
         starts_fit = omega arith;
         ends_fit = omega arith;
-      } }
+      };
+    }
 
 pub returns : goal.returns
 returns c =

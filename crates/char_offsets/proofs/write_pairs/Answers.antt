@@ -1,4 +1,3 @@
-use Prim.Native.Nat.{◌-◌}
 use Rattle.buffers.proofs.Columns.{none-filling}
 use Rattle.char_offsets.proofs.CharOffsetsList.{writing_more, writing-all}
 use Rattle.char_offsets.proofs.write_pairs.Goals as goal

@@ -1,5 +1,4 @@
 use native.Mathlib.Omega.{arith}
-use Prim.Native.Nat.{◌-◌}
 use Rattle.code_point_blocks.proofs.Texts.{no_word, word_room, word-few, one_word, all_words}
 use Rattle.code_point_blocks.proofs.lay_text_block.Goals as goal
 

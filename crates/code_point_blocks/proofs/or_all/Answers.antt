@@ -1,4 +1,3 @@
-use Prim.Native.Nat.{◌-◌}
 use Rattle.code_point_blocks.proofs.Packing.{none-gathered, one-gathered, all-gathered}
 use Rattle.code_point_blocks.proofs.or_all.Goals as goal
 

@@ -1,5 +1,4 @@
 use native.Mathlib.Omega.{arith}
-use Prim.Native.Nat.{◌-◌}
 use Rattle.buffers.proofs.Columns.{none_filled, filled-up, filled_at}
 use Rattle.code_point_blocks.proofs.pack.Goals as goal
 

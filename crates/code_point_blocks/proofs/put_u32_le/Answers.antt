@@ -1,8 +1,5 @@
 use borrow.Author.Rules.{rules}
 use Rattle.code_point_blocks.proofs.Packing.{word-stored}
-use Rattle.code_point_blocks.proofs.put_u32_le.Reads as reads
-use Rattle.code_point_blocks.proofs.put_u32_le.Lts as lts
-use Rattle.numbers.proofs.little_endian.put_u16_le.Reads as put-u16-le-reads
 use Rattle.code_point_blocks.proofs.put_u32_le.Goals as goal
 
 -- src/blocks.rt:74:16

@@ -1,4 +1,3 @@
-use Prim.Native.Nat.{◌-◌}
 use Rattle.convert.proofs.Walked.{none-walked, block_walked, walk-left, walk-done}
 use native.Mathlib.Omega.{arith}
 use Rattle.convert.proofs.walk.Goals as goal

@@ -1,4 +1,3 @@
-use Prim.Native.Nat.{◌-◌}
 use Rattle.convert_list.proofs.TwoReads.{none-expand, one-expands, all-expanding}
 use Rattle.convert_list.proofs.all_expand.Goals as goal
 

@@ -1,4 +1,3 @@
-use Prim.Native.Nat.{◌-◌}
 use mathlib.Core.Path.{◌∙◌, sym}
 use native.Mathlib.Omega.{arith}
 use lib.ListN.{length}
@@ -59,14 +58,14 @@ loop-i-preserved c =
     let more = c.loop-i-test.true in (
       omega arith,
       elim c.if-expands.branch [
-        then-expands w ↦
-          one-expanded known c.loop-i.invariant.1 more
-          (answer-reads _ _ _ _ _ _ c.expandable-len.ensures (sym c.expands.ensures ∙ w.if-expands.true) w.first_start.ensures w.last_end.ensures)
-          w.numbers-is w.out_starts-is w.out_ends-is
+        | then-expands w ↦
+            one-expanded known c.loop-i.invariant.1 more
+            (answer-reads _ _ _ _ _ _ c.expandable-len.ensures (sym c.expands.ensures ∙ w.if-expands.true) w.first_start.ensures w.last_end.ensures)
+            w.numbers-is w.out_starts-is w.out_ends-is
         | else-expands w ↦
-          one-answered known c.loop-i.invariant.1 more
-          (answer-converted _ _ _ _ _ _ w.range_of.ensures w.convert_checked-answer.ensures)
-          w.number_in.ensures w.start_in.ensures w.end_in.ensures w.numbers-is w.out_starts-is w.out_ends-is
+            one-answered known c.loop-i.invariant.1 more
+            (answer-converted _ _ _ _ _ _ w.range_of.ensures w.convert_checked-answer.ensures)
+            w.number_in.ensures w.start_in.ensures w.end_in.ensures w.numbers-is w.out_starts-is w.out_ends-is
       ],
     )
 

@@ -15,12 +15,15 @@ returns-then-least_room-from c =
 
 pub convert_each-requires : goal.convert_each-requires
 convert_each-requires c =
-    record { ordered_columns = accepted-columns _ _ (input-accepted _ c.args.from.now c.args.to.now c.check_note-checked.ensures c.refused_if-unpaired.ensures c.earlier.ensures c.in_default.is); answer_room = record {
+    record {
+      ordered_columns = accepted-columns _ _ (input-accepted _ c.args.from.now c.args.to.now c.check_note-checked.ensures c.refused_if-unpaired.ensures c.earlier.ensures c.in_default.is);
+      answer_room = record {
         same = list-even _ c.args.from.now c.args.to.now c.check_note-checked.ensures c.refused_if-unpaired.ensures c.earlier.ensures c.in_default.is;
         of_numbers = omega arith;
         of_starts = omega arith;
         of_ends = omega arith;
-      } }
+      };
+    }
 
 pub returns : goal.returns
 returns c =

@@ -1,4 +1,3 @@
-use Prim.Native.Nat.{◌-◌}
 use native.Mathlib.Omega.{arith}
 use Rattle.convert_list.proofs.TwoReads.{has-byte, has_end}
 use Rattle.convert_list.proofs.Answering.{none_read, one-read, all_read}

@@ -1,4 +1,3 @@
-use Prim.Native.Nat.{◌-◌}
 use Rattle.filter_blocks.proofs.Whole.{none-keeping, one-keeping, all-keeping}
 use Rattle.filter_blocks.proofs.all_kept.Goals as goal
 

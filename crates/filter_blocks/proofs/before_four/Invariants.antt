@@ -1,5 +1,4 @@
 -- Each turn goes back by one flag.
-use Prim.Native.Nat.{◌-◌}
 use Rattle.filter_blocks.proofs.Chars.{Back}
 use Rattle.filter_blocks.proofs.before_four.Given as goal
 

@@ -1,6 +1,4 @@
 use native.Mathlib.Omega.{arith}
-use Prim.Native.Nat.{◌-◌, ◌^◌, ◌<◌}
-use lib.ListN.{length}
 use Rattle.filter_blocks.proofs.Chars.{none-between-chars, char-there, char-inside, text-four, starts-four, ends-four, one-between-chars, all-between-chars}
 use Rattle.filter_blocks.proofs.lay_chars.Goals as goal
 
@@ -35,13 +33,12 @@ overflow_add-q c =
     omega (arith, char-inside c.requires c.loop-i.invariant.1 c.loop-i-test.true c.lead_len-size.ensures)
 
 pub loop-i-preserved : goal.loop-i-preserved
-loop-i-preserved c =
-    (
-      omega (arith, c.loop-i-test.true),
-      one-between-chars c.requires c.loop-i.invariant.1 c.loop-i-test.true c.lead_len-size.ensures
-          c.copy_four_bytes.ensures c.copy_four_offsets.ensures
-          c.copy_four_offsets-in-loop-i.ensures c.kept_len-at.ensures,
-    )
+loop-i-preserved c = (
+  omega (arith, c.loop-i-test.true),
+  one-between-chars c.requires c.loop-i.invariant.1 c.loop-i-test.true c.lead_len-size.ensures
+      c.copy_four_bytes.ensures c.copy_four_offsets.ensures
+      c.copy_four_offsets-in-loop-i.ensures c.kept_len-at.ensures,
+)
 
 pub shape_of-out : goal.shape_of-out
 shape_of-out c = c.loop-i.invariant.1.laid.text.same

@@ -1,8 +1,6 @@
 -- The range first, then whether there are characters enough, then the room; past these the result is laid down.
 use mathlib.Core.Path.{ap}
 use mathlib.Core.Bool.{not}
-use Prim.Native.Nat.{◌-◌, ◌^◌, ◌<◌}
-use lib.ListN.{length}
 use native.Mathlib.Omega.{arith}
 use Rattle.note.specs.Notes.{limit}
 use Rattle.transform.proofs.Verdicts.{not-placed, from-standing, range_inside, starved-refused, refused-kept, refused-size, edit-room, edit-made}

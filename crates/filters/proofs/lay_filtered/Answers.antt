@@ -1,6 +1,4 @@
 -- What stays in front, what the flags keep, what stays after.
-use Prim.Native.Nat.{◌-◌, ◌^◌, ◌<◌}
-use lib.ListN.{length}
 use native.Mathlib.Omega.{arith}
 use Rattle.edit_steps.proofs.Given.{front-room, middle-room, back-room, edit-laid}
 use Rattle.filters.proofs.lay_filtered.Goals as goal

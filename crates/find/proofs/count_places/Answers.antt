@@ -1,4 +1,3 @@
-use Prim.Native.Nat.{◌-◌}
 use native.Mathlib.Omega.{arith}
 use Rattle.find.proofs.MatchesFrom.{first-there, match-inside}
 use Rattle.find.proofs.Found.{none-counted, count-bounds, next-counted, all-counted, one-counted}

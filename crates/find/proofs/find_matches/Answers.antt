@@ -28,12 +28,11 @@ returns-then-not-list_fits c =
     room-refused _ _ _ _ (judged (goal.at.returns-then-not-list_fits c).After-earlier) c.in_default.is c.list_fits.ensures (ap not c.if-not-list_fits.true)
 
 pub write_list-requires : goal.write_list-requires
-write_list-requires c =
-    (
-      text_short _ _ (accepted-first _ (string_faults c.args.literal.now) (sym (judged (goal.at.write_list-requires c).After-earlier) ∙ c.in_default.is)),
-      c.first_match-first.ensures,
-      leb-true _ _ (sym c.list_fits.ensures ∙ c.if-not-list_fits.false),
-    )
+write_list-requires c = (
+  text_short _ _ (accepted-first _ (string_faults c.args.literal.now) (sym (judged (goal.at.write_list-requires c).After-earlier) ∙ c.in_default.is)),
+  c.first_match-first.ensures,
+  leb-true _ _ (sym c.list_fits.ensures ∙ c.if-not-list_fits.false),
+)
 
 pub returns : goal.returns
 returns c =

@@ -1,4 +1,3 @@
-use Prim.Native.Nat.{◌-◌}
 use native.Mathlib.Omega.{arith}
 use Rattle.invisible.proofs.Characters.{none_passed, found, passed, lead-step, all-passed}
 use Rattle.invisible.proofs.first_invisible.Goals as goal

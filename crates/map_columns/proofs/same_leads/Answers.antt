@@ -1,4 +1,3 @@
-use Prim.Native.Nat.{◌-◌}
 use Rattle.map_columns.proofs.Alike.{none_alike, one_alike, all_alike}
 use Rattle.map_columns.proofs.same_leads.Goals as goal
 

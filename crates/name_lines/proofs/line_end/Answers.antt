@@ -1,4 +1,3 @@
-use Prim.Native.Nat.{◌-◌}
 use Rattle.name_lines.proofs.Lines.{none_within, byte-within, line-ends, text-ends}
 use Rattle.name_lines.proofs.line_end.Goals as goal
 

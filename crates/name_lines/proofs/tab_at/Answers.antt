@@ -1,4 +1,3 @@
-use Prim.Native.Nat.{◌-◌}
 use Rattle.name_lines.proofs.Tabs.{none-tabless, byte-tabless, tab-found, tab-none}
 use Rattle.name_lines.proofs.tab_at.Goals as goal
 

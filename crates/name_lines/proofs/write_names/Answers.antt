@@ -1,4 +1,3 @@
-use Prim.Native.Nat.{◌-◌}
 use native.Mathlib.Omega.{arith}
 use Rattle.name_lines.proofs.Writing.{none_written, writing-inside, at-line, line-room, line-written, all-written}
 use Rattle.name_lines.proofs.write_names.Goals as goal

@@ -1,9 +1,7 @@
 use mathlib.Core.Path.{ap}
 use mathlib.Core.Bool.{not}
-use Prim.Native.Nat.{◌-◌}
 use native.Mathlib.Omega.{arith}
 use Rattle.pattern.proofs.Entries.{entry-step}
-use Rattle.published_alike.specs.Walk.{text_alike}
 use Rattle.published_alike.proofs.Walk.{none-walked, lying, one-walked, one-unlike, broken-walked, all-walked}
 use Rattle.published_alike.proofs.texts_alike.Goals as goal
 

@@ -1,4 +1,3 @@
-use Prim.Native.Nat.{◌-◌}
 use native.Mathlib.Omega.{arith}
 use Rattle.redact.proofs.BlankedSize.{none-sized, more-sized, all-sized, match-within}
 use Rattle.redact.proofs.blanked_size.Goals as goal

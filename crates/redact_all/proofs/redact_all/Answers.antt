@@ -10,11 +10,10 @@ pub returns-in-Refused : goal.returns-in-Refused
 returns-in-Refused c = refused-input _ _ _ _ c.check_inputs.ensures c.in-Refused.is
 
 pub take_steps-requires : goal.take_steps-requires
-take_steps-requires c =
-    (
-      inputs-checked _ _ _ c.check_inputs.ensures c.in_default.is,
-      record { text_long = c.text_buffer-text.ensures; starts_long = c.column_buffer-text_starts.ensures; ends_long = c.column_buffer-text_ends.ensures; counts_long = c.counts_buffer-counts.ensures },
-    )
+take_steps-requires c = (
+  inputs-checked _ _ _ c.check_inputs.ensures c.in_default.is,
+  record { text_long = c.text_buffer-text.ensures; starts_long = c.column_buffer-text_starts.ensures; ends_long = c.column_buffer-text_ends.ensures; counts_long = c.counts_buffer-counts.ensures },
+)
 
 pub returns-in_default-take_steps : goal.returns-in_default-take_steps
 returns-in_default-take_steps c =

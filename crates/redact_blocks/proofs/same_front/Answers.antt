@@ -1,4 +1,3 @@
-use Prim.Native.Nat.{◌-◌}
 use native.Mathlib.Omega.{arith}
 use Rattle.redact_blocks.proofs.Front.{none-fronted, one-fronted, all-fronted}
 use Rattle.redact_blocks.proofs.same_front.Goals as goal

@@ -1,4 +1,3 @@
-use Prim.Native.Nat.{◌-◌}
 use native.Mathlib.Omega.{arith}
 use Rattle.redact_note.proofs.MatchCount.{none-counted, match-within, count_small, next-counted, next-onward}
 use Rattle.redact_note.proofs.count_matches.Goals as goal

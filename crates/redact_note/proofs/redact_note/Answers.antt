@@ -13,11 +13,10 @@ count_matches-count-requires c =
     ((inputs-formed _ _ _ c.check_inputs.ensures c.in_default.is).short, c.first_match-first.ensures)
 
 pub rooms_fit-requires : goal.rooms_fit-requires
-rooms_fit-requires c =
-    (
-      record { short = (inputs-formed _ _ _ c.check_inputs.ensures c.in_default.is).short; first_is = c.first_match-first.ensures },
-      c.count_matches-count.ensures,
-    )
+rooms_fit-requires c = (
+  record { short = (inputs-formed _ _ _ c.check_inputs.ensures c.in_default.is).short; first_is = c.first_match-first.ensures },
+  c.count_matches-count.ensures,
+)
 
 pub returns-then-not-rooms_fit : goal.returns-then-not-rooms_fit
 returns-then-not-rooms_fit c =

@@ -1,4 +1,3 @@
-use Prim.Native.Nat.{◌-◌}
 use native.Mathlib.Omega.{arith}
 use Rattle.pattern.proofs.Entries.{entry-step}
 use Rattle.replace.proofs.Sizes.{none-measured, more-measured, too_much, broken-measured, all-measured}

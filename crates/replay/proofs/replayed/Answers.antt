@@ -19,8 +19,7 @@ pub slice_bounds-agrees-end : goal.slice_bounds-agrees-end
 slice_bounds-agrees-end c = c.unpack-n.ensures.0.1
 
 pub loop-answers-preserved : goal.loop-answers-preserved
-loop-answers-preserved c =
-    (
-      c.loop-answers.invariant.0 ∙ sym (unpacked-length _ c.unpack-n.ensures.1),
-      ⊎_elim (λ w. omega (arith, c.loop-answers.invariant.1, w.1)) (λ w. omega (arith, c.loop-answers.invariant.1, w.1)) c.if-not-agrees.branch,
-    )
+loop-answers-preserved c = (
+  c.loop-answers.invariant.0 ∙ sym (unpacked-length _ c.unpack-n.ensures.1),
+  ⊎_elim (λ w. omega (arith, c.loop-answers.invariant.1, w.1)) (λ w. omega (arith, c.loop-answers.invariant.1, w.1)) c.if-not-agrees.branch,
+)

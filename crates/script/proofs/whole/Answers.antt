@@ -1,4 +1,3 @@
-use Prim.Native.Nat.{◌-◌}
 use native.Mathlib.Omega.{arith}
 use Rattle.script.proofs.Scripts.{entry-step, none-judged, next-judged, broken-judged, all-judged}
 use Rattle.script.proofs.whole.Goals as goal

@@ -1,4 +1,3 @@
-use Prim.Native.Nat.{◌-◌}
 use native.Mathlib.Omega.{arith}
 use Rattle.spans.proofs.Packing.{start_small, end-small, none-unpacked, unpack-room, one-unpacked, all-unpacked}
 use Rattle.spans.proofs.unpack.Goals as goal

@@ -1,4 +1,3 @@
-use Prim.Native.Nat.{◌-◌}
 use native.Mathlib.Omega.{arith}
 use Rattle.pattern.proofs.Entries.{places-exact}
 use Rattle.spans.proofs.Placing.{none-listed, place-room, one-listed, all_listed}

@@ -1,4 +1,3 @@
-use Prim.Native.Nat.{◌-◌}
 use Rattle.std.proofs.Common.{◌≡◌, [], drop}
 use Rattle.pattern.specs.Entries.{places_of}
 use mathlib.Core.Path.{◌∙◌}
@@ -35,10 +34,10 @@ loop-i-preserved c =
 pub write_run-requires : goal.write_run-requires
 write_run-requires c =
     let done : places_of (drop c.loop-i.i c.args.list.now) ≡ [] =
-      elim c.loop-i-test.branch [
-        else-loop-i-test w ↦ done-past _ w.loop-i-test.false
-        | then-loop-i-test+in-Broken w ↦ done-broken _ w.loop-i-test.true w.entry_at-in-loop-i.ensures w.in-Broken.is
-      ] in
+    elim c.loop-i-test.branch [
+      | else-loop-i-test w ↦ done-past _ w.loop-i-test.false
+      | then-loop-i-test+in-Broken w ↦ done-broken _ w.loop-i-test.true w.entry_at-in-loop-i.ensures w.in-Broken.is
+    ] in
     last-room c.loop-i.invariant done c.is_kept_run-2.ensures
 
 pub shape_of-spans : goal.shape_of-spans
@@ -47,8 +46,8 @@ shape_of-spans c = c.spans-2-1.given ∙ c.loop-i.invariant.laid.same
 pub returns : goal.returns
 returns c =
     let done : places_of (drop c.loop-i.i c.args.list.now) ≡ [] =
-      elim c.loop-i-test.branch [
-        else-loop-i-test w ↦ done-past _ w.loop-i-test.false
-        | then-loop-i-test+in-Broken w ↦ done-broken _ w.loop-i-test.true w.entry_at-in-loop-i.ensures w.in-Broken.is
-      ] in
+    elim c.loop-i-test.branch [
+      | else-loop-i-test w ↦ done-past _ w.loop-i-test.false
+      | then-loop-i-test+in-Broken w ↦ done-broken _ w.loop-i-test.true w.entry_at-in-loop-i.ensures w.in-Broken.is
+    ] in
     all_placed c.loop-i.invariant done c.is_kept_run-2.ensures c.requires (omega arith) c.write_run.ensures

@@ -1,4 +1,3 @@
-use Prim.Native.Nat.{◌-◌}
 use native.Mathlib.Omega.{arith}
 use Rattle.split.proofs.Joined.{none-added, one-added, all-added}
 use Rattle.split.proofs.byte_count.Goals as goal

@@ -1,5 +1,3 @@
-use Prim.Native.Nat.{◌-◌, ◌^◌, ◌<◌}
-use lib.ListN.{length}
 use native.Mathlib.Omega.{arith}
 use Rattle.split.proofs.Joined.{none-gone, piece-room, next-gone, all_laid, inside_of}
 use Rattle.split.proofs.write_columns.Goals as goal

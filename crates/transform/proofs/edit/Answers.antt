@@ -1,9 +1,7 @@
 -- The range first, then the script's commands, then the room; past these the result is laid down.
 use mathlib.Core.Path.{ap}
 use mathlib.Core.Bool.{not}
-use Prim.Native.Nat.{◌-◌, ◌^◌, ◌<◌}
 use mathlib.Core.Path.{◌∙◌, sym}
-use lib.ListN.{length}
 use native.Mathlib.Omega.{arith}
 use Rattle.note.specs.Notes.{limit}
 use Rattle.script.specs.Scripts.{commands_of}
@@ -61,16 +59,15 @@ returns-then-room-kept-2 c =
     c.if-room-kept-2.true
 
 pub lay_edit-requires : goal.lay_edit-requires
-lay_edit-requires c =
-    (
-      edit-room limit c.requires c.args.from.0 c.args.to.0 c.args.initial_offset
-          (commands_of c.args.script.now) c.args.out.now c.args.out_starts.now c.args.out_ends.now
-          c.is_char_range.ensures (ap not c.if-not-is_char_range.false)
-          c.skip-position.ensures c.measure.ensures
-          c.in-Size.is c.least_room.ensures c.least_of_two-room.ensures
-          c.if-room-kept.false c.if-room-kept-2.false,
-      (measured-size _ _ _ _ (sym c.measure.ensures ∙ c.in-Size.is)).1,
-    )
+lay_edit-requires c = (
+  edit-room limit c.requires c.args.from.0 c.args.to.0 c.args.initial_offset
+      (commands_of c.args.script.now) c.args.out.now c.args.out_starts.now c.args.out_ends.now
+      c.is_char_range.ensures (ap not c.if-not-is_char_range.false)
+      c.skip-position.ensures c.measure.ensures
+      c.in-Size.is c.least_room.ensures c.least_of_two-room.ensures
+      c.if-room-kept.false c.if-room-kept-2.false,
+  (measured-size _ _ _ _ (sym c.measure.ensures ∙ c.in-Size.is)).1,
+)
 
 pub returns-in-Starved : goal.returns-in-Starved
 returns-in-Starved c =

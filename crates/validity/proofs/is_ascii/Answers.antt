@@ -1,4 +1,3 @@
-use Prim.Native.Nat.{◌-◌}
 use mathlib.Core.Path.{sym}
 use native.Mathlib.Omega.{arith}
 use Rattle.validity.proofs.Ascii.{ascii-none, ascii_more, ascii-not, ascii-done}

@@ -1,4 +1,3 @@
-use Prim.Native.Nat.{◌-◌}
 use mathlib.Core.Path.{sym}
 use native.Mathlib.Omega.{arith}
 use Rattle.validity.proofs.ValidAt.{valid-none, valid-more, valid-not, valid-done, at_one}

@@ -1,4 +1,4 @@
-use Prim.Native.Nat.{◌+◌, ◌*◌, ◌-◌}
+use Prim.Native.Nat.{◌+◌, ◌*◌}
 use native.Mathlib.Omega.{arith}
 use Rattle.word_pairs.proofs.Words.{both_read, next-cut}
 use Rattle.word_pairs.proofs.Counts.{none-counted, column-room, one-counted, all-counted}
@@ -27,11 +27,10 @@ pub overflow_add-end-in-loop-k : goal.overflow_add-end-in-loop-k
 overflow_add-end-in-loop-k c = omega (arith, (next-cut c.loop-k.invariant.read c.loop-k-test.true).inside)
 
 pub count_pair-requires : goal.count_pair-requires
-count_pair-requires c =
-    (
-      c.requires.short,
-      next-cut c.loop-k.invariant.read c.loop-k-test.true,
-    )
+count_pair-requires c = (
+  c.requires.short,
+  next-cut c.loop-k.invariant.read c.loop-k-test.true,
+)
 
 pub bounds-column-k : goal.bounds-column-k
 bounds-column-k c = column-room c.loop-k.invariant c.loop-k-test.true

@@ -1,4 +1,3 @@
-use Prim.Native.Nat.{◌-◌}
 use native.Mathlib.Omega.{arith}
 use Rattle.word_pairs.proofs.Judging.{none-judged, word-judged, words-short, words_long, words-torn, words-formed}
 use Rattle.word_pairs.proofs.judge_words.Goals as goal

@@ -1,4 +1,3 @@
-use Prim.Native.Nat.{◌-◌}
 use native.Mathlib.Omega.{arith}
 use Rattle.word_pairs.proofs.Counts.{none-zero, zero_more, other-more, zeros-end}
 use Rattle.word_pairs.proofs.zeros.Goals as goal
@@ -13,7 +12,7 @@ overflow_add-count c = omega (arith, c.loop-i.invariant.few)
 pub loop-i-preserved : goal.loop-i-preserved
 loop-i-preserved c =
     elim c.if-column-i-eq0.branch [
-      then-column-i-eq0 w ↦ rw w.count-is (zero_more c.loop-i.invariant c.loop-i-test.true w.if-column-i-eq0.true)
+      | then-column-i-eq0 w ↦ rw w.count-is (zero_more c.loop-i.invariant c.loop-i-test.true w.if-column-i-eq0.true)
       | else-column-i-eq0 w ↦ rw w.count-is (other-more c.loop-i.invariant c.loop-i-test.true w.if-column-i-eq0.false)
     ]
 

@@ -1,4 +1,3 @@
-use Prim.Native.Nat.{◌-◌}
 use mathlib.Core.Path.{refl}
 use Rattle.aligned.specs.IsStarting.{is_char_aligned}
 use Rattle.boundaries.proofs.Monotone.{at-end}

@@ -1,4 +1,3 @@
-use Prim.Native.Nat.{◌-◌}
 use native.Mathlib.Omega.{arith}
 use Rattle.buffers.proofs.Over.{no_block, one_block, all_blocks, source-exact}
 use Rattle.buffers.proofs.blocks.copy_bytes_over.Goals as goal

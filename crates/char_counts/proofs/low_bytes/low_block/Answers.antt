@@ -1,4 +1,4 @@
-use Rattle.std.proofs.Common.{◌-◌, refl, arith}
+use Rattle.std.proofs.Common.{refl, arith}
 use Rattle.char_counts.proofs.Lows.{fours-small, one-low, far-low, lows-less}
 use Rattle.char_counts.proofs.low_bytes.low_block.Goals as goal
 

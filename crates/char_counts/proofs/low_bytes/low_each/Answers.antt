@@ -1,4 +1,4 @@
-use Rattle.std.proofs.Common.{◌-◌, arith}
+use Rattle.std.proofs.Common.{arith}
 use Rattle.char_counts.proofs.Lows.{one-low, next_low, lows-less}
 use Rattle.char_counts.proofs.low_bytes.low_each.Goals as goal
 

@@ -1,4 +1,4 @@
-use Rattle.std.proofs.Common.{◌-◌, arith}
+use Rattle.std.proofs.Common.{arith}
 use Rattle.buffers.proofs.Columns.{none_filled, filled-up, filled_at}
 use Rattle.char_counts.proofs.Lows.{two-fit, three-fit, four-flags, four-small}
 use Rattle.char_counts.proofs.low_bytes.write_fours.Goals as goal
@@ -23,13 +23,12 @@ overflow_add-fours-in-loop-j-2 c =
     omega (arith, sum, four-small c.args.text.now c.args.from j)
 
 pub loop-j-preserved : goal.loop-j-preserved
-loop-j-preserved c =
-    (
-      omega arith,
-      filled-up _ _ _ _ _ _ c.loop-j.invariant.1 (omega arith)
-          (four-flags c.args.text.now c.args.from c.loop-j.j (omega arith)
-          c.continues.ensures c.continues-in-loop-j.ensures c.continues-in-loop-j-2.ensures c.continues-in-loop-j-3.ensures),
-    )
+loop-j-preserved c = (
+  omega arith,
+  filled-up _ _ _ _ _ _ c.loop-j.invariant.1 (omega arith)
+      (four-flags c.args.text.now c.args.from c.loop-j.j (omega arith)
+      c.continues.ensures c.continues-in-loop-j.ensures c.continues-in-loop-j-2.ensures c.continues-in-loop-j-3.ensures),
+)
 
 pub shape_of-fours : goal.shape_of-fours
 shape_of-fours c = c.loop-j.invariant.1.same

@@ -1,4 +1,4 @@
-use Rattle.std.proofs.Common.{◌-◌, refl, arith}
+use Rattle.std.proofs.Common.{refl, arith}
 use Rattle.char_counts.proofs.Lows.{first-low, each-ready, block-ready, lows-after, lows-less}
 use Rattle.char_counts.proofs.low_bytes.write_lows.Goals as goal
 

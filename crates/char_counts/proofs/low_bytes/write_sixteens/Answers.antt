@@ -1,4 +1,4 @@
-use Rattle.std.proofs.Common.{◌+◌, ◌-◌, refl, arith}
+use Rattle.std.proofs.Common.{◌+◌, refl, arith}
 use Rattle.buffers.proofs.Columns.{none_filled, filled-up, filled_at}
 use Rattle.char_counts.specs.Lows.{sixteen_at}
 use Rattle.char_counts.proofs.low_bytes.write_sixteens.Goals as goal

@@ -1,4 +1,3 @@
-use Prim.Native.Nat.{◌-◌}
 use Rattle.edits.proofs.Head.{one-passed, stop-passed, all-passed}
 use Rattle.edits.proofs.front.widthless.Goals as goal
 

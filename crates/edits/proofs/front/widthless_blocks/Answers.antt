@@ -1,6 +1,5 @@
 use mathlib.Core.Path.{ap}
 use mathlib.Core.Bool.{not}
-use Prim.Native.Nat.{◌-◌}
 use Rattle.edits.proofs.Head.{none_passed, block-passed}
 use native.Mathlib.Omega.{arith}
 use Rattle.edits.proofs.front.widthless_blocks.Goals as goal

@@ -1,6 +1,4 @@
 -- The note first, then the code points, then their number, the head and the room; past these they are laid down.
-use mathlib.Core.Path.{ap}
-use mathlib.Core.Bool.{not}
 use mathlib.Core.Path.{◌∙◌, refl, sym}
 use Rattle.note.specs.Refusals.{also}
 use Rattle.note.specs.Notes.{lent, limit}

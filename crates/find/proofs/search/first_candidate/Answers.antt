@@ -1,4 +1,3 @@
-use Prim.Native.Nat.{◌-◌}
 use native.Mathlib.Omega.{arith}
 use Rattle.find.proofs.Candidates.{no-candidate, next-index, all-indices}
 use Rattle.find.proofs.search.first_candidate.Goals as goal

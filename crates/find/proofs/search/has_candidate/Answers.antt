@@ -1,4 +1,3 @@
-use Prim.Native.Nat.{◌-◌}
 use native.Mathlib.Omega.{arith}
 use Rattle.find.proofs.Candidates.{apart_none, apart_more, apart-all}
 use Rattle.find.proofs.search.has_candidate.Goals as goal

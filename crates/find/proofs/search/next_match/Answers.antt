@@ -1,4 +1,3 @@
-use Prim.Native.Nat.{◌-◌}
 use native.Mathlib.Omega.{arith}
 use Rattle.find.proofs.Candidates.{absent-one, first_found, first-none}
 use Rattle.find.proofs.search.next_match.Goals as goal

@@ -1,4 +1,3 @@
-use Prim.Native.Nat.{◌-◌}
 use mathlib.Core.Path.{◌∙◌, sym}
 use native.Mathlib.Omega.{arith}
 use Rattle.buffers.proofs.Columns.{filled_at}
@@ -12,16 +11,15 @@ pub loop-i-init : goal.loop-i-init
 loop-i-init c = (omega arith, no-starts _ _)
 
 pub loop-i-preserved : goal.loop-i-preserved
-loop-i-preserved c =
-    (
-      omega arith,
-      one_start c.loop-i.invariant.1 (omega arith) (omega arith)
+loop-i-preserved c = (
+  omega arith,
+  one_start c.loop-i.invariant.1 (omega arith) (omega arith)
       (elim c.if-not-continues.branch [
-        then-not-continues w ↦ w.start-is ∙ sym (char_start-begins _ _ (sym c.continues.ensures ∙ w.if-not-continues.true))
+        | then-not-continues w ↦ w.start-is ∙ sym (char_start-begins _ _ (sym c.continues.ensures ∙ w.if-not-continues.true))
         | else-not-continues w ↦
-          w.start-is ∙ c.loop-i.invariant.1.carried ∙ sym (start-carried _ _ (sym c.continues.ensures ∙ w.if-not-continues.false))
+            w.start-is ∙ c.loop-i.invariant.1.carried ∙ sym (start-carried _ _ (sym c.continues.ensures ∙ w.if-not-continues.false))
       ]),
-    )
+)
 
 pub shape_of-starts : goal.shape_of-starts
 shape_of-starts c = c.loop-i.invariant.1.filled.same

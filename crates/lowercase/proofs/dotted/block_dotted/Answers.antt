@@ -1,4 +1,3 @@
-use Prim.Native.Nat.{◌-◌}
 use lib.ListN.{get_or}
 use native.Mathlib.Omega.{arith}
 use Rattle.lowercase.proofs.Grown.{none-summed, one-summed, all-summed, dotted-most}

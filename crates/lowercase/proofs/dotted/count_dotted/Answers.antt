@@ -1,4 +1,3 @@
-use Prim.Native.Nat.{◌-◌}
 use native.Mathlib.Omega.{arith}
 use Rattle.lowercase.proofs.Grown.{none-dotted, none-counted, pairs-even, block-counted, all-counted}
 use Rattle.lowercase.proofs.dotted.count_dotted.Goals as goal

@@ -1,4 +1,3 @@
-use Prim.Native.Nat.{◌-◌}
 use native.Mathlib.Omega.{arith}
 use Rattle.lowercase.proofs.Grown.{none-growing, column-copied, value_room, one-growing, all-growing}
 use Rattle.lowercase.proofs.dotted.lay_column.Goals as goal

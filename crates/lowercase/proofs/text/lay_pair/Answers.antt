@@ -2,9 +2,6 @@ use borrow.Author.Rules.{rules}
 use lib.ListN.{length-set}
 use native.Mathlib.Omega.{arith}
 use Rattle.lowercase.proofs.Pairs.{pair-next, pair-within, pair_inside, other-image, other-room, other-laid, dotted-entry, dotted-room, dotted-last, again-room, dotted-laid, dotted-same}
-use Rattle.lowercase.proofs.text.lay_pair.Reads as reads
-use Rattle.lowercase.proofs.text.lay_pair.Lts as lts
-use Rattle.lowercase.proofs.text.lay_block.Reads as lay-block-reads
 use Rattle.lowercase.proofs.text.lay_pair.Goals as goal
 
 -- src/text.rt:38:14

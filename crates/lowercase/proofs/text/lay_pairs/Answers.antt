@@ -1,4 +1,4 @@
-use Prim.Native.Nat.{◌-◌, ◌^◌, ◌<◌}
+use Prim.Native.Nat.{◌^◌, ◌<◌}
 use lib.ListN.{length}
 use native.Mathlib.Omega.{arith}
 use Rattle.lowercase.proofs.Fixing.{places-few, block-fits, places-room, begun, out-same, end-room, place_inside, place-ready, place-fixed, all-inside, all_past}

@@ -1,4 +1,4 @@
-use Prim.Native.Nat.{◌+◌, ◌-◌}
+use Prim.Native.Nat.{◌+◌}
 use native.Mathlib.Omega.{arith}
 use Rattle.buffers.proofs.Splice.{length_part}
 use Rattle.lowercase.proofs.Running.{none-run, run_room, run-after, run-all, same-room, block_room, run-block}

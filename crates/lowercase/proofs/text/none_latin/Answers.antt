@@ -1,4 +1,3 @@
-use Prim.Native.Nat.{◌-◌}
 use native.Mathlib.Omega.{arith}
 use Rattle.lowercase.proofs.Bytes.{latin-told}
 use Rattle.lowercase.proofs.Running.{none-tested, one-tested, all_tested}

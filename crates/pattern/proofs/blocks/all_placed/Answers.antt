@@ -1,4 +1,3 @@
-use Prim.Native.Nat.{◌-◌}
 use native.Mathlib.Omega.{arith}
 use Rattle.pattern.specs.Placed.{placed_byte}
 use Rattle.pattern.proofs.Placed.{every-none, every_more, every-end}

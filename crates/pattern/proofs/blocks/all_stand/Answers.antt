@@ -1,4 +1,3 @@
-use Prim.Native.Nat.{◌-◌}
 use native.Mathlib.Omega.{arith}
 use Rattle.pattern.specs.Placed.{end_stands}
 use Rattle.pattern.proofs.Placed.{every-none, every_more, every-end, stands_by}

@@ -1,6 +1,5 @@
 use mathlib.Core.Path.{ap}
 use mathlib.Core.Bool.{not}
-use Prim.Native.Nat.{◌-◌}
 use native.Mathlib.Omega.{arith}
 use Rattle.pattern.proofs.Placed.{broken-first, unfit-first, first-going, block-going, block-unfit, blocks-short, blocks-judged}
 use Rattle.pattern.proofs.blocks.judge_blocks.Goals as goal

@@ -1,4 +1,3 @@
-use Prim.Native.Nat.{◌-◌}
 use native.Mathlib.Omega.{arith}
 use Rattle.replace.proofs.Columns.{none_going, place-room, going_on, going_less, broken-gone, all-gone, carried-wide}
 use Rattle.replace.proofs.laying.lay_column.Goals as goal

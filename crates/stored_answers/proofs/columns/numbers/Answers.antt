@@ -1,5 +1,5 @@
 use mathlib.Core.Path.{refl}
-use Prim.Native.Nat.{◌-◌, ◌^◌}
+use Prim.Native.Nat.{◌^◌}
 use native.Mathlib.Omega.{arith}
 use Rattle.stored_answers.proofs.Differences.{none-summed, one-summed, all-summed}
 use Rattle.stored_answers.proofs.columns.numbers.Goals as goal

@@ -1,4 +1,3 @@
-use Prim.Native.Nat.{◌-◌}
 use Rattle.buffers.proofs.Same.{none-compared, one-compared, all-compared, same-lengths}
 use native.Mathlib.Omega.{arith}
 use Rattle.stored_answers.proofs.columns.same_numbers.Goals as goal

@@ -1,4 +1,3 @@
-use Prim.Native.Nat.{◌-◌}
 use Rattle.stored_answers.proofs.Framing.{none-reached, next-reached, field-reached}
 use Rattle.stored_answers.proofs.fields.field.Goals as goal
 

@@ -1,4 +1,3 @@
-use Prim.Native.Nat.{◌-◌}
 use native.Mathlib.Omega.{arith}
 use Rattle.stored_answers.proofs.Packing.{none-repeated, one-repeated, no_room, all-repeated}
 use Rattle.stored_answers.proofs.unpack.lay.Goals as goal

@@ -1,4 +1,3 @@
-use Prim.Native.Nat.{◌-◌}
 use mathlib.Core.Path.{refl}
 use Rattle.stored_answers.proofs.Splice.{counted}
 use Rattle.stored_answers.proofs.Packing.{none-unpacked, one-unpacked, all-unpacked}

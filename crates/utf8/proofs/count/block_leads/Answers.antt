@@ -1,4 +1,3 @@
-use Prim.Native.Nat.{◌-◌}
 use native.Mathlib.Omega.{arith}
 use Rattle.utf8.proofs.Chars.{none-counted, flag-counted, counted-le, all-counted}
 use Rattle.utf8.proofs.count.block_leads.Goals as goal

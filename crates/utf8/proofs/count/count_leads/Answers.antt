@@ -1,4 +1,3 @@
-use Prim.Native.Nat.{◌-◌}
 use native.Mathlib.Omega.{arith}
 use lib.ListN.{length-take, length-drop}
 use Rattle.utf8.proofs.Chars.{none-counted, block-counted, leads-le-length, counted-le, all-counted}

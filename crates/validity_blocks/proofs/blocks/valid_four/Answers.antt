@@ -1,4 +1,3 @@
-use Rattle.std.proofs.Common.{◌-◌}
 use Rattle.validity_blocks.proofs.Valid.{invalid-none, invalid-more, invalid-done, read-four}
 use Rattle.validity_blocks.proofs.blocks.valid_four.Goals as goal
 

@@ -1,4 +1,3 @@
-use Rattle.std.proofs.Common.{◌-◌}
 use Rattle.validity_blocks.proofs.Valid.{flag-none, flag-more, flag-done, read_plain, rest-between}
 use Rattle.validity_blocks.proofs.blocks.valid_plain.Goals as goal
 

@@ -1,4 +1,3 @@
-use Rattle.std.proofs.Common.{◌-◌}
 use Rattle.validity_blocks.specs.Extremes.{from_lead}
 use Rattle.validity_blocks.proofs.Largest.{largest-none, largest-more, largest-done}
 use Rattle.validity_blocks.proofs.LeastLead.{least-none, least_more, least-done}

@@ -1,4 +1,3 @@
-use Rattle.std.proofs.Common.{◌-◌}
 use Rattle.validity_blocks.proofs.Largest.{largest-none, largest-more, largest-done}
 use Rattle.validity_blocks.proofs.extremes.largest.Goals as goal
 
