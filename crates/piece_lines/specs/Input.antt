@@ -1,5 +1,5 @@
 -- RULES 14.4: the input of `pieces`, three lines, and when it is refused.
-use Rattle.std.specs.Prelude.{ℕ, ◌+◌, ◌≡◌, Bool, cond, ◌&&◌, List, [], ◌∷◌, ◌++◌, leb, eqb, length, get_or}
+use Rattle.std.specs.Prelude.{ℕ, ◌≡◌, Bool, cond, ◌&&◌, List, [], ◌∷◌, ◌++◌, leb, eqb, length, get_or}
 use Rattle.note.specs.declared.Verdict.{Verdict}
 use Rattle.note.specs.Refusals.{also, verdict}
 use Rattle.note.specs.Faults.{text_faults}

@@ -1,5 +1,5 @@
 -- Laws of `placeEdit`: all characters of the range are skipped, so that the content is added at its end.
-use Prim.Native.Nat.{ℕ, zero, suc, ◌+◌, ◌-◌, ◌≤◌}
+use Prim.Native.Nat.{ℕ, zero, suc, ◌+◌, ◌≤◌}
 use mathlib.Core.Path.{◌≡◌, ◌∙◌, ap, refl, sym}
 use mathlib.Core.Bool.{true}
 use mathlib.Core.List.{List, ◌++◌}
@@ -13,7 +13,7 @@ use Rattle.utf8.proofs.Chars.{chars-leads, leads-append}
 use Rattle.utf8.proofs.Boundaries.{Between, char-range-between, formed-part, boundary-most}
 use Rattle.note.specs.Notes.{Note, lent, before_end}
 use Rattle.map_columns.proofs.Chars.{leads-at}
-use Rattle.edit_steps.specs.Edits.{skipped, first_position, characters, relaid, edited, transformed}
+use Rattle.edit_steps.specs.Edits.{skipped, first_position, relaid, edited, transformed}
 use Rattle.edit_steps.specs.Walking.{Standing}
 use Rattle.edit_steps.specs.Laying.{Editable}
 use Rattle.edit_steps.proofs.Positions.{standing-next, skipped-on, skipped-none}

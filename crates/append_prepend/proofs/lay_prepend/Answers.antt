@@ -1,6 +1,4 @@
 -- The string first, then the text; the columns likewise.
-use Prim.Native.Nat.{◌^◌, ◌<◌}
-use lib.ListN.{length}
 use native.Mathlib.Omega.{arith}
 use Rattle.append_prepend.proofs.Joined.{front_fits, prepend-laid}
 use Rattle.append_prepend.proofs.lay_prepend.Goals as goal

@@ -1,4 +1,3 @@
-use Prim.Native.Nat.{◌-◌}
 use native.Mathlib.Omega.{arith}
 use Rattle.split_offsets.proofs.Converting.{none-converted, piece-here, in-columns, one-converted, all-converted}
 use Rattle.split_offsets.proofs.write_bytes.Goals as goal

@@ -1,4 +1,3 @@
-use Prim.Native.Nat.{◌-◌}
 use native.Mathlib.Omega.{arith}
 use Rattle.piece_lines.proofs.Scanning.{none-scanned, one-scanned, all-scanned}
 use Rattle.piece_lines.proofs.input.scan.Goals as goal

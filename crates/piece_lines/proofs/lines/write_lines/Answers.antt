@@ -1,4 +1,3 @@
-use Prim.Native.Nat.{◌-◌}
 use native.Mathlib.Omega.{arith}
 use Rattle.piece_lines.proofs.Written.{no_line, line-room, one_line, every-line}
 use Rattle.piece_lines.proofs.lines.write_lines.Goals as goal

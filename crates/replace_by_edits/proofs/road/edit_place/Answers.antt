@@ -1,6 +1,4 @@
 -- What is before the place, the content, what is after it.
-use Prim.Native.Nat.{◌^◌, ◌<◌}
-use lib.ListN.{length}
 use native.Mathlib.Omega.{arith}
 use Rattle.replace_by_edits.proofs.Laying.{front-keeps, content-room, back-keeps, place-laid, edit-room}
 use Rattle.replace_by_edits.proofs.road.edit_place.Goals as goal
