@@ -1,0 +1,48 @@
+// Calls on a text alone.
+ghost use Rattle.std.specs.Prelude.{◌≡◌};
+ghost use Rattle.utf8.specs.Formed.{well_formed};
+ghost use Rattle.note.specs.Notes.{limit};
+ghost use Rattle.char_offsets.specs.Counting.{letter_count};
+ghost use Rattle.char_offsets.specs.Positions.{char_offsets};
+ghost use Rattle.zulmyren.specs.Calls.{chars_of, letters_of};
+ghost use Rattle.zulmyren.specs.Promised.{CharOffsetsAllCall};
+
+use zulmyren::answers::{Count, Offsets};
+
+#[unsafe(no_mangle)]
+pub extern "C" fn zulmyren_well_formed(text: &[u8]) -> bool
+    ensures { result ≡ well_formed text.now }
+{
+    zulmyren::texts::zulmyren_well_formed(text)
+}
+
+#[unsafe(no_mangle)]
+pub extern "C" fn zulmyren_letter_count(text: &[u8], start: u32, end: u32) -> Count
+    ensures { result ≡ letters_of (letter_count limit text.now start end) }
+{
+    zulmyren::texts::zulmyren_letter_count(text, start, end)
+}
+
+#[unsafe(no_mangle)]
+pub extern "C" fn zulmyren_char_offsets(text: &[u8], start: u32, end: u32) -> Offsets
+    ensures { result ≡ chars_of (char_offsets limit text.now start end) }
+{
+    zulmyren::texts::zulmyren_char_offsets(text, start, end)
+}
+
+#[unsafe(no_mangle)]
+pub extern "C" fn zulmyren_char_offsets_all(
+    text: &[u8],
+    starts: &[u32],
+    ends: &[u32],
+    numbers: &mut [u8],
+    char_starts: &mut [u32],
+    char_ends: &mut [u32],
+) -> u32
+    ensures { CharOffsetsAllCall
+        text.now starts.now ends.now
+        numbers.old char_starts.old char_ends.old
+        result numbers.new char_starts.new char_ends.new }
+{
+    zulmyren::texts::zulmyren_char_offsets_all(text, starts, ends, numbers, char_starts, char_ends)
+}
