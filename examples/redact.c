@@ -3,8 +3,9 @@
  *   redact_example LITERAL FILLER LITERAL FILLER < NOTE
  *
  * From the root of the source:
- *   rt staticlib zulmyren
- *   gcc -std=c99 -Iinclude -o target/redact_example examples/redact.c target/staticlib/libzulmyren.a
+ *   (cd crates/zulmyren_c && rt lib)
+ *   mkdir -p target
+ *   gcc -std=c99 -Iinclude -o target/redact_example examples/redact.c crates/zulmyren_c/out/libzulmyren_c.a
  *
  * Status: 0 written; 1 refused or not read or written whole; 2 wrong use; 3 nothing written, since a literal was not
  * found or can still be read, or a filler was in the note already.

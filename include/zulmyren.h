@@ -1,9 +1,10 @@
 /* Zulmyren: texts in which every byte remembers where it came from. docs/RULES.md has the exact rules.
  *
  * BUILD AND LINK
- *   examples/redact.c is a whole program. From the root of the source it is built with these two lines:
- *     rt staticlib zulmyren
- *     gcc -std=c99 -Iinclude -o target/redact_example examples/redact.c target/staticlib/libzulmyren.a
+ *   examples/redact.c is a whole program. From the root of the source it is built with these three lines:
+ *     (cd crates/zulmyren_c && rt lib)
+ *     mkdir -p target
+ *     gcc -std=c99 -Iinclude -o target/redact_example examples/redact.c crates/zulmyren_c/out/libzulmyren_c.a
  *   With a release, take -Idist/include and dist/lib/libzulmyren.a. Beside these, only a C library is needed, for
  *   memcpy and memset.
  *

@@ -29,7 +29,7 @@ version() {
 needed() { # NAME...
     awk -v names="$*" '
         { sub(/#.*/, "") }
-        split($0, part, ":") == 2 { gsub(/[ \t]/, "", part[1]); needs[part[1]] = part[2] }
+        split($0, part, ":") == 2 { split(part[1], word, " "); needs[word[1]] = part[2] }
         function visit(name,    word, count, i) {
             if (!(name in needs) || name in seen) return
             seen[name]
@@ -41,21 +41,21 @@ needed() { # NAME...
 }
 
 # The sum of all files that a program is made of. It goes by their bytes and not by their times, since a copied or
-# unpacked file keeps its old time. A must-fail edit is in no program.
+# unpacked file keeps its old time. A must-fail edit is in no program, and what rt leaves in out/ is no source.
 sum_of_sources() { # NAME
     local crates
     mapfile -t crates < <(needed "$1")
     (
         cd "$root" && {
             cat crates.txt
-            find "${crates[@]/#/crates/}" -name must-fail -prune -o -type f -print0 |
+            find "${crates[@]/#/crates/}" -regex 'crates/[^/]*/\(out\|must-fail\)' -prune -o -type f -print0 |
                 LC_ALL=C sort -z | xargs -0 sha256sum
         } | sha256sum | cut -d ' ' -f 1
     )
 }
 
-# target/made/NAME has the sum of the sources that target/bin/NAME was built from, and the sum of that program: whoever
-# builds another one by hand leaves a program that is not taken for this one.
+# target/made/NAME has the sum of the sources that crates/NAME/out/NAME was built from, and the sum of that program:
+# whoever builds another one by hand leaves a program that is not taken for this one.
 is_fresh() { # NAME
     local sources='' built=''
     [ -x "$program" ] && [ -s "$made" ] || return 1
@@ -63,27 +63,34 @@ is_fresh() { # NAME
     [ "$sources" = "$(sum_of_sources "$1")" ] && [ "$built" = "$(sha256sum < "$program")" ]
 }
 
-# Reads what rt says, and says how far it is. Of a crate that is not proved it shows all that rt said.
-show_progress() { # TOTAL
-    local line part='' proved=0 before='' after=$'\n'
+# Reads what rt says while it proves and builds a crate, and says how far it is. Of a crate that is not proved it shows
+# all that rt said. It ends with 0 where rt came to running the program: what that says is not shown.
+show_progress() { # NAME
+    local line part='' crate='' word total before='' after=$'\n'
+    local -A proved=()
+    total=$(needed "$1" | wc -l)
     # A terminal shows one line that changes.
     [ ! -t 2 ] || before=$'\r' after=''
     while IFS= read -r line; do
         part+=$line$'\n'
         case $line in
-            'rt: '*' proved ('*)
-                part='' proved=$((proved + 1))
-                # Crates that were proved before pass at once, and are only counted.
-                [[ $line == *'(unchanged '* ]] || printf '%s' "$before$me: $proved of $1 proved$after" >&2
-                ;;
-            'rt: '*' NOT PROVED'*)
-                printf '%s' "${before:+$'\n'}$part" >&2
+            'crate '*': modules '*) crate=${line#crate } crate=${crate%%:*} ;;
+            'logic=proved '*)
                 part=''
+                # rt says nothing of a crate that was proved before. What a crate needs is proved when the crate is.
+                while IFS= read -r word; do proved[$word]=1; done < <(needed "$crate")
+                printf '%s' "$before$me: ${#proved[@]} of $total proved$after" >&2
+                ;;
+            'rt: running out/'*)
+                [ -z "$before" ] || echo >&2
+                cat > /dev/null
+                return 0
                 ;;
         esac
     done
     [ -z "$before" ] || echo >&2
-    [[ $part == *'rt: ok, '* || $part == *'rt: target/staticlib/'* ]] || printf '%s' "$part" >&2
+    printf '%s' "$part" >&2
+    return 1
 }
 
 # What is said after a build that did not end well.
@@ -101,16 +108,18 @@ give_up() {
     stop 2 "stopped, and the proving with it: $loss"
 }
 
-# Runs rt in the root, and answers as it does. A signal to this script ends rt too.
-run_rt() { # TOTAL WORD...
-    local total=$1 status
-    shift
+# Proves and builds a crate by `rt run` or `rt lib` in its folder. rt has no command that builds a program and does not
+# run it, so the program is run with no words and no input, and what it says and its status are not looked at. A signal
+# to this script ends rt too.
+run_rt() { # run|lib NAME
+    local status
     trap give_up INT TERM HUP QUIT
     set -m
     (
-        cd "$root" || exit 2
-        rt "$@" 2>&1 < /dev/null | show_progress "$total"
-        exit "${PIPESTATUS[0]}"
+        cd "$root/crates/$2" || exit 2
+        rt "$1" 2>&1 < /dev/null | show_progress "$2"
+        each=("${PIPESTATUS[@]}")
+        if [ "$1" = run ]; then exit "${each[1]}"; else exit "${each[0]}"; fi
     ) &
     set +m
     wait "$!"
@@ -135,26 +144,22 @@ close_target() {
     exec 9>&-
 }
 
-announce() { # NAME
-    if [ ! -x "$program" ] || [ ! -f "$root/target/stamp/$1" ]; then
-        echo "$me: proving and building the program, this once: a few minutes" >&2
-    elif [ -s "$made" ]; then
+announce() {
+    if [ -x "$program" ] && [ -s "$made" ]; then
         echo "$me: the program is not the one that was built from these sources: building it again" >&2
+    else
+        echo "$me: proving and building the program, this once: some minutes, and more on a slow machine" >&2
     fi
 }
 
 build() { # NAME
-    local sources recorded=''
-    announce "$1"
+    local sources
+    announce
     sources=$(sum_of_sources "$1")
-    # rt does not look at the program of an unchanged crate. Where that is missing or was changed, it must build again.
-    [ ! -s "$made" ] || read -r recorded _ < "$made"
-    if [ ! -x "$program" ] || [ "$recorded" = "$sources" ]; then
-        rm -f "$root/target/stamp/$1"
-    fi
     rm -f "$made"
-    run_rt "$(needed "$1" | wc -l)" check "$1" || stop 2 "rt check $1 failed: $loss"
-    [ -x "$program" ] || stop 2 "rt check $1 left no program in target/bin"
+    # A program that is missing or was changed is built again: rt looks at its sum.
+    run_rt run "$1" || stop 2 "rt run failed in crates/$1: $loss"
+    [ -x "$program" ] || stop 2 "rt run left no program in crates/$1/out"
     # Sources that were changed meanwhile have another sum, so the next use builds again.
     echo "$sources $(sha256sum < "$program")" > "$made"
 }
@@ -166,7 +171,7 @@ make_ready() { # NAME
         [ -x "$program" ] || stop 2 "the program $program is missing: unpack the release again"
         return
     fi
-    program=$root/target/bin/$1
+    program=$root/crates/$1/out/$1
     made=$root/target/made/$1
     if ! is_fresh "$1"; then
         open_target
