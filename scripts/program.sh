@@ -63,6 +63,11 @@ is_fresh() { # NAME
     [ "$sources" = "$(sum_of_sources "$1")" ] && [ "$built" = "$(sha256sum < "$program")" ]
 }
 
+# Notes that crates/NAME/out/NAME was built from sources with this sum.
+note_built() { # NAME SUM
+    echo "$2 $(sha256sum < "$root/crates/$1/out/$1")" > "$root/target/made/$1"
+}
+
 # Reads what rt says while it proves and builds a crate, and says how far it is. Of a crate that is not proved it shows
 # all that rt said. It ends with 0 where rt came to running the program: what that says is not shown.
 show_progress() { # NAME
@@ -161,7 +166,7 @@ build() { # NAME
     run_rt run "$1" || stop 2 "rt run failed in crates/$1: $loss"
     [ -x "$program" ] || stop 2 "rt run left no program in crates/$1/out"
     # Sources that were changed meanwhile have another sum, so the next use builds again.
-    echo "$sources $(sha256sum < "$program")" > "$made"
+    note_built "$1" "$sources"
 }
 
 # Leaves in `program` the program to run.
