@@ -11,8 +11,7 @@ use crate::ranges::side_of;
 use buffers::Offset;
 use convert::range_of;
 
-#[unsafe(no_mangle)]
-pub extern "C" fn zulmyren_transform_range(
+pub fn zulmyren_transform_range(
     original: &[u8],
     normalized: &[u8],
     starts: &[Offset],
@@ -50,8 +49,7 @@ pub extern "C" fn zulmyren_transform_range(
     ))
 }
 
-#[unsafe(no_mangle)]
-pub extern "C" fn zulmyren_transform(
+pub fn zulmyren_transform(
     original: &[u8],
     normalized: &[u8],
     starts: &[Offset],
@@ -84,8 +82,7 @@ pub extern "C" fn zulmyren_transform(
     ))
 }
 
-#[unsafe(no_mangle)]
-pub extern "C" fn zulmyren_map(
+pub fn zulmyren_map(
     original: &[u8],
     normalized: &[u8],
     starts: &[Offset],
@@ -115,8 +112,7 @@ pub extern "C" fn zulmyren_map(
     ))
 }
 
-#[unsafe(no_mangle)]
-pub extern "C" fn zulmyren_lowercase(
+pub fn zulmyren_lowercase(
     original: &[u8],
     normalized: &[u8],
     starts: &[Offset],
@@ -144,8 +140,7 @@ pub extern "C" fn zulmyren_lowercase(
     ))
 }
 
-#[unsafe(no_mangle)]
-pub extern "C" fn zulmyren_filter(
+pub fn zulmyren_filter(
     original: &[u8],
     normalized: &[u8],
     starts: &[Offset],
@@ -175,8 +170,7 @@ pub extern "C" fn zulmyren_filter(
     ))
 }
 
-#[unsafe(no_mangle)]
-pub extern "C" fn zulmyren_append(
+pub fn zulmyren_append(
     original: &[u8],
     normalized: &[u8],
     starts: &[Offset],
@@ -206,8 +200,7 @@ pub extern "C" fn zulmyren_append(
     ))
 }
 
-#[unsafe(no_mangle)]
-pub extern "C" fn zulmyren_prepend(
+pub fn zulmyren_prepend(
     original: &[u8],
     normalized: &[u8],
     starts: &[Offset],
@@ -237,8 +230,7 @@ pub extern "C" fn zulmyren_prepend(
     ))
 }
 
-#[unsafe(no_mangle)]
-pub extern "C" fn zulmyren_clear(
+pub fn zulmyren_clear(
     original: &[u8],
     normalized: &[u8],
     starts: &[Offset],

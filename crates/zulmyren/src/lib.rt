@@ -1,4 +1,5 @@
-// The exported calls, for C and Rust, by family: include/zulmyren.h says what each means. Nothing else is exported.
+// The calls as C has them, on plain numbers, by family: include/zulmyren.h says what each means, and zulmyren_c exports
+// them.
 #![tactic(auto)]
 
 pub mod answers;

@@ -10,16 +10,14 @@ ghost use Rattle.zulmyren.specs.Promised.{ReplaceByEditsCall, ReplaceCall};
 use crate::answers::{Comparison, Written, comparison_to_c, list_to_c, published_to_c};
 use buffers::Offset;
 
-#[unsafe(no_mangle)]
-pub extern "C" fn zulmyren_find_matches(text: &[u8], literal: &[u8], out: &mut [u8]) -> Written
+pub fn zulmyren_find_matches(text: &[u8], literal: &[u8], out: &mut [u8]) -> Written
     ensures { Told listed_of (λ v. Finding limit text.now literal.now out.old
         v out.new) result }
 {
     list_to_c(find::find_matches(text, literal, out))
 }
 
-#[unsafe(no_mangle)]
-pub extern "C" fn zulmyren_replace(
+pub fn zulmyren_replace(
     original: &[u8],
     normalized: &[u8],
     starts: &[Offset],
@@ -52,8 +50,7 @@ pub extern "C" fn zulmyren_replace(
     ))
 }
 
-#[unsafe(no_mangle)]
-pub extern "C" fn zulmyren_replace_by_edits(
+pub fn zulmyren_replace_by_edits(
     original: &[u8],
     normalized: &[u8],
     starts: &[Offset],
@@ -102,8 +99,7 @@ pub extern "C" fn zulmyren_replace_by_edits(
     ))
 }
 
-#[unsafe(no_mangle)]
-pub extern "C" fn zulmyren_published_alike(
+pub fn zulmyren_published_alike(
     original: &[u8],
     normalized: &[u8],
     starts: &[Offset],

@@ -8,8 +8,7 @@ ghost use Rattle.zulmyren.specs.Calls.{Told};
 
 use buffers::Offset;
 
-#[unsafe(no_mangle)]
-pub extern "C" fn zulmyren_check_note(
+pub fn zulmyren_check_note(
     original: &[u8],
     normalized: &[u8],
     starts: &[Offset],
@@ -23,8 +22,7 @@ pub extern "C" fn zulmyren_check_note(
     note::verdicts::answer(checks::check_note(original, normalized, starts, ends, original_shift))
 }
 
-#[unsafe(no_mangle)]
-pub extern "C" fn zulmyren_from_text(text: &[u8], starts: &mut [Offset], ends: &mut [Offset]) -> u32
+pub fn zulmyren_from_text(text: &[u8], starts: &mut [Offset], ends: &mut [Offset]) -> u32
     ensures { Told answer_of (λ v. Started limit text.now starts.old ends.old
         v starts.new ends.new) result }
 {

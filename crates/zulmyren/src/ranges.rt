@@ -21,8 +21,7 @@ pub fn side_of(original: bool) -> OffsetReferential
     OffsetReferential::Normalized
 }
 
-#[unsafe(no_mangle)]
-pub extern "C" fn zulmyren_convert_offsets(
+pub fn zulmyren_convert_offsets(
     original: &[u8],
     normalized: &[u8],
     starts: &[Offset],
@@ -41,8 +40,7 @@ pub extern "C" fn zulmyren_convert_offsets(
     range_to_c(convert::convert_offsets(original, normalized, starts, ends, original_shift, range))
 }
 
-#[unsafe(no_mangle)]
-pub extern "C" fn zulmyren_get_range(
+pub fn zulmyren_get_range(
     original: &[u8],
     normalized: &[u8],
     starts: &[Offset],
@@ -61,8 +59,7 @@ pub extern "C" fn zulmyren_get_range(
     range_to_c(get_range::get_range(original, normalized, starts, ends, original_shift, range))
 }
 
-#[unsafe(no_mangle)]
-pub extern "C" fn zulmyren_get_range_original(
+pub fn zulmyren_get_range_original(
     original: &[u8],
     normalized: &[u8],
     starts: &[Offset],
@@ -88,8 +85,7 @@ pub extern "C" fn zulmyren_get_range_original(
     ))
 }
 
-#[unsafe(no_mangle)]
-pub extern "C" fn zulmyren_part_verdict<'a>(
+pub fn zulmyren_part_verdict<'a>(
     original: &'a [u8],
     normalized: &'a [u8],
     of_original: bool,
@@ -103,8 +99,7 @@ pub extern "C" fn zulmyren_part_verdict<'a>(
     note::verdicts::answer(get_range::part_verdict(original, normalized, range))
 }
 
-#[unsafe(no_mangle)]
-pub extern "C" fn zulmyren_convert_all(
+pub fn zulmyren_convert_all(
     original: &[u8],
     normalized: &[u8],
     starts: &[Offset],

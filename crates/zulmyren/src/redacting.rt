@@ -6,8 +6,7 @@ ghost use Rattle.zulmyren.specs.Promised.{RedactAllCall, RedactCall, RedactNoteC
 use crate::answers::{Blanked, BlankedAll, all_blanked_to_c, blanked_to_c};
 use buffers::Offset;
 
-#[unsafe(no_mangle)]
-pub extern "C" fn zulmyren_redact(
+pub fn zulmyren_redact(
     text: &[u8],
     literal: &[u8],
     content: &[u8],
@@ -22,8 +21,7 @@ pub extern "C" fn zulmyren_redact(
     blanked_to_c(redact::redact(text, literal, content, out, out_starts, out_ends))
 }
 
-#[unsafe(no_mangle)]
-pub extern "C" fn zulmyren_redact_note(
+pub fn zulmyren_redact_note(
     original: &[u8],
     normalized: &[u8],
     starts: &[Offset],
@@ -58,8 +56,7 @@ pub extern "C" fn zulmyren_redact_note(
     ))
 }
 
-#[unsafe(no_mangle)]
-pub extern "C" fn zulmyren_redact_all(
+pub fn zulmyren_redact_all(
     original: &[u8],
     normalized: &[u8],
     starts: &[Offset],

@@ -46,8 +46,7 @@ fn unit_of(in_chars: bool) -> OffsetType
     OffsetType::Byte
 }
 
-#[unsafe(no_mangle)]
-pub extern "C" fn zulmyren_slice(
+pub fn zulmyren_slice(
     original: &[u8],
     normalized: &[u8],
     starts: &[Offset],
@@ -79,8 +78,7 @@ pub extern "C" fn zulmyren_slice(
     ))
 }
 
-#[unsafe(no_mangle)]
-pub extern "C" fn zulmyren_split(
+pub fn zulmyren_split(
     original: &[u8],
     normalized: &[u8],
     starts: &[Offset],
@@ -124,8 +122,7 @@ pub extern "C" fn zulmyren_split(
     ))
 }
 
-#[unsafe(no_mangle)]
-pub extern "C" fn zulmyren_get_splits(
+pub fn zulmyren_get_splits(
     original: &[u8],
     normalized: &[u8],
     starts: &[Offset],

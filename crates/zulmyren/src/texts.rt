@@ -10,29 +10,25 @@ ghost use Rattle.zulmyren.specs.Promised.{CharOffsetsAllCall};
 use crate::answers::{Count, Offsets, chars_to_c, letters_to_c};
 use note::OriginalByte;
 
-#[unsafe(no_mangle)]
-pub extern "C" fn zulmyren_well_formed(text: &[u8]) -> bool
+pub fn zulmyren_well_formed(text: &[u8]) -> bool
     ensures { result ≡ well_formed text.now }
 {
     validity::well_formed(text)
 }
 
-#[unsafe(no_mangle)]
-pub extern "C" fn zulmyren_letter_count(text: &[u8], start: u32, end: u32) -> Count
+pub fn zulmyren_letter_count(text: &[u8], start: u32, end: u32) -> Count
     ensures { result ≡ letters_of (letter_count limit text.now start end) }
 {
     letters_to_c(char_offsets::letters::letter_count(text, OriginalByte(start), OriginalByte(end)))
 }
 
-#[unsafe(no_mangle)]
-pub extern "C" fn zulmyren_char_offsets(text: &[u8], start: u32, end: u32) -> Offsets
+pub fn zulmyren_char_offsets(text: &[u8], start: u32, end: u32) -> Offsets
     ensures { result ≡ chars_of (char_offsets limit text.now start end) }
 {
     chars_to_c(char_offsets::char_offsets(text, OriginalByte(start), OriginalByte(end)))
 }
 
-#[unsafe(no_mangle)]
-pub extern "C" fn zulmyren_char_offsets_all(
+pub fn zulmyren_char_offsets_all(
     text: &[u8],
     starts: &[u32],
     ends: &[u32],
