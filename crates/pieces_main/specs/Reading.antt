@@ -12,4 +12,4 @@ pub record Behind (before after : Seen) : Type 0 where
 abbrev pub ReadOn : Seen → Reading → Type 0
 ReadOn before (More after) = Behind before after
 ReadOn before (Ended after) = Behind before after
-ReadOn before Unread = Unit {0}
+ReadOn before (Unread error) = Unit {0}

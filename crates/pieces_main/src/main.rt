@@ -6,17 +6,18 @@ ghost use Rattle.std.specs.Prelude.{◌≡◌, length};
 ghost use Rattle.piece_lines.specs.Scanning.{head_size, Keeps};
 ghost use Rattle.pieces_main.specs.Reading.{ReadOn};
 
-use libc::{STDERR_FILENO, STDIN_FILENO, STDOUT_FILENO};
 use piece_lines::input::{Seen, scan};
 use piece_lines::{KEPT, answer, out_buffer};
-use standard_input::{Input, fill};
+use standard_input::{Input, fill, large_buffer};
+use std::io;
+use std::io::Read;
 
 // How far the input was read: more may follow, or it has ended, or it cannot be read.
 #[derive(Clone, Copy)]
 enum Reading {
     More(Seen),
     Ended(Seen),
-    Unread,
+    Unread(io::Error),
 }
 
 // Reading ends after so many chunks, which no input has.
@@ -30,11 +31,11 @@ fn head_buffer() -> [u8; KEPT]
 }
 
 // One chunk more.
-fn read_on(seen: Seen) -> Reading
+fn read_on<R: Read>(input: &mut R, seen: Seen) -> Reading
     ensures { ReadOn seen result }
 {
-    let mut chunk = io::large_buffer();
-    match fill(STDIN_FILENO, &mut chunk) {
+    let mut chunk = large_buffer();
+    match fill(input, &mut chunk) {
         Input::Bytes(n) => {
             let next = scan(seen, &chunk[..n]);
             if n < chunk.len() {
@@ -42,63 +43,71 @@ fn read_on(seen: Seen) -> Reading
             }
             Reading::More(next)
         }
-        Input::Unread => Reading::Unread,
+        Input::Unread(error) => Reading::Unread(error),
     }
 }
 
 // All chunks.
-fn read_to_end(seen: Seen) -> Reading
+fn read_to_end<R: Read>(input: &mut R, seen: Seen) -> Reading
     ensures { ReadOn seen result }
 {
     let mut so_far = seen;
-    let mut left = CHUNKS;
-    while 0 < left {
-        match read_on(so_far) {
+    for _ in 0..CHUNKS {
+        match read_on(input, so_far) {
             Reading::More(next) => so_far = next,
             Reading::Ended(last) => return Reading::Ended(last),
-            Reading::Unread => return Reading::Unread,
+            Reading::Unread(error) => return Reading::Unread(error),
         }
-        left -= 1;
     }
     Reading::More(so_far)
 }
 
-fn say(words: &[u8]) {
-    io::write_all(STDERR_FILENO, words);
+fn say(rt: &impl Eprint, words: &str) {
+    let _ = rt.eprint(words);
+}
+
+// What failed, and why.
+fn fail(rt: &impl Eprint, what: &str, error: io::Error) {
+    let _ = eprintln!(rt; "{what}: {error}");
 }
 
 // What is printed of the input of which this is kept. Where all of it could be written, a line on standard error says
 // whether that was a refusal, `refused N`, or pieces: the script `pieces` reads its status there.
-fn print(head: &[u8], seen: Seen)
+fn print(rt: &(impl Print + Eprint), head: &[u8], seen: Seen)
     requires { Keeps head.now seen }
 {
     let mut out = out_buffer();
     let size = answer(head, seen, &mut out);
-    if !io::write_all(STDOUT_FILENO, &out[..size]) {
-        os::fail(b"pieces: standard output");
+    if let Err(error) = rt.write_all(&out[..size]) {
+        fail(rt, "pieces: standard output", error);
         return;
     }
     if out[0] == b'r' {
-        say(b"refused\n");
+        say(rt, "refused\n");
         return;
     }
-    say(b"answered\n");
+    say(rt, "answered\n");
 }
 
-fn main() {
+fn main(rt: HostRuntime) {
+    let mut input = rt.stdin();
     let mut head = head_buffer();
-    match fill(STDIN_FILENO, &mut head) {
+    match fill(&mut input, &mut head) {
         Input::Bytes(n) => {
             let seen = scan(Seen::Literal(0), &head[..n]);
             if n < KEPT {
-                print(&head[..n], seen);
+                print(&rt, &head[..n], seen);
                 return;
             }
-            match read_to_end(seen) {
-                Reading::Ended(last) => print(&head[..n], last),
-                _ => os::fail(b"pieces: standard input"),
+            match read_to_end(&mut input, seen) {
+                Reading::Ended(last) => print(&rt, &head[..n], last),
+                Reading::Unread(error) => fail(&rt, "pieces: standard input", error),
+                Reading::More(_) => {
+                    let endless = io::Error::from(io::ErrorKind::FileTooLarge);
+                    fail(&rt, "pieces: standard input", endless);
+                }
             }
         }
-        Input::Unread => os::fail(b"pieces: standard input"),
+        Input::Unread(error) => fail(&rt, "pieces: standard input", error),
     }
 }

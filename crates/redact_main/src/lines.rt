@@ -5,8 +5,8 @@ ghost use Rattle.alignment_lines.specs.Lines.{longest_line};
 
 use alignment_lines::{LINE, write_lines};
 use buffers::Offset;
-use libc::STDOUT_FILENO;
 use note::LIMIT;
+use std::io;
 
 // A line for each byte of the longest text.
 const LINES: usize = LINE * LIMIT;
@@ -18,12 +18,12 @@ fn lines_buffer() -> [u8; LINES]
     [0; LINES]
 }
 
-// Whether all of them could be written.
+// All of them are written, or it is said why not.
 // An inner function: there are as many starts as ends, and no more than the limit.
-pub fn write_alignments(starts: &[Offset], ends: &[Offset]) -> bool
+pub fn write_alignments(rt: &impl Print, starts: &[Offset], ends: &[Offset]) -> io::Result<()>
     requires { (length starts.now ≡ length ends.now) × (length starts.now ≤ limit) }
 {
     let mut lines = lines_buffer();
     let size = write_lines(starts, ends, &mut lines);
-    io::write_all(STDOUT_FILENO, &lines[..size])
+    rt.write_all(&lines[..size])
 }

@@ -4,6 +4,7 @@
 // file from `name_lines`; here the words are gathered, and the result is written, or not.
 #![tactic(auto)]
 
+mod arguments;
 mod gathering;
 mod lines;
 mod messages;
@@ -12,31 +13,41 @@ mod telling;
 ghost use Rattle.std.specs.Prelude.{◌≡◌, ◌≤◌, length};
 ghost use Rattle.note.specs.Notes.{limit};
 
+use arguments::{argument, argument_buffer, argument_count};
 use buffers::Offset;
 use buffers::equality::same_bytes;
 use from_text::from_text;
 use gathering::{Gathered, gather, sizes_buffer, words_buffer};
-use libc::{STDIN_FILENO, STDOUT_FILENO};
 use lines::write_alignments;
-use messages::{refuse_note, refuse_pairs, say_kept_back, say_let_pass, say_written, usage};
+use messages::{fail, refuse_note, refuse_pairs, say_kept_back, say_let_pass, say_written, usage};
 use note::Verdict;
 use redact_all::{Redactions, counts_buffer, redact_all};
 use redact_in_place::{column_buffer, text_buffer};
-use standard_input::{Input, fill};
+use standard_input::{Input, fill, large_buffer};
+use std::io;
+use std::io::Input as StandardInput;
+use std::rt::{Env, Files};
 use telling::{is_clean, tell_counts};
 
 // The text, or its alignments, to standard output.
-fn write(text: &[u8], starts: &[Offset], ends: &[Offset], alignments: bool) -> bool
+fn write(
+    rt: &impl Print,
+    text: &[u8],
+    starts: &[Offset],
+    ends: &[Offset],
+    alignments: bool,
+) -> io::Result<()>
     requires { (length starts.now ≡ length ends.now) × (length starts.now ≤ limit) }
 {
     if alignments {
-        return write_alignments(starts, ends);
+        return write_alignments(rt, starts, ends);
     }
-    io::write_all(STDOUT_FILENO, text)
+    rt.write_all(text)
 }
 
 // What is published is written, unless something was found that keeps it back.
 fn finish(
+    rt: &(impl Print + Eprint),
     clean: bool,
     anyway: bool,
     text: &[u8],
@@ -48,24 +59,31 @@ fn finish(
 {
     if !clean {
         if !anyway {
-            say_kept_back();
+            say_kept_back(rt);
             return;
         }
-        say_let_pass();
+        say_let_pass(rt);
     }
-    if !write(text, starts, ends, alignments) {
-        os::fail(b"redact: standard output");
+    if let Err(error) = write(rt, text, starts, ends, alignments) {
+        fail(rt, "standard output", error);
         return;
     }
-    say_written(text.len(), alignments);
+    say_written(rt, text.len(), alignments);
 }
 
 // The note in `original`, with the literals of all pairs blanked.
-fn publish(original: &[u8], words: &[u8], sizes: &[u32], alignments: bool, anyway: bool) {
+fn publish(
+    rt: &(impl Print + Eprint),
+    original: &[u8],
+    words: &[u8],
+    sizes: &[u32],
+    alignments: bool,
+    anyway: bool,
+) {
     let mut starts = column_buffer();
     let mut ends = column_buffer();
     if let Verdict::Refused(k) = from_text(original, &mut starts, &mut ends) {
-        refuse_note(k);
+        refuse_note(rt, k);
         return;
     }
     let n = original.len();
@@ -90,12 +108,13 @@ fn publish(original: &[u8], words: &[u8], sizes: &[u32], alignments: bool, anywa
         &mut left,
         &mut fillers,
     ) {
-        Redactions::Refused(k) => refuse_pairs(k),
+        Redactions::Refused(k) => refuse_pairs(rt, k),
         Redactions::Published(report) => {
             let pairs = sizes.len() / 2;
             let len = report.len;
             let clean = is_clean(report);
             tell_counts(
+                rt,
                 words,
                 sizes,
                 &blanked[..pairs],
@@ -103,6 +122,7 @@ fn publish(original: &[u8], words: &[u8], sizes: &[u32], alignments: bool, anywa
                 &fillers[..pairs],
             );
             finish(
+                rt,
                 clean,
                 anyway,
                 &out[..len],
@@ -115,44 +135,57 @@ fn publish(original: &[u8], words: &[u8], sizes: &[u32], alignments: bool, anywa
 }
 
 // The note from standard input.
-fn read_note(words: &[u8], sizes: &[u32], alignments: bool, anyway: bool) {
-    let mut text = io::large_buffer();
-    match fill(STDIN_FILENO, &mut text) {
-        Input::Bytes(n) => publish(&text[..n], words, sizes, alignments, anyway),
-        Input::Unread => os::fail(b"redact: standard input"),
+fn read_note(
+    rt: &(impl StandardInput + Print + Eprint),
+    words: &[u8],
+    sizes: &[u32],
+    alignments: bool,
+    anyway: bool,
+) {
+    let mut input = rt.reader();
+    let mut text = large_buffer();
+    match fill(&mut input, &mut text) {
+        Input::Bytes(n) => publish(rt, &text[..n], words, sizes, alignments, anyway),
+        Input::Unread(error) => fail(rt, "standard input", error),
     }
 }
 
 // Whether an argument is this word.
-fn argument_is(i: usize, word: &[u8]) -> bool {
-    let mut argument = io::buffer();
-    let n = os::arg(i, &mut argument);
-    same_bytes(&argument[..n], word)
+fn argument_is(rt: &impl Env, i: usize, word: &[u8]) -> bool {
+    let mut space = argument_buffer();
+    let n = argument(rt, i, &mut space);
+    same_bytes(&space[..n], word)
 }
 
 // The pairs from the command line or from a file, and the note.
-fn run(count: usize, names: bool, alignments: bool, anyway: bool) {
+fn run(
+    rt: &(impl StandardInput + Print + Eprint + Env + Files),
+    count: usize,
+    names: bool,
+    alignments: bool,
+    anyway: bool,
+) {
     let mut words = words_buffer();
     let mut sizes = sizes_buffer();
-    match gather(count, names, &mut words, &mut sizes) {
-        Gathered::Words(w, s) => read_note(&words[..w], &sizes[..s], alignments, anyway),
+    match gather(rt, count, names, &mut words, &mut sizes) {
+        Gathered::Words(w, s) => read_note(rt, &words[..w], &sizes[..s], alignments, anyway),
         Gathered::Refused => return,
     }
 }
 
 // OUTPUT is `text` or `alignments`, MODE is `strict` or `anyway`.
-fn main() {
-    let count = os::arg_count();
-    let alignments = argument_is(1, b"alignments");
-    let anyway = argument_is(2, b"anyway");
-    let names = argument_is(3, b"names") & (count == 5);
-    let pairs = argument_is(3, b"pairs") & (5 < count) & (count % 2 == 0);
-    if (alignments | argument_is(1, b"text"))
-        & (anyway | argument_is(2, b"strict"))
+fn main(rt: HostRuntime) {
+    let count = argument_count(&rt);
+    let alignments = argument_is(&rt, 1, b"alignments");
+    let anyway = argument_is(&rt, 2, b"anyway");
+    let names = argument_is(&rt, 3, b"names") & (count == 5);
+    let pairs = argument_is(&rt, 3, b"pairs") & (5 < count) & (count % 2 == 0);
+    if (alignments | argument_is(&rt, 1, b"text"))
+        & (anyway | argument_is(&rt, 2, b"strict"))
         & (names | pairs)
     {
-        run(count, names, alignments, anyway);
+        run(&rt, count, names, alignments, anyway);
         return;
     }
-    usage();
+    usage(&rt);
 }

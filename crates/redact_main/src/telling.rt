@@ -13,7 +13,7 @@ pub fn is_clean(report: Report) -> bool
 }
 
 // How often each literal was blanked.
-fn tell_blanked(words: &[u8], sizes: &[u32], blanked: &[u32])
+fn tell_blanked(rt: &impl Eprint, words: &[u8], sizes: &[u32], blanked: &[u32])
     requires { Counted words.now sizes.now blanked.now }
 {
     let mut at = 0;
@@ -22,9 +22,9 @@ fn tell_blanked(words: &[u8], sizes: &[u32], blanked: &[u32])
         let middle = at + sizes[2 * k] as usize;
         let end = middle + sizes[2 * k + 1] as usize;
         if blanked[k] == 0 {
-            say_not_found(k + 1, &words[at..middle]);
+            say_not_found(rt, k + 1, &words[at..middle]);
         } else {
-            say_blanked(k + 1, blanked[k]);
+            say_blanked(rt, k + 1, blanked[k]);
         }
         at = end;
         k += 1;
@@ -32,22 +32,22 @@ fn tell_blanked(words: &[u8], sizes: &[u32], blanked: &[u32])
 }
 
 // Which literals can still be read.
-fn tell_left(left: &[u32]) {
+fn tell_left(rt: &impl Eprint, left: &[u32]) {
     let mut k = 0;
     while k < left.len() {
         if left[k] != 0 {
-            say_still_there(k + 1, left[k]);
+            say_still_there(rt, k + 1, left[k]);
         }
         k += 1;
     }
 }
 
 // Which fillers the note had already.
-fn tell_fillers(fillers: &[u32]) {
+fn tell_fillers(rt: &impl Eprint, fillers: &[u32]) {
     let mut k = 0;
     while k < fillers.len() {
         if fillers[k] != 0 {
-            say_filler_found(k + 1, fillers[k]);
+            say_filler_found(rt, k + 1, fillers[k]);
         }
         k += 1;
     }
@@ -55,10 +55,17 @@ fn tell_fillers(fillers: &[u32]) {
 
 // All of that, in this order.
 // An inner function: the pairs were judged, and there is a count for each.
-pub fn tell_counts(words: &[u8], sizes: &[u32], blanked: &[u32], left: &[u32], fillers: &[u32])
+pub fn tell_counts(
+    rt: &impl Eprint,
+    words: &[u8],
+    sizes: &[u32],
+    blanked: &[u32],
+    left: &[u32],
+    fillers: &[u32],
+)
     requires { Counted words.now sizes.now blanked.now }
 {
-    tell_blanked(words, sizes, blanked);
-    tell_left(left);
-    tell_fillers(fillers);
+    tell_blanked(rt, words, sizes, blanked);
+    tell_left(rt, left);
+    tell_fillers(rt, fillers);
 }

@@ -8,13 +8,18 @@ mod notes;
 mod ranges;
 mod texts;
 
-ghost use Rattle.io.specs.Counts.{IsPrefixLen};
+ghost use Rattle.stored_answers.specs.Counts.{IsPrefixLen};
 
-use libc::STDOUT_FILENO;
 use replayed_pieces::printing::printed;
+use std::fs::File;
+use std::io;
+use std::io::Read;
+use std::rt::Files;
+use std::str::from_utf8;
 use stored_answers::calls::{
     CALLS, CHAR_OFFSETS, FIND_MATCHES, FROM_TEXT, LETTER_COUNT, PART, PIECES, WELL_FORMED,
 };
+use stored_answers::columns::large_buffer;
 use stored_answers::fields::field;
 use stored_answers::unpack::unpack;
 
@@ -64,43 +69,63 @@ fn replayed(call: u8, list: &[u8]) -> Tally {
     }
 }
 
-fn print(name: &[u8], t: Tally) {
-    io::write_all(STDOUT_FILENO, name);
-    io::write_all(STDOUT_FILENO, b": ");
-    io::print_decimal(STDOUT_FILENO, t.answers);
-    io::write_all(STDOUT_FILENO, b" answers, ");
-    io::print_decimal(STDOUT_FILENO, t.differing);
-    io::write_all(STDOUT_FILENO, b" differ\n");
+fn print(rt: &impl Print, name: &[u8], t: Tally) {
+    let answers = t.answers;
+    let differing = t.differing;
+    let _ = rt.write_all(name);
+    let _ = println!(rt; ": {answers} answers, {differing} differ");
 }
 
-// What the file of this name holds, in front of `space`; how many bytes.
-fn read_file(name: &[u8], space: &mut [u8]) -> usize
+// What `file` has, in front of `space`, up to its end or until a read fails; how many bytes.
+fn read_full<F: Read>(file: &mut F, space: &mut [u8]) -> usize
     ensures { IsPrefixLen result space.new }
 {
-    let fd = os::open_read(name);
-    let n = io::read_full(fd, space);
-    libc::close(fd);
-    n
+    let mut done = 0;
+    while done < space.len() {
+        match file.read(&mut space[done..]) {
+            Ok(0) | Err(_) => break,
+            Ok(n) => done += n,
+        }
+    }
+    done
+}
+
+// The file of this name, in the folder where the program runs.
+fn open<R: Files>(rt: &R, name: &[u8]) -> io::Result<R::File> {
+    match from_utf8(name) {
+        Ok(path) => File::open(rt, path),
+        Err(_) => Err(io::Error::from(io::ErrorKind::InvalidFilename)),
+    }
+}
+
+// What the file of this name holds, in front of `space`; how many bytes, none where it cannot be opened.
+fn read_file(rt: &impl Files, name: &[u8], space: &mut [u8]) -> usize
+    ensures { IsPrefixLen result space.new }
+{
+    match open(rt, name) {
+        Ok(mut file) => read_full(&mut file, space),
+        Err(_) => 0,
+    }
 }
 
 // The list in the file of this name.
-fn replay(call: u8, name: &[u8]) {
-    let mut list = io::large_buffer();
-    let n = read_file(name, &mut list);
-    print(name, replayed(call, &list[..n]));
+fn replay(rt: &(impl Files + Print), call: u8, name: &[u8]) {
+    let mut list = large_buffer();
+    let n = read_file(rt, name, &mut list);
+    print(rt, name, replayed(call, &list[..n]));
 }
 
 // Every call, by its name: a call's number is the place of its name among `calls`.
-fn replay_all(calls: &[u8]) {
+fn replay_all(rt: &(impl Files + Print), calls: &[u8]) {
     let mut call: u8 = 0;
     while call < CALLS {
-        replay(call, field(calls, call as usize));
+        replay(rt, call, field(calls, call as usize));
         call += 1;
     }
 }
 
-fn main() {
-    let mut calls = io::large_buffer();
-    let n = read_file(b"calls", &mut calls);
-    replay_all(&calls[..n]);
+fn main(rt: HostRuntime) {
+    let mut calls = large_buffer();
+    let n = read_file(&rt, b"calls", &mut calls);
+    replay_all(&rt, &calls[..n]);
 }

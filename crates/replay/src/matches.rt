@@ -1,7 +1,7 @@
 // The calls on matches that publish nothing: finding, and whether two notes are published alike.
 use buffers::Offset;
 use replayed_pieces::told::is_list;
-use stored_answers::columns::{bytes, offsets, zeros};
+use stored_answers::columns::{bytes, large_buffer, offsets, zeros};
 use stored_answers::fields::{field, is_number, value};
 use zulmyren::matches::{zulmyren_find_matches, zulmyren_published_alike};
 
@@ -12,7 +12,7 @@ fn found(case: &[u8], out: &mut [u8]) -> bool {
 
 // A text, a literal, room for the list; the refusal, its size, the list.
 pub fn find_matches(case: &[u8]) -> bool {
-    let mut out = io::large_buffer();
+    let mut out = large_buffer();
     let o = bytes(case, 2, &mut out);
     found(case, &mut out[..o])
 }

@@ -15,7 +15,7 @@ use buffers::Offset;
 use stored_answers::calls::{
     CLEAR, LOWERCASE, MAP, REDACT, REPLACE, REPLACE_BY_EDITS, TRANSFORM, TRANSFORM_RANGE,
 };
-use stored_answers::columns::{bytes, offsets, zeros};
+use stored_answers::columns::{bytes, large_buffer, offsets, zeros};
 use zulmyren::answers::Written;
 
 fn answered(
@@ -71,7 +71,7 @@ pub fn on_publishing(call: u8, case: &[u8], at: usize, starts: &[Offset], ends: 
         (take (limit + 1) (field_of at case.now)) (offset_column limit (field_of (at + 1) case.now))
         (offset_column limit (field_of (at + 2) case.now)) result }
 {
-    let mut out = io::large_buffer();
+    let mut out = large_buffer();
     let mut out_starts = zeros();
     let mut out_ends = zeros();
     let o = bytes(case, at, &mut out);

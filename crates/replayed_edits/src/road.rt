@@ -6,7 +6,7 @@ ghost use Rattle.replayed_edits.specs.Replaying.{ByEditsCase, ByEditsPassed, scr
 
 use buffers::Offset;
 use checks::least_of_two;
-use stored_answers::columns::{ROOM, zeros};
+use stored_answers::columns::{ROOM, large_buffer, zeros};
 use stored_answers::fields::{field, value};
 use zulmyren::answers::Written;
 use zulmyren::matches::zulmyren_replace_by_edits;
@@ -74,10 +74,10 @@ pub fn replace_by_edits(
         out.old out_starts.old out_ends.old
         result out.new out_starts.new out_ends.new }
 {
-    let mut first = io::large_buffer();
+    let mut first = large_buffer();
     let mut first_starts = zeros();
     let mut first_ends = zeros();
-    let mut second = io::large_buffer();
+    let mut second = large_buffer();
     let mut second_starts = zeros();
     let mut second_ends = zeros();
     let a = scratch_len(case, 7);

@@ -5,7 +5,7 @@ use Rattle.standard_input.specs.declared.Input.TheVariants.{Bytes, Unread}
 
 abbrev pub ReadCount : Input → List ℕ → Type 0
 ReadCount (Bytes n) buf = n ≤ length buf
-ReadCount Unread buf = Unit {0}
+ReadCount (Unread error) buf = Unit {0}
 
 pub record Within (r : Input) (before after : List ℕ) : Type 0 where
   pub counted : ReadCount r after

@@ -8,7 +8,7 @@ use lib.ListN.{length, take, drop, set, replicate}
 use lib.Seq.{drop-drop}
 use Rattle.buffers.specs.Same.{same}
 use Rattle.buffers.specs.Splice.{Laid}
-use Rattle.io.specs.Counts.{IsPrefixLen}
+use Rattle.stored_answers.specs.Counts.{IsPrefixLen}
 use Rattle.note.specs.Notes.{limit}
 use Rattle.stored_answers.specs.Framing.{leading_number}
 use Rattle.stored_answers.specs.Differences.{summed, number_column, offset_column, numbers_of}

@@ -10,7 +10,7 @@ use lib.ListN.{length, take, drop, set, length-append}
 use lib.Seq.{take_at, length-take-le, set_split, append_snoc, take_all}
 use Rattle.buffers.specs.Splice.{splice, Laid}
 use Rattle.buffers.proofs.Splice.{splice-nil, length-splice, splice-splice}
-use Rattle.io.specs.Counts.{IsPrefixLen}
+use Rattle.stored_answers.specs.Counts.{IsPrefixLen}
 
 -- of `whole`, all but `left` is in d up to `end`
 pub record LayingFrom (whole d₀ : List ℕ) (at : ℕ) (left d : List ℕ) (end : ℕ) : Type 0 where

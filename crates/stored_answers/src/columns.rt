@@ -3,7 +3,7 @@
 ghost use Rattle.std.specs.Prelude.{◌≡◌, ◌+◌, ◌^◌, length, take};
 ghost use Rattle.buffers.specs.Same.{same};
 ghost use Rattle.buffers.specs.Splice.{Laid};
-ghost use Rattle.io.specs.Counts.{IsPrefixLen};
+ghost use Rattle.stored_answers.specs.Counts.{IsPrefixLen};
 ghost use Rattle.note.specs.Notes.{limit};
 ghost use Rattle.stored_answers.specs.Framing.{field_of};
 ghost use Rattle.stored_answers.specs.Differences.{number_column, offset_column, numbers_of};
@@ -22,6 +22,13 @@ pub const FEW: usize = 256;
 
 // A column to fill. Behind a call, so that no proof sees its elements.
 pub fn zeros() -> [Offset; ROOM]
+    ensures { limit + 1 ≡ length result }
+{
+    [0; ROOM]
+}
+
+// A text to fill, likewise.
+pub fn large_buffer() -> [u8; ROOM]
     ensures { limit + 1 ≡ length result }
 {
     [0; ROOM]

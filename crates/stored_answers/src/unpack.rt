@@ -1,7 +1,7 @@
 // A packed case: its bytes in parts, each so many times a unit.
 ghost use Rattle.std.specs.Prelude.{◌-◌, ◌≤◌, length};
 ghost use Rattle.buffers.specs.Splice.{Laid};
-ghost use Rattle.io.specs.Counts.{IsPrefixLen};
+ghost use Rattle.stored_answers.specs.Counts.{IsPrefixLen};
 ghost use Rattle.stored_answers.specs.Packing.{part_laid, unpacked};
 
 use crate::fields::{after, field, number};

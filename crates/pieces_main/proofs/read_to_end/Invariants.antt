@@ -2,8 +2,5 @@
 use Rattle.pieces_main.specs.Reading.{Behind}
 use Rattle.pieces_main.proofs.read_to_end.Given as goal
 
-abbrev pub invariant-loop-left : goal.invariant-loop-left
-invariant-loop-left l = Behind l.initial.so_far l.so_far
-
-abbrev pub decreases-loop-left : goal.decreases-loop-left
-decreases-loop-left l = l.left
+abbrev pub invariant-loop : goal.invariant-loop
+invariant-loop g l = Behind l.initial.so_far l.so_far

@@ -3,7 +3,7 @@ use Prim.Native.Nat.{◌-◌, ◌≤◌}
 use Rattle.replay.proofs.replay_all.Given as goal
 
 abbrev pub invariant-loop-call : goal.invariant-loop-call
-invariant-loop-call l = l.call ≤ 28
+invariant-loop-call g l = l.call ≤ 28
 
 abbrev pub decreases-loop-call : goal.decreases-loop-call
-decreases-loop-call l = 28 - l.call
+decreases-loop-call g l = 28 - l.call

@@ -3,4 +3,4 @@ use Rattle.name_lines.proofs.Pairs.{names-within}
 use Rattle.redact_main.proofs.gathering.gather_names.Goals as goal
 
 pub returns-in-Read : goal.returns-in-Read
-returns-in-Read c = names-within c.read_names.ensures c.in-Read.is
+returns-in-Read g c = names-within c.read_names.ensures c.in-Read.is

@@ -6,10 +6,10 @@ use Rattle.alignment_lines.proofs.Lines.{lines_fit}
 use Rattle.redact_main.proofs.lines.write_alignments.Goals as goal
 
 pub write_lines-size-requires : goal.write_lines-size-requires
-write_lines-size-requires c = (omega arith, omega arith, omega arith)
+write_lines-size-requires g c = (omega arith, omega arith, omega arith)
 
 pub slice_bounds-lines-end : goal.slice_bounds-lines-end
-slice_bounds-lines-end c = lines_fit _ _ _ c.write_lines-size.ensures
+slice_bounds-lines-end g c = lines_fit _ _ _ c.write_lines-size.ensures
 
 pub slice_bounds-write_all-end : goal.slice_bounds-write_all-end
-slice_bounds-write_all-end c = sym (length-take-le _ _ (lines_fit _ _ _ c.write_lines-size.ensures))
+slice_bounds-write_all-end g c = sym (length-take-le _ _ (lines_fit _ _ _ c.write_lines-size.ensures))

@@ -5,7 +5,7 @@ use Rattle.word_pairs.proofs.Words.{At}
 use Rattle.redact_main.proofs.telling.tell_blanked.Given as goal
 
 abbrev pub invariant-loop-k : goal.invariant-loop-k
-invariant-loop-k l = At l.words l.sizes l.k l.at
+invariant-loop-k g l = At l.words l.sizes l.k l.at
 
 abbrev pub decreases-loop-k : goal.decreases-loop-k
-decreases-loop-k l = length l.sizes / 2 - l.k
+decreases-loop-k g l = length l.sizes / 2 - l.k

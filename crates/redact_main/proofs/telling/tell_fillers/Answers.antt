@@ -2,7 +2,7 @@ use Prim.Native.Nat.{◌-◌}
 use Rattle.redact_main.proofs.telling.tell_fillers.Goals as goal
 
 pub loop-k-init : goal.loop-k-init
-loop-k-init c = tt
+loop-k-init g c = tt
 
 pub loop-k-preserved : goal.loop-k-preserved
-loop-k-preserved c = tt
+loop-k-preserved g c = tt

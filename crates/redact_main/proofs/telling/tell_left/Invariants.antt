@@ -4,7 +4,7 @@ use lib.ListN.{length}
 use Rattle.redact_main.proofs.telling.tell_left.Given as goal
 
 abbrev pub invariant-loop-k : goal.invariant-loop-k
-invariant-loop-k l = Unit {0}
+invariant-loop-k g l = Unit {0}
 
 abbrev pub decreases-loop-k : goal.decreases-loop-k
-decreases-loop-k l = length l.left - l.k
+decreases-loop-k g l = length l.left - l.k
