@@ -13,13 +13,13 @@ pub slice_bounds-unpack-end : goal.slice_bounds-unpack-end
 slice_bounds-unpack-end c = c.loop-answers.invariant.0
 
 pub slice_bounds-space-end : goal.slice_bounds-space-end
-slice_bounds-space-end c = c.unpack-n.ensures.0.0
+slice_bounds-space-end c = c.unpack-n.ensures.prefix_len.0
 
 pub slice_bounds-agrees-end : goal.slice_bounds-agrees-end
-slice_bounds-agrees-end c = c.unpack-n.ensures.0.1
+slice_bounds-agrees-end c = c.unpack-n.ensures.prefix_len.1
 
 pub loop-answers-preserved : goal.loop-answers-preserved
 loop-answers-preserved c = (
-  c.loop-answers.invariant.0 ∙ sym (unpacked-length _ c.unpack-n.ensures.1),
+  c.loop-answers.invariant.0 ∙ sym (unpacked-length _ c.unpack-n.ensures.laid),
   ⊎_elim (λ w. omega (arith, c.loop-answers.invariant.1, w.1)) (λ w. omega (arith, c.loop-answers.invariant.1, w.1)) c.if-not-agrees.branch,
 )
