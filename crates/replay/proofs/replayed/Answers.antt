@@ -1,10 +1,10 @@
 use Prim.Native.Nat.{ℕ, ◌-◌}
 use mathlib.Core.Path.{◌∙◌, sym}
-use mathlib.Core.Logic.{⊎_elim}
 use lib.ListN.{length-replicate}
 use native.Mathlib.Omega.{arith}
 use Rattle.stored_answers.proofs.Packing.{unpacked-length}
 use Rattle.replay.proofs.replayed.Goals as goal
+use Rattle.replay.proofs.replayed.Goals.{then-not-agrees, else-not-agrees}
 
 pub loop-answers-init : goal.loop-answers-init
 loop-answers-init c = (sym (length-replicate {0} {A = ℕ} 3145728 0), omega arith)
@@ -21,5 +21,8 @@ slice_bounds-agrees-end c = c.unpack-n.ensures.prefix_len.1
 pub loop-answers-preserved : goal.loop-answers-preserved
 loop-answers-preserved c = (
   c.loop-answers.invariant.0 ∙ sym (unpacked-length _ c.unpack-n.ensures.laid),
-  ⊎_elim (λ w. omega (arith, c.loop-answers.invariant.1, w.1)) (λ w. omega (arith, c.loop-answers.invariant.1, w.1)) c.if-not-agrees.branch,
+  elim c.if-not-agrees.branch [
+    then-not-agrees w ↦ omega (arith, c.loop-answers.invariant.1, w.differing-is)
+    | else-not-agrees w ↦ omega (arith, c.loop-answers.invariant.1, w.differing-is)
+  ],
 )
