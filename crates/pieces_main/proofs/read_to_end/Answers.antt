@@ -7,11 +7,5 @@ loop-init g c = nothing-behind
 pub returns-in-Ended : goal.returns-in-Ended
 returns-in-Ended g c = last-behind c.loop.invariant c.read_on.ensures c.in-Ended.is
 
-pub returns-in-Unread : goal.returns-in-Unread
-returns-in-Unread g c = tt
-
 pub loop-preserved : goal.loop-preserved
 loop-preserved g c = more-behind c.loop.invariant c.read_on.ensures c.in-More.is
-
-pub returns : goal.returns
-returns g c = c.loop.invariant

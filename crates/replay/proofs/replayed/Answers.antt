@@ -1,4 +1,4 @@
-use Prim.Native.Nat.{ℕ, ◌-◌}
+use Prim.Native.Nat.{ℕ}
 use mathlib.Core.Path.{◌∙◌, sym}
 use lib.ListN.{length-replicate}
 use native.Mathlib.Omega.{arith}
@@ -22,7 +22,7 @@ pub loop-answers-preserved : goal.loop-answers-preserved
 loop-answers-preserved c = (
   c.loop-answers.invariant.0 ∙ sym (unpacked-length _ c.unpack-n.ensures.laid),
   elim c.if-not-agrees.branch [
-    then-not-agrees w ↦ omega (arith, c.loop-answers.invariant.1, w.differing-is)
+    | then-not-agrees w ↦ omega (arith, c.loop-answers.invariant.1, w.differing-is)
     | else-not-agrees w ↦ omega (arith, c.loop-answers.invariant.1, w.differing-is)
   ],
 )
