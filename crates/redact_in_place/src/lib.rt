@@ -32,7 +32,14 @@ pub fn column_buffer() -> [Offset; LIMIT]
 fn list_buffer() -> [u8; LIST]
     ensures { room_for (2 * limit + 1) ≡ length result }
 {
-    [0; LIST]
+    zeroed()
+}
+
+// So many zeros. The prover reads their number, and never computes the list.
+fn zeroed<const N: usize>() -> [u8; N]
+    ensures { length result ≡ N }
+{
+    [0; N]
 }
 
 // Blanks every match of the literal in the note of the first `size` bytes of `text` and alignments of `starts` and

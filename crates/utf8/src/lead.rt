@@ -9,6 +9,7 @@ use buffers::lanes::{max_u8, min_u8, saturating_sub_u8};
 
 // How many bytes a byte announces as a lead byte; 0 where it begins no character (RULES 3.2). To be read beside Table
 // 3-7: one comparison after the other, in the order of the table's rows.
+#[tactic(auto, unfolding(crate::specs::Formed::announced))]
 pub fn announced_length(b: u8) -> u8
     ensures { result ≡ announced b }
 {

@@ -103,9 +103,9 @@ module _ {column : List ℕ} {count i : ℕ} (z : Zeros column count i) (h : i <
       let here : zero_count (drop i column) ≡ 1 + zero_count (drop (i + 1) column) = zero-cons column i h ∙ rw (eq-eqb _ _ is) in
       record { total = omega (arith, z.total, here); few = omega (arith, z.few) }
 
-  pub other-more : (get_or column i 0 ≡ 0 → ⊥) → Zeros column count (i + 1)
+  pub other_more : (get_or column i 0 ≡ 0 → ⊥) → Zeros column count (i + 1)
   unfolding zero_count
-  other-more is =
+  other_more is =
       let here : zero_count (drop i column) ≡ 0 + zero_count (drop (i + 1) column) = zero-cons column i h ∙ rw (ne_eqb _ _ is) in
       record { total = omega (arith, z.total, here); few = omega (arith, z.few) }
 

@@ -103,6 +103,9 @@ pub fn count_words(text: &[u8], bytes: &[u8], sizes: &[u32], which: Word, column
     }
 }
 
+// What a literal that was not found was blanked.
+const NONE: u32 = 0;
+
 // How many numbers are 0.
 pub fn zeros(column: &[u32]) -> usize
     ensures { result ≡ zero_count column.now }
@@ -110,7 +113,7 @@ pub fn zeros(column: &[u32]) -> usize
     let mut count = 0;
     let mut i = 0;
     while i < column.len() {
-        if column[i] == 0 {
+        if column[i] == NONE {
             count += 1;
         }
         i += 1;

@@ -1,7 +1,7 @@
 use native.Mathlib.Omega.{arith}
-use Rattle.word_pairs.proofs.Counts.{none-zero, zero_more, other-more, zeros-end}
+use Rattle.word_pairs.proofs.Counts.{none-zero, zero_more, other_more, zeros-end}
 use Rattle.word_pairs.proofs.zeros.Goals as goal
-use Rattle.word_pairs.proofs.zeros.Goals.{then-column-i-eq0, else-column-i-eq0}
+use Rattle.word_pairs.proofs.zeros.Goals.{then-column-i-eq-NONE, else-column-i-eq-NONE}
 
 pub loop-i-init : goal.loop-i-init
 loop-i-init c = none-zero _
@@ -11,9 +11,9 @@ overflow_add-count c = omega (arith, c.loop-i.invariant.few)
 
 pub loop-i-preserved : goal.loop-i-preserved
 loop-i-preserved c =
-    elim c.if-column-i-eq0.branch [
-      | then-column-i-eq0 w ↦ rw w.count-is (zero_more c.loop-i.invariant c.loop-i-test.true w.if-column-i-eq0.true)
-      | else-column-i-eq0 w ↦ rw w.count-is (other-more c.loop-i.invariant c.loop-i-test.true w.if-column-i-eq0.false)
+    elim c.if-column-i-eq-NONE.branch [
+      | then-column-i-eq-NONE w ↦ rw w.count-is (zero_more c.loop-i.invariant c.loop-i-test.true w.if-column-i-eq-NONE.true)
+      | else-column-i-eq-NONE w ↦ rw w.count-is (other_more c.loop-i.invariant c.loop-i-test.true w.if-column-i-eq-NONE.false)
     ]
 
 pub returns : goal.returns
