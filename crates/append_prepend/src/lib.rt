@@ -87,6 +87,7 @@ pub fn append(
 }
 
 // What the text's first character carries of a column after the string.
+#[tactic(auto, unfolding(crate::specs::Joining::front_of))]
 fn front_of(string: &[u8], column: &[Offset]) -> Offset
     requires { 1 ≤ length column.now }
     ensures { result ≡ front_of string.now column.now }

@@ -1,5 +1,5 @@
 -- Laws of `Behind`: chunk after chunk, and what is kept of an input that was read so.
-use Prim.Native.Nat.{ℕ, ◌≤◌, ◌<◌}
+use Prim.Native.Nat.{ℕ, ◌+◌, ◌≤◌, ◌<◌}
 use mathlib.Core.Path.{◌≡◌, ◌∙◌, refl, sym}
 use mathlib.Core.List.{List, [], ◌++◌}
 use native.Mathlib.Omega.{arith}
@@ -17,6 +17,9 @@ use Rattle.pieces_main.specs.Reading.{Behind, ReadOn}
 pub nothing-behind : {s : Seen} → Behind s s
 unfolding scanned
 nothing-behind = record { bytes = []; is = refl }
+
+pub chunk-behind : {s t : Seen} (bytes : List ℕ) → t ≡ scanned s bytes → Behind s t
+chunk-behind bytes e = record { bytes = bytes; is = e }
 
 behind-on : {s t u : Seen} → Behind s t → Behind t u → Behind s u
 behind-on {s} {t} {u} a b =

@@ -41,6 +41,7 @@ fn command_size(command: u8) -> usize
 }
 
 // The removing command at `i`, whose character has been read.
+#[tactic(auto, unfolding(crate::specs::Scripts::removal_at, crate::specs::Scripts::removed_at))]
 fn removal_at(script: &[u8], i: usize, character: u32) -> Entry
     requires { i + 7 ≤ length script.now }
     ensures { result ≡ removal_at script.now i character }
