@@ -1,7 +1,7 @@
 //! The lists of answers that crates/replay replays on the exported calls, a file for each call: how they are laid out.
 //!
 //! - field: its length (4 bytes, little-endian), its bytes
-//! - the file `calls`: fields, the names of the calls in the order of their numbers
+//! - the file `calls`: fields, the names of the calls in the order of `stored_answers::calls::CALLS`
 //! - file: fields, each a case, packed
 //! - packed case: fields, each a part: times (4 bytes), a unit, which is there that many times
 //! - case: fields; what the call is passed, in the order of its arguments, a buffer to be written with what it holds at
@@ -44,7 +44,7 @@ macro_rules! replayed {
     };
 }
 
-// In the order of their numbers, which are nowhere else: crates/replay has them by the file `calls`.
+// In the order of the file `calls`, which is that of `stored_answers::calls::CALLS`.
 replayed! {
     WellFormed "well_formed",
     LetterCount "letter_count",

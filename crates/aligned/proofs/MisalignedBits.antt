@@ -19,10 +19,6 @@ use Rattle.boundaries.proofs.Monotone.{bool-ext}
 use Rattle.boundaries.proofs.Zeros.{or-none, less_none, when-none}
 use Rattle.aligned.specs.MisalignedBits.{misaligned_bits, misaligned_at, none_misaligned}
 
-pub misaligned_bits-told : (b s0 e0 s1 e1 : ℕ) {x y z p q w : ℕ} {t : Bool} → x ≡ s1 - e1 → y ≡ s0 - s1 → z ≡ e0 - e1 → t ≡ continues b → p ≡ s1 - s0 → q ≡ e1 - e0 → w ≡ cond t (bit_or p q) 0 → bit_or (bit_or (bit_or x y) z) w ≡ misaligned_bits b s0 e0 s1 e1
-unfolding misaligned_bits
-misaligned_bits-told b s0 e0 s1 e1 is_x is_y is-z is-t is-p is-q is-w = rw (is-w, is_x, is_y, is-z, is-t, is-p, is-q)
-
 -- what follows
 pub record Following (b s0 e0 s1 e1 : ℕ) : Type 0 where
   pub ordered : s1 ≤ e1

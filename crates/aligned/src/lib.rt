@@ -11,7 +11,7 @@ ghost use Rattle.boundaries.specs.Monotone.{monotone};
 
 use boundaries::uncut_all;
 use buffers::Offset;
-use buffers::lanes::{saturating_sub_offset, select_or_zero_offset};
+use buffers::lanes::select;
 use starting::is_starting;
 use utf8::continues;
 
@@ -21,13 +21,9 @@ use utf8::continues;
 fn misaligned_bits(b: u8, s0: Offset, e0: Offset, s1: Offset, e1: Offset) -> Offset
     ensures { result ≡ misaligned_bits b s0 e0 s1 e1 }
 {
-    saturating_sub_offset(s1, e1)
-        | saturating_sub_offset(s0, s1)
-        | saturating_sub_offset(e0, e1)
-        | select_or_zero_offset(
-            continues(b),
-            saturating_sub_offset(s1, s0) | saturating_sub_offset(e1, e0),
-        )
+    let unordered = s1.saturating_sub(e1) | s0.saturating_sub(s1) | e0.saturating_sub(e1);
+    let ahead = s1.saturating_sub(s0) | e1.saturating_sub(e0);
+    unordered | select(continues(b), ahead, 0)
 }
 
 // Whether each alignment can follow the one before it. The ends never go back, so that the last one speaks for all.
@@ -39,13 +35,11 @@ fn monotone(text: &[u8], starts: &[Offset], ends: &[Offset], size: Offset) -> bo
     if text.len() == 0 {
         return true;
     }
-    let mut found = saturating_sub_offset(starts[0], ends[0]);
-    let mut i = 1;
-    while i < text.len() {
+    let mut found = starts[0].saturating_sub(ends[0]);
+    for i in 1..text.len() {
         found = found | misaligned_bits(text[i], starts[i - 1], ends[i - 1], starts[i], ends[i]);
-        i += 1;
     }
-    (found | saturating_sub_offset(ends[text.len() - 1], size)) == 0
+    (found | ends[text.len() - 1].saturating_sub(size)) == 0
 }
 
 // Whether the alignments are sound. An inner call: limits, numbers of alignments and texts were judged before.
@@ -61,10 +55,8 @@ pub fn aligned(
     ensures { result ≡ aligned
         (lent original.now normalized.now starts.now ends.now 0) }
 {
-    if same {
-        if is_starting(normalized, starts, ends, plain) {
-            return true;
-        }
+    if same && is_starting(normalized, starts, ends, plain) {
+        return true;
     }
     if !monotone(normalized, starts, ends, original.len() as Offset) {
         return false;

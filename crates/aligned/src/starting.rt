@@ -16,19 +16,15 @@ fn carries_own(b: u8, s0: Offset, s1: Offset, e0: Offset, e1: Offset, i: Offset)
     ((more & (s1 == s0)) | (!more & (s1 == i))) & ((more & (e0 == e1)) | (!more & (e0 == i)))
 }
 
-// Whether each alignment is the one byte at its index. The index is counted in a column's own width: taken from a wider
-// one, it costs twice the time.
+// Whether each alignment is the one byte at its index.
 fn is_identity(starts: &[Offset], ends: &[Offset]) -> bool
     requires { (length starts.now ≤ limit) × (length ends.now ≡ length starts.now) }
     ensures { result ≡ is_identity starts.now ends.now (length starts.now) }
 {
     let mut ok = true;
-    let mut at: Offset = 0;
-    let mut i = 0;
-    while i < starts.len() {
+    for i in 0..starts.len() {
+        let at = i as Offset;
         ok = ok & ((starts[i] == at) & (ends[i] == at + 1));
-        at += 1;
-        i += 1;
     }
     ok
 }
@@ -45,8 +41,7 @@ fn is_char_aligned(text: &[u8], starts: &[Offset], ends: &[Offset]) -> bool
         return true;
     }
     let mut ok = (starts[0] == 0) & (ends[text.len() - 1] == text.len() as Offset);
-    let mut i = 1;
-    while i < text.len() {
+    for i in 1..text.len() {
         ok = ok
             & carries_own(
                 text[i],
@@ -56,7 +51,6 @@ fn is_char_aligned(text: &[u8], starts: &[Offset], ends: &[Offset]) -> bool
                 ends[i],
                 i as Offset,
             );
-        i += 1;
     }
     ok
 }

@@ -21,17 +21,12 @@ fn run_at(starts: &[Offset], ends: &[Offset], at: usize) -> usize
 {
     let start = starts[at];
     let end = ends[at];
-    let mut i = at;
-    while i < starts.len() {
-        if starts[i] != start {
+    for i in at..starts.len() {
+        if starts[i] != start || ends[i] != end {
             return i - at;
         }
-        if ends[i] != end {
-            return i - at;
-        }
-        i += 1;
     }
-    i - at
+    starts.len() - at
 }
 
 // The line of a run, in `out` from `at` on; where it ends.

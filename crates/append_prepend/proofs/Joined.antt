@@ -8,6 +8,7 @@ use lib.Dec.{leb}
 use lib.ListN.{length, get_or, drop, replicate, length-append, length-replicate}
 use lib.Seq.{take-length}
 use borrow.Author.Tests.{not-true, not-false, le-leb, lt-leb, leb-true, leb-false, eq-eqb, ne_eqb}
+use Rattle.std.specs.Prelude.{Result, Ok, Err}
 use Rattle.buffers.specs.Splice.{part, splice, overlay}
 use Rattle.buffers.proofs.Splice.{splice-splice, splice-overlay, part_end}
 use Rattle.buffers.proofs.Cases.{le-or-lt}
@@ -15,17 +16,13 @@ use Rattle.utf8.specs.Formed.{announced, well_formed}
 use Rattle.utf8.proofs.Boundaries.{boundary-zero, char-at}
 use Rattle.note.specs.declared.Refusal.{Refusal}
 use Rattle.note.specs.declared.Refusal.TheVariants.{NoRoom}
-use Rattle.note.specs.declared.Verdict.{Verdict}
-use Rattle.note.specs.declared.Verdict.TheVariants.{Accepted, Refused as Rejected}
-use Rattle.note.specs.Refusals.{least, also, verdict}
+use Rattle.note.specs.Refusals.{least, also, verdict, Verdict, Accepted}
 use Rattle.note.specs.Rank.{earlier}
 use Rattle.note.specs.Notes.{Note, lent, before_end, Sound}
 use Rattle.note.specs.Faults.{note_faults, string_faults}
 use Rattle.note.proofs.FirstMet.{earlier-of, accepted-first, accepted-second}
 use Rattle.note.proofs.Sound.{length-starts, length-ends, normalized-formed}
 use Rattle.note.proofs.Faults.{accepted-sound, string-formed}
-use Rattle.transform.specs.declared.Editing.{Editing}
-use Rattle.transform.specs.declared.Editing.TheVariants.{Edited, Refused as Refusing}
 use Rattle.edit_steps.specs.Edits.{characters, Edit, edited, transformed}
 use Rattle.transform.specs.Transforming.{call_faults, Rewritten}
 use Rattle.buffers.specs.Keeping.{PartKept}
@@ -101,11 +98,11 @@ module _ (most : ℕ) (n : Note) (string : List ℕ) {u v w : Verdict} (noted : 
   inputs = earlier-of (note_faults most n) (string_faults string) noted told first
 
   module _ (e : Edit) (out₀ starts₀ ends₀ : List ℕ) where
-    abbrev Joined : Editing → List ℕ → List ℕ → List ℕ → Type 0
+    abbrev Joined : Result ℕ Refusal → List ℕ → List ℕ → List ℕ → Type 0
     Joined r out starts ends =
         Rewritten (verdict (call_faults most n (string_faults string) e (least (length out₀) (length starts₀) (length ends₀)))) (transformed n e) out₀ starts₀ ends₀ r out starts ends
 
-    pub join-refused : {k : Refusal} → w ≡ Rejected k → Joined (Refusing k) out₀ starts₀ ends₀
+    pub join-refused : {k : Refusal} → w ≡ Err k → Joined (Err k) out₀ starts₀ ends₀
     join-refused is = inputs-refused most n (also (note_faults most n) (string_faults string)) refl e out₀ starts₀ ends₀ inputs is
 
   module _ (ok : w ≡ Accepted) where
@@ -120,12 +117,12 @@ module _ (most : ℕ) (n : Note) (string : List ℕ) {u v w : Verdict} (noted : 
       unfolding transformed
       size = ap (λ (x : Note). length x.normalized) m.leaves
 
-      pub join-large : room < length made.normalized → Joined e out₀ starts₀ ends₀ (Refusing NoRoom) out₀ starts₀ ends₀
+      pub join-large : room < length made.normalized → Joined e out₀ starts₀ ends₀ (Err NoRoom) out₀ starts₀ ends₀
       join-large h =
           inputs-accepted most n (also (note_faults most n) (string_faults string)) refl e out₀ starts₀ ends₀ inputs ok refl
           (refused-rewritten (too_large most n.normalized e (least (length out₀) (length starts₀) (length ends₀)) m.lies m.feeds (omega (arith, size, lowest, r))))
 
-      pub join-made : length made.normalized ≤ room → {k : ℕ} {out starts ends : List ℕ} → k ≡ length made.normalized → out ≡ overlay made.normalized out₀ → starts ≡ overlay made.starts starts₀ → ends ≡ overlay made.ends ends₀ → Joined e out₀ starts₀ ends₀ (Edited k) out starts ends
+      pub join-made : length made.normalized ≤ room → {k : ℕ} {out starts ends : List ℕ} → k ≡ length made.normalized → out ≡ overlay made.normalized out₀ → starts ≡ overlay made.starts starts₀ → ends ≡ overlay made.ends ends₀ → Joined e out₀ starts₀ ends₀ (Ok k) out starts ends
       unfolding transformed
       join-made h is o s t =
           inputs-accepted most n (also (note_faults most n) (string_faults string)) refl e out₀ starts₀ ends₀ inputs ok refl
@@ -144,7 +141,7 @@ module _ (most : ℕ) (n : Note) (string : List ℕ) {u v w : Verdict} (noted : 
       unfolding appended
       long = length-append n.normalized string
 
-      pub append-large : not t ≡ true → Joined (append_edit n string) out₀ starts₀ ends₀ (Refusing NoRoom) out₀ starts₀ ends₀
+      pub append-large : not t ≡ true → Joined (append_edit n string) out₀ starts₀ ends₀ (Err NoRoom) out₀ starts₀ ends₀
       append-large f =
           join-large (append_edit n string) behind out₀ starts₀ ends₀ lowest r
           (omega (arith, long, leb-false (length n.normalized + length string) room (sym is ∙ not-true t f)))
@@ -163,7 +160,7 @@ module _ (most : ℕ) (n : Note) (string : List ℕ) {u v w : Verdict} (noted : 
               ends_room = omega (arith, enough, lowest, r);
             }
 
-        pub append-made : {k : ℕ} {out starts ends : List ℕ} → AppendedLaid n.normalized n.starts n.ends string out₀ starts₀ ends₀ k out starts ends → Joined (append_edit n string) out₀ starts₀ ends₀ (Edited k) out starts ends
+        pub append-made : {k : ℕ} {out starts ends : List ℕ} → AppendedLaid n.normalized n.starts n.ends string out₀ starts₀ ends₀ k out starts ends → Joined (append_edit n string) out₀ starts₀ ends₀ (Ok k) out starts ends
         unfolding appended
         append-made l =
             join-made (append_edit n string) behind out₀ starts₀ ends₀ lowest r (omega (arith, long, enough)) (l.reached ∙ sym long) l.text_is l.starts_are l.ends_are
@@ -177,7 +174,7 @@ module _ (most : ℕ) (n : Note) (string : List ℕ) {u v w : Verdict} (noted : 
       unfolding prepended
       empty-made z = rw (eq-eqb (length n.normalized) 0 z)
 
-      pub prepend-empty : length n.normalized ≡ 0 → Joined (prepend_edit n string) out₀ starts₀ ends₀ (Edited 0) out₀ starts₀ ends₀
+      pub prepend-empty : length n.normalized ≡ 0 → Joined (prepend_edit n string) out₀ starts₀ ends₀ (Ok 0) out₀ starts₀ ends₀
       unfolding overlay
       prepend-empty z =
           let there : Makes n (prepend_edit n string) n = rw (empty-made z) at before in
@@ -204,7 +201,7 @@ module _ (most : ℕ) (n : Note) (string : List ℕ) {u v w : Verdict} (noted : 
         far : length (string ++ n.normalized) ≡ length string + length n.normalized
         far = length-append string n.normalized
 
-        pub prepend-large : not t ≡ true → Joined (prepend_edit n string) out₀ starts₀ ends₀ (Refusing NoRoom) out₀ starts₀ ends₀
+        pub prepend-large : not t ≡ true → Joined (prepend_edit n string) out₀ starts₀ ends₀ (Err NoRoom) out₀ starts₀ ends₀
         prepend-large f =
             join-large (prepend_edit n string) there out₀ starts₀ ends₀ lowest r
             (omega (arith, far, leb-false (length n.normalized + length string) room (sym is ∙ not-true t f)))
@@ -218,7 +215,7 @@ module _ (most : ℕ) (n : Note) (string : List ℕ) {u v w : Verdict} (noted : 
                 rooms = append-room out₀ starts₀ ends₀ lowest r is f;
               }
 
-          pub prepend-made : {k : ℕ} {out starts ends : List ℕ} → PrependedLaid n.normalized n.starts n.ends string out₀ starts₀ ends₀ k out starts ends → Joined (prepend_edit n string) out₀ starts₀ ends₀ (Edited k) out starts ends
+          pub prepend-made : {k : ℕ} {out starts ends : List ℕ} → PrependedLaid n.normalized n.starts n.ends string out₀ starts₀ ends₀ k out starts ends → Joined (prepend_edit n string) out₀ starts₀ ends₀ (Ok k) out starts ends
           prepend-made l =
               join-made (prepend_edit n string) there out₀ starts₀ ends₀ lowest r (omega (arith, far, leb-true (length n.normalized + length string) room (sym is ∙ not-false t f)))
               (l.reached ∙ sym far) l.text_is l.starts_are l.ends_are

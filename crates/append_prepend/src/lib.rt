@@ -3,17 +3,16 @@
 
 ghost use Rattle.std.specs.Prelude.{◌≡◌, ◌+◌, ◌≤◌, leb, ◌++◌, length, drop, replicate};
 ghost use Rattle.buffers.specs.Splice.{overlay};
-ghost use Rattle.note.specs.Notes.{lent};
+ghost use Rattle.note.specs.Notes.{passed};
 ghost use Rattle.edits.specs.Whole.{AppendCall, PrependCall};
 ghost use Rattle.append_prepend.specs.Joining.{front_of};
 ghost use Rattle.append_prepend.specs.Laying.{AppendedLaid, FrontRoom, JoinRoom, PrependedLaid, PrependRoom};
 
 use buffers::parts::keep;
-use buffers::{Offset, copy_bytes, copy_offsets, fill_offsets};
+use buffers::{Offset, copy, fill};
 use checks::{check_note, check_string, least_of_two, least_room};
 use note::verdicts::earlier;
-use note::{LIMIT, Refusal, Verdict, before_end};
-use transform::Editing;
+use note::{LIMIT, NormalizedString, Refusal, before_end};
 use utf8::lead::announced_length;
 
 // Whether two lengths together fit a room.
@@ -45,45 +44,42 @@ fn lay_append(
     let at = text.len();
     let more = string.len();
     keep(text, starts, ends, 0, at, out, out_starts, out_ends, 0);
-    copy_bytes(string, out, at);
-    fill_offsets(before_end(starts, at), more, out_starts, at);
-    fill_offsets(before_end(ends, at), more, out_ends, at);
+    copy(string, out, at);
+    fill(before_end(starts, at), more, out_starts, at);
+    fill(before_end(ends, at), more, out_ends, at);
     at + more
 }
 
 // Rust: `append`. Refusals: those of a note, 1 for a string that is not well-formed, then the edit's.
 pub fn append(
-    original: &[u8],
-    normalized: &[u8],
-    starts: &[Offset],
-    ends: &[Offset],
-    original_shift: u32,
+    note: &NormalizedString,
     string: &[u8],
     out: &mut [u8],
     out_starts: &mut [Offset],
     out_ends: &mut [Offset],
-) -> Editing
+) -> Result<usize, Refusal>
     ensures { AppendCall
-        (lent original.now normalized.now starts.now ends.now
-        original_shift)
+        (passed note.now)
         string.now
         out.old out_starts.old out_ends.old
         result out.new out_starts.new out_ends.new }
 {
-    let noted = check_note(original, normalized, starts, ends, original_shift);
-    match earlier(noted, check_string(string)) {
-        Verdict::Refused(k) => Editing::Refused(k),
-        Verdict::Accepted => {
-            let room = least_of_two(
-                LIMIT,
-                least_room(out.len(), out_starts.len(), out_ends.len()),
-            );
-            if !has_room(normalized.len(), string.len(), room) {
-                return Editing::Refused(Refusal::NoRoom);
-            }
-            Editing::Edited(lay_append(normalized, starts, ends, string, out, out_starts, out_ends))
-        }
+    let NormalizedString {
+        normalized,
+        starts,
+        ends,
+        ..
+    } = *note;
+    let noted = check_note(note);
+    earlier(noted, check_string(string))?;
+    let room = least_of_two(
+        LIMIT,
+        least_room(out.len(), out_starts.len(), out_ends.len()),
+    );
+    if !has_room(normalized.len(), string.len(), room) {
+        return Err(Refusal::NoRoom);
     }
+    Ok(lay_append(normalized, starts, ends, string, out, out_starts, out_ends))
 }
 
 // What the text's first character carries of a column after the string.
@@ -104,8 +100,8 @@ fn lay_column(front: Offset, count: usize, column: &[Offset], size: usize, out: 
     ensures { out.new ≡ overlay (replicate (count + size) front ++ drop size column.now)
         out.old }
 {
-    fill_offsets(front, count + size, out, 0);
-    copy_offsets(&column[size..column.len()], out, count + size);
+    fill(front, count + size, out, 0);
+    copy(&column[size..column.len()], out, count + size);
 }
 
 // The string, and the text after it; how many bytes that is.
@@ -126,8 +122,8 @@ fn lay_prepend(
 {
     let size = announced_length(text[0]) as usize;
     let more = string.len();
-    copy_bytes(string, out, 0);
-    copy_bytes(text, out, more);
+    copy(string, out, 0);
+    copy(text, out, more);
     lay_column(front_of(string, starts), more, starts, size, out_starts);
     lay_column(front_of(string, ends), more, ends, size, out_ends);
     more + text.len()
@@ -135,40 +131,35 @@ fn lay_prepend(
 
 // Rust: `prepend`. Refusals: those of a note, 1 for a string that is not well-formed, then the edit's.
 pub fn prepend(
-    original: &[u8],
-    normalized: &[u8],
-    starts: &[Offset],
-    ends: &[Offset],
-    original_shift: u32,
+    note: &NormalizedString,
     string: &[u8],
     out: &mut [u8],
     out_starts: &mut [Offset],
     out_ends: &mut [Offset],
-) -> Editing
+) -> Result<usize, Refusal>
     ensures { PrependCall
-        (lent original.now normalized.now starts.now ends.now
-        original_shift)
+        (passed note.now)
         string.now
         out.old out_starts.old out_ends.old
         result out.new out_starts.new out_ends.new }
 {
-    let noted = check_note(original, normalized, starts, ends, original_shift);
-    match earlier(noted, check_string(string)) {
-        Verdict::Refused(k) => Editing::Refused(k),
-        Verdict::Accepted => {
-            if normalized.len() == 0 {
-                return Editing::Edited(0);
-            }
-            let room = least_of_two(
-                LIMIT,
-                least_room(out.len(), out_starts.len(), out_ends.len()),
-            );
-            if !has_room(normalized.len(), string.len(), room) {
-                return Editing::Refused(Refusal::NoRoom);
-            }
-            Editing::Edited(lay_prepend(
-                normalized, starts, ends, string, out, out_starts, out_ends,
-            ))
-        }
+    let NormalizedString {
+        normalized,
+        starts,
+        ends,
+        ..
+    } = *note;
+    let noted = check_note(note);
+    earlier(noted, check_string(string))?;
+    if normalized.len() == 0 {
+        return Ok(0);
     }
+    let room = least_of_two(
+        LIMIT,
+        least_room(out.len(), out_starts.len(), out_ends.len()),
+    );
+    if !has_room(normalized.len(), string.len(), room) {
+        return Err(Refusal::NoRoom);
+    }
+    Ok(lay_prepend(normalized, starts, ends, string, out, out_starts, out_ends))
 }

@@ -5,10 +5,9 @@ use mathlib.Core.Bool.{Bool, true, false}
 use mathlib.Core.List.{List, [], ◌∷◌, ◌++◌}
 use native.Mathlib.Omega.{arith}
 use lib.ListN.{length, drop, length-append}
+use Rattle.std.specs.Prelude.{Option, Some, None}
 use Rattle.buffers.proofs.Cases.{true-or-false}
 use Rattle.pattern.specs.declared.Place.{Place}
-use Rattle.pattern.specs.declared.Entry.{Entry}
-use Rattle.pattern.specs.declared.Entry.TheVariants.{At, Broken}
 use Rattle.pattern.specs.Entries.{entry_at, places_of}
 use Rattle.pattern.specs.Places.{covers_from}
 use Rattle.pattern.proofs.Entries.{Stepped, entry-step, entry-broken, entries-end}
@@ -30,8 +29,8 @@ pub record Open (most : ℕ) (list : List ℕ) (run : Place) (i : ℕ) : Type 0 
   pub covered : covers_from text run.end.0 (places_of (drop i list)) ≡ true
   pub most_i : i ≤ length list
 
-module _ {most : ℕ} {list : List ℕ} (l : Listed most list) {entry : Entry} (is : entry ≡ entry_at list 0) where
-  module _ {p : Place} {next : ℕ} (there : entry ≡ At p next) where
+module _ {most : ℕ} {list : List ℕ} (l : Listed most list) {entry : Option (Place × ℕ)} (is : entry ≡ entry_at list 0) where
+  module _ {p : Place} {next : ℕ} (there : entry ≡ Some (p, next)) where
     first_step : Stepped list 0 p next
     first_step = entry-step list is there
 
@@ -55,12 +54,12 @@ module _ {most : ℕ} {list : List ℕ} (l : Listed most list) {entry : Entry} (
     first_pieces b e = runs-pieces b e p (places_of (drop next list)) ∙ rw first-places
 
 -- a list without a place
-pub none-listed : (list : List ℕ) {entry : Entry} → entry ≡ entry_at list 0 → entry ≡ Broken → (b : SplitDelimiterBehavior) (e : EmptyPieces) → list_pieces b e list ≡ []
+pub none-listed : (list : List ℕ) {entry : Option (Place × ℕ)} → entry ≡ entry_at list 0 → entry ≡ None → (b : SplitDelimiterBehavior) (e : EmptyPieces) → list_pieces b e list ≡ []
 none-listed [] is there b e = rw (entries-end [] {i = 0} (omega arith)).0 (pieces_none b e)
 none-listed (x ∷ list) is there b e = rw (entry-broken (x ∷ list) {i = 0} (omega arith) is there).0 (pieces_none b e)
 
 -- the next place joins the run or begins one
-module _ {most : ℕ} {list : List ℕ} {run : Place} {i : ℕ} (o : Open most list run i) {entry : Entry} {p : Place} {next : ℕ} (is : entry ≡ entry_at list i) (there : entry ≡ At p next) where
+module _ {most : ℕ} {list : List ℕ} {run : Place} {i : ℕ} (o : Open most list run i) {entry : Option (Place × ℕ)} {p : Place} {next : ℕ} (is : entry ≡ entry_at list i) (there : entry ≡ Some (p, next)) where
   step : Stepped list i p next
   step = entry-step list is there
 
@@ -128,7 +127,7 @@ begins-behind b e run p bytes low forward from =
 abbrev none : Sizes
 none = record { pieces = 0; bytes = 0 }
 
-pub none-measured : (list : List ℕ) {entry : Entry} → entry ≡ entry_at list 0 → entry ≡ Broken → (b : SplitDelimiterBehavior) (e : EmptyPieces) → none ≡ sizes_with none (list_pieces b e list)
+pub none-measured : (list : List ℕ) {entry : Option (Place × ℕ)} → entry ≡ entry_at list 0 → entry ≡ None → (b : SplitDelimiterBehavior) (e : EmptyPieces) → none ≡ sizes_with none (list_pieces b e list)
 unfolding sizes_with total_length
 none-measured list is there b e = rw (none-listed list is there b e)
 
@@ -139,7 +138,7 @@ pub record Counting (most : ℕ) (list : List ℕ) (b : SplitDelimiterBehavior) 
   pub small : s.bytes ≤ run.start.0
   pub total : sizes_with s (runs_from b e run (places_of (drop i list))) ≡ sizes_with none (list_pieces b e list)
 
-pub none-counting : {most : ℕ} {list : List ℕ} (b : SplitDelimiterBehavior) (e : EmptyPieces) → Listed most list → {entry : Entry} {p : Place} {next : ℕ} → entry ≡ entry_at list 0 → entry ≡ At p next → Counting most list b e none p next
+pub none-counting : {most : ℕ} {list : List ℕ} (b : SplitDelimiterBehavior) (e : EmptyPieces) → Listed most list → {entry : Option (Place × ℕ)} {p : Place} {next : ℕ} → entry ≡ entry_at list 0 → entry ≡ Some (p, next) → Counting most list b e none p next
 none-counting {list = list} b e l is there =
     record {
       opened = first-open l is there;
@@ -157,7 +156,7 @@ module _ {most : ℕ} {list : List ℕ} {b : SplitDelimiterBehavior} {e : EmptyP
         short = omega (arith, k.small, k.opened.forward, k.opened.inside, k.opened.short);
       }
 
-  pub next-counted : {entry : Entry} {p : Place} {next : ℕ} → entry ≡ entry_at list i → entry ≡ At p next → {t : Bool} {s₁ : Sizes} {r : Place} → t ≡ over b e run p → s₁ ≡ sizes_with s (piece_if t run) → r ≡ extended_run b run p → Counting most list b e s₁ r next
+  pub next-counted : {entry : Option (Place × ℕ)} {p : Place} {next : ℕ} → entry ≡ entry_at list i → entry ≡ Some (p, next) → {t : Bool} {s₁ : Sizes} {r : Place} → t ≡ over b e run p → s₁ ≡ sizes_with s (piece_if t run) → r ≡ extended_run b run p → Counting most list b e s₁ r next
   unfolding runs_from sizes_with
   next-counted {p = p} {next = next} is there {t = t} {s₁ = s₁} {r = r} met sum after =
       let st : Stepped list i p next = entry-step list is there in
@@ -178,7 +177,7 @@ module _ {most : ℕ} {list : List ℕ} {b : SplitDelimiterBehavior} {e : EmptyP
   all-counted done met sum = sum ∙ rw met ((rw done at k.total))
 
 -- the two ways after the last place
-pub done-broken : (list : List ℕ) {i : ℕ} {entry : Entry} → i < length list → entry ≡ entry_at list i → entry ≡ Broken → places_of (drop i list) ≡ []
+pub done-broken : (list : List ℕ) {i : ℕ} {entry : Option (Place × ℕ)} → i < length list → entry ≡ entry_at list i → entry ≡ None → places_of (drop i list) ≡ []
 done-broken list h is there = (entry-broken list h is there).0
 
 pub done-past : (list : List ℕ) {i : ℕ} → length list ≤ i → places_of (drop i list) ≡ []

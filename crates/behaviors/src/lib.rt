@@ -9,7 +9,7 @@ ghost use Rattle.behaviors.specs.Joining.{joins, drops_matches};
 ghost use Rattle.behaviors.specs.Runs.{Addable, piece_if, joined_by, join_table, Listed, list_pieces};
 ghost use Rattle.behaviors.specs.Runs.{onward_if, sizes_with, is_kept_run};
 
-use pattern::{Entry, Place, entry_at};
+use pattern::{Place, entry_at};
 
 // What becomes of the delimiters, the matched places.
 #[derive(Clone, Copy)]
@@ -143,7 +143,7 @@ pub fn measure(list: &[u8], behavior: SplitDelimiterBehavior, empty: EmptyPieces
         pieces: 0,
         bytes: 0,
     };
-    let Entry::At(first, second) = entry_at(list, 0) else {
+    let Some((first, second)) = entry_at(list, 0) else {
         return none;
     };
     let mut sizes = none;
@@ -151,15 +151,13 @@ pub fn measure(list: &[u8], behavior: SplitDelimiterBehavior, empty: EmptyPieces
     let mut run = first;
     let mut i = second;
     while i < list.len() {
-        match entry_at(list, i) {
-            Entry::At(place, next) => {
-                let joins = joined(&table, run.matched, place.matched);
-                sizes = counted(sizes, !joins & is_kept_run(behavior, empty, run), run);
-                run = extend_run(joins, run, place);
-                i = next;
-            }
-            Entry::Broken => break,
-        }
+        let Some((place, next)) = entry_at(list, i) else {
+            break;
+        };
+        let joins = joined(&table, run.matched, place.matched);
+        sizes = counted(sizes, !joins & is_kept_run(behavior, empty, run), run);
+        run = extend_run(joins, run, place);
+        i = next;
     }
     counted(sizes, is_kept_run(behavior, empty, run), run)
 }

@@ -11,9 +11,11 @@ ghost use Rattle.utf8.specs.Lengths.{lead_len};
 ghost use Rattle.boundaries.specs.Spanning.{StartsInside, leads_below, spans_below};
 
 use buffers::Offset;
-use buffers::lanes::saturating_sub_offset;
 use utf8::continues;
 use utf8::lead::lead_len_lane;
+
+// The alignments of a block.
+const BLOCK: usize = 64;
 
 // Whether no character of the text is cut at `p`.
 fn uncut(original: &[u8], p: Offset) -> bool
@@ -32,10 +34,8 @@ fn all_uncut(original: &[u8], starts: &[Offset], ends: &[Offset]) -> bool
         (length starts.now) }
 {
     let mut ok = true;
-    let mut i = 0;
-    while i < starts.len() {
+    for i in 0..starts.len() {
         ok = ok & (uncut(original, starts[i]) & uncut(original, ends[i]));
-        i += 1;
     }
     ok
 }
@@ -47,10 +47,8 @@ fn read_at(original: &[u8], starts: &[Offset], bytes: &mut [u8])
     ensures { Filled (λ k. get_or original.now (get_or starts.now k 0) 0)
         bytes.old 0 (length bytes.old) bytes.new }
 {
-    let mut j = 0;
-    while j < bytes.len() {
+    for j in 0..bytes.len() {
         bytes[j] = original[starts[j] as usize];
-        j += 1;
     }
 }
 
@@ -59,10 +57,8 @@ fn write_widths(bytes: &[u8], widths: &mut [u8])
     ensures { Filled (λ k. lead_len (get_or bytes.now k 0)) widths.old 0
         (length widths.old) widths.new }
 {
-    let mut j = 0;
-    while j < widths.len() {
+    for j in 0..widths.len() {
         widths[j] = lead_len_lane(bytes[j]);
-        j += 1;
     }
 }
 
@@ -71,10 +67,8 @@ fn all_lead(bytes: &[u8]) -> bool
     ensures { result ≡ leads_below bytes.now (length bytes.now) }
 {
     let mut ok = true;
-    let mut j = 0;
-    while j < bytes.len() {
-        ok = ok & !continues(bytes[j]);
-        j += 1;
+    for b in bytes {
+        ok = ok & !continues(*b);
     }
     ok
 }
@@ -86,24 +80,22 @@ fn widths_match(widths: &[u8], starts: &[Offset], ends: &[Offset]) -> bool
         (length widths.now) }
 {
     let mut apart: Offset = 0;
-    let mut j = 0;
-    while j < widths.len() {
-        apart = apart | (saturating_sub_offset(ends[j], starts[j]) ^ widths[j] as Offset);
-        j += 1;
+    for j in 0..widths.len() {
+        apart = apart | (ends[j].saturating_sub(starts[j]) ^ widths[j] as Offset);
     }
     apart == 0
 }
 
 // Whether each alignment of a block of 64 is one whole character. An inner function: the transcript was judged, and
 // every start is inside it. The bytes are the caller's, so that not every block clears them.
-fn whole_chars(original: &[u8], starts: &[Offset], ends: &[Offset], bytes: &mut [u8; 64]) -> bool
+fn whole_chars(original: &[u8], starts: &[Offset], ends: &[Offset], bytes: &mut [u8; BLOCK]) -> bool
     requires starts_len { (length starts.now ≡ 64) × (length ends.now ≡ 64) }
     requires starts_inside { StartsInside original.now starts.now }
     ensures { result ≡ true
         → uncut_below original.now starts.now ends.now 64 ≡ true }
 {
     read_at(original, starts, bytes);
-    let mut widths = [0u8; 64];
+    let mut widths = [0u8; BLOCK];
     write_widths(bytes, &mut widths);
     if !all_lead(bytes) {
         return false;
@@ -112,7 +104,7 @@ fn whole_chars(original: &[u8], starts: &[Offset], ends: &[Offset], bytes: &mut 
 }
 
 // Whether a block cuts no character.
-fn block_uncut(original: &[u8], starts: &[Offset], ends: &[Offset], bytes: &mut [u8; 64]) -> bool
+fn block_uncut(original: &[u8], starts: &[Offset], ends: &[Offset], bytes: &mut [u8; BLOCK]) -> bool
     requires starts_len { (length starts.now ≡ 64) × (length ends.now ≡ 64) }
     requires starts_inside { StartsInside original.now starts.now }
     ensures { result ≡ uncut_below original.now starts.now ends.now 64 }
@@ -130,15 +122,21 @@ fn uncut_blocks(original: &[u8], starts: &[Offset], ends: &[Offset]) -> bool
     ensures { result ≡ uncut_below original.now starts.now ends.now
         (length starts.now) }
 {
-    let mut bytes = [0u8; 64];
-    let mut i = 0;
-    while 64 <= starts.len() - i {
-        if !block_uncut(original, &starts[i..i + 64], &ends[i..i + 64], &mut bytes) {
+    let mut bytes = [0u8; BLOCK];
+    let blocks = starts.len() / BLOCK;
+    for k in 0..blocks {
+        let i = k * BLOCK;
+        if !block_uncut(
+            original,
+            &starts[i..i + BLOCK],
+            &ends[i..i + BLOCK],
+            &mut bytes,
+        ) {
             return false;
         }
-        i += 64;
     }
-    all_uncut(original, &starts[i..], &ends[i..])
+    let judged = blocks * BLOCK;
+    all_uncut(original, &starts[judged..], &ends[judged..])
 }
 
 // Whether no alignment cuts a character of the transcript: in blocks where the last start, and so each, is inside it.
@@ -151,11 +149,8 @@ pub fn uncut_all(original: &[u8], normalized: &[u8], starts: &[Offset], ends: &[
     ensures { result ≡ uncut_below original.now starts.now ends.now
         (length starts.now) }
 {
-    if 0 < starts.len() {
-        let last = starts[starts.len() - 1] as usize;
-        if last < original.len() {
-            return uncut_blocks(original, starts, ends);
-        }
+    match starts.last() {
+        Some(last) if (*last as usize) < original.len() => uncut_blocks(original, starts, ends),
+        _ => all_uncut(original, starts, ends),
     }
-    all_uncut(original, starts, ends)
 }

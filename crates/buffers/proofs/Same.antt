@@ -15,12 +15,10 @@ use Rattle.buffers.specs.Same.{same}
 use Rattle.buffers.proofs.Cases.{clash, true-or-false}
 
 pub same_refl : (xs : List ℕ) → same xs xs ≡ true
-unfolding same
 same_refl [] = refl
 same_refl (x ∷ xs) = rw (eq-eqb x x refl) (same_refl xs)
 
 pub same-equal : (xs ys : List ℕ) → same xs ys ≡ true → xs ≡ ys
-unfolding same
 same-equal [] [] e = refl
 same-equal [] (y ∷ ys) e = clash true refl (sym e)
 same-equal (x ∷ xs) [] e = clash true refl (sym e)
@@ -28,7 +26,6 @@ same-equal (x ∷ xs) (y ∷ ys) e =
     rw (eqb-true x y (and_elim_left (eqb x y) _ e), same-equal xs ys (and_elim_right (eqb x y) _ e))
 
 pub same-append : (a b c d : List ℕ) → length a ≡ length b → same (a ++ c) (b ++ d) ≡ (same a b && same c d)
-unfolding same
 same-append [] [] c d l = refl
 same-append [] (y ∷ b) c d l = absurd (omega arith)
 same-append (x ∷ a) [] c d l = absurd (omega arith)
@@ -36,7 +33,6 @@ same-append (x ∷ a) (y ∷ b) c d l =
     rw (same-append a b c d (omega arith)) (sym (and_assoc (eqb x y) (same a b) (same c d)))
 
 pub same-replicate : (k a b : ℕ) → (eqb k 0 || eqb a b) ≡ same (replicate k a) (replicate k b)
-unfolding same
 same-replicate zero a b = refl
 same-replicate (suc k) a b =
     let some : eqb (suc k) 0 ≡ false = ne_eqb (suc k) 0 (λ z. omega arith) in
@@ -45,7 +41,6 @@ same-replicate (suc k) a b =
     (λ f. rw (some, f))
 
 pub same-lengths : (xs ys : List ℕ) → (length xs ≡ length ys → ⊥) → false ≡ same xs ys
-unfolding same
 same-lengths [] [] h = absurd (h refl)
 same-lengths [] (y ∷ ys) h = refl
 same-lengths (x ∷ xs) [] h = refl
@@ -60,7 +55,6 @@ pub none-compared : {xs ys : List ℕ} → Compared xs ys true 0
 none-compared = record { rest = refl; most = omega arith }
 
 pub one-compared : {xs ys : List ℕ} {ok : Bool} {i : ℕ} → Compared xs ys ok i → length xs ≡ length ys → i < length xs → Compared xs ys (ok && eqb (get_or xs i 0) (get_or ys i 0)) (i + 1)
-unfolding same
 one-compared {xs = xs} {ys = ys} {ok = ok} {i = i} c l h =
     record {
       rest =
@@ -71,7 +65,6 @@ one-compared {xs = xs} {ys = ys} {ok = ok} {i = i} c l h =
     }
 
 pub all-compared : {xs ys : List ℕ} {ok : Bool} {i : ℕ} → Compared xs ys ok i → length xs ≡ length ys → length xs ≤ i → ok ≡ same xs ys
-unfolding same
 all-compared {xs = xs} {ys = ys} {ok = ok} {i = i} c l h =
     let past : length ys ≤ i = omega arith in
     sym (c.rest ∙ rw (drop_of_length-le xs h, drop_of_length-le ys past) (and-true ok))

@@ -5,12 +5,13 @@ use mathlib.Core.Path.{◌≡◌, ◌∙◌, ap, refl, sym}
 use mathlib.Core.List.{List, [], ◌∷◌, ◌++◌, append_assoc, append-nil}
 use native.Mathlib.Numerals.{add-one}
 use native.Mathlib.Omega.{arith}
-use lib.ListN.{length, get_or, set, take, drop, replicate, length-append, length-take, length-drop, length-set, length-replicate, get_or-replicate, take-append-drop, drop_of_length-le, get_or-append}
-use lib.Seq.{take_at, drop_at, drop-drop, drop-cons, length-take-le, take-length, get_or-take, get_or-drop, ext_get_or, set_split, take-set-le, take-take, take-add, set_at, take-append_seam, drop-append_seam, paste, paste-zero, paste-suc}
+use lib.ListN.{length, get_or, set, take, drop, replicate, length-append, length-take, length-drop, length-set, length-replicate, take-append-drop, drop_of_length-le, get_or-append}
+use lib.Seq.{take_at, drop_at, drop-drop, drop-cons, length-take-le, take-length, get_or-take, get_or-drop, ext_get_or, set_split, take-set-le, take-take, take-add, set_at, take-append_seam, drop-append_seam, take_all, paste, paste-zero, paste-suc}
+use borrow.Rule.Slice.PartMut.{put_mid, Post-is}
 use Rattle.buffers.specs.Splice.{part, splice, overlay, Laid}
 
 -- lists in two pieces, and one value many times
-pub append-cut : (a b c d : List ℕ) → length a ≡ length b → a ++ c ≡ b ++ d → (a ≡ b) × (c ≡ d)
+pub append-cut : {A : Type 0} (a b c d : List A) → length a ≡ length b → a ++ c ≡ b ++ d → (a ≡ b) × (c ≡ d)
 append-cut a b c d l e = (
   sym (take_at a c (length a) refl) ∙ ap (take (length a)) e ∙ take_at b d (length a) (sym l),
   sym (drop_at a c (length a) refl) ∙ ap (drop (length a)) e ∙ drop_at b d (length a) (sym l),
@@ -20,7 +21,7 @@ pub replicate-same : (k a b : ℕ) → (0 < k → a ≡ b) → replicate k a ≡
 replicate-same zero a b h = refl
 replicate-same (suc k) a b h = ap (replicate (suc k)) (h (omega arith))
 
-pub replicate-front : (n m v : ℕ) → n ≤ m → take n (replicate m v) ≡ replicate n v
+pub replicate-front : {A : Type 0} (n m : ℕ) (v : A) → n ≤ m → take n (replicate m v) ≡ replicate n v
 replicate-front zero m v h = refl
 replicate-front (suc n) zero v h = absurd (omega arith)
 replicate-front (suc n) (suc m) v h = ap (◌∷◌ v) (replicate-front n m v (omega arith))
@@ -30,7 +31,7 @@ replicate-value zero a b h e = absurd (omega arith)
 replicate-value (suc k) a b h e = ap (λ (l : List ℕ). get_or l 0 0) e
 
 -- parts: by an index of the part, and by one of the list
-pub length_part : (xs : List ℕ) (s e : ℕ) → e ≤ length xs → length (part xs s e) ≡ e - s
+pub length_part : {A : Type 0} (xs : List A) (s e : ℕ) → e ≤ length xs → length (part xs s e) ≡ e - s
 length_part xs s e h = simp (length-take, length-drop) (omega arith)
 
 pub part-index : (xs : List ℕ) (s e i : ℕ) → i < e - s → get_or (part xs s e) i 0 ≡ get_or xs (s + i) 0
@@ -48,31 +49,37 @@ part_same xs ys s e hx hy same =
     let below : i < e - s = omega (arith, length_part xs s e hx) in
     part-index xs s e i below ∙ same (s + i) (omega arith) (omega arith) ∙ sym (part-index ys s e i below))
 
-pub part-append : (xs : List ℕ) (a b c : ℕ) → a ≤ b → b ≤ c → part xs a b ++ part xs b c ≡ part xs a c
+pub part-append : {A : Type 0} (xs : List A) (a b c : ℕ) → a ≤ b → b ≤ c → part xs a b ++ part xs b c ≡ part xs a c
 part-append xs a b c h k =
     let all : (b - a) + (c - b) ≡ c - a = omega arith in
     let on : a + (b - a) ≡ b = omega arith in
     sym (rw (all, drop-drop (b - a) a xs, on) at (take-add (b - a) (c - b) (drop a xs)))
 
-pub part-front : (xs : List ℕ) (a b c : ℕ) → b ≤ c → take (b - a) (part xs a c) ≡ part xs a b
+pub part-front : {A : Type 0} (xs : List A) (a b c : ℕ) → b ≤ c → take (b - a) (part xs a c) ≡ part xs a b
 part-front xs a b c h = take-take (b - a) (c - a) (drop a xs) (omega arith)
 
-pub part_end : (xs : List ℕ) (s : ℕ) → part xs s (length xs) ≡ drop s xs
+pub part_end : {A : Type 0} (xs : List A) (s : ℕ) → part xs s (length xs) ≡ drop s xs
 part_end xs s = rw (← length-drop s xs) (take-length (drop s xs))
 
 -- a run in its place
-pub length-splice : (d : List ℕ) (at : ℕ) (r : List ℕ) → at + length r ≤ length d → length (splice d at r) ≡ length d
+pub length-splice : {A : Type 0} (d : List A) (at : ℕ) (r : List A) → at + length r ≤ length d → length (splice d at r) ≡ length d
 unfolding splice
 length-splice d at r h = simp (length-append, length-take, length-drop) (omega arith)
 
-pub length_front : (d r : List ℕ) (at : ℕ) → at ≤ length d → length (take at d ++ r) ≡ at + length r
+pub length_front : {A : Type 0} (d r : List A) (at : ℕ) → at ≤ length d → length (take at d ++ r) ≡ at + length r
 length_front d r at h = length-append (take at d) r ∙ rw (length-take-le at d h)
 
-pub splice-nil : (d : List ℕ) (at : ℕ) → splice d at [] ≡ d
+-- a part that is written through `&mut d[at..end]`
+pub splice-part : {A : Type 0} (d r : List A) (at : ℕ) {end : ℕ} {p : List A} → end ≡ at + length r → p ≡ r → put_mid at (end - at) d p ≡ splice d at r
+unfolding splice
+splice-part d r at reach is =
+    rw (reach, is, Post-is at (at + length r) d (omega arith)) (sym (append_assoc (take at d) r (drop (at + length r) d)))
+
+pub splice-nil : {A : Type 0} (d : List A) (at : ℕ) → splice d at [] ≡ d
 unfolding splice
 splice-nil d at = let z : at + 0 ≡ at = omega arith in rw (z, append-nil (take at d)) (take-append-drop at d)
 
-pub splice-splice : (d p q : List ℕ) (at : ℕ) → at ≤ length d → splice (splice d at p) (at + length p) q ≡ splice d at (p ++ q)
+pub splice-splice : {A : Type 0} (d p q : List A) (at : ℕ) → at ≤ length d → splice (splice d at p) (at + length p) q ≡ splice d at (p ++ q)
 unfolding splice
 splice-splice d p q at h =
     let front = length_front d p at h in
@@ -112,15 +119,15 @@ store-one d at x h =
     (rw (splice-nil d at, z) at (store-after d [] at x (omega arith)))
 
 -- a run in front
-pub splice-overlay : (d r : List ℕ) → splice d 0 r ≡ overlay r d
+pub splice-overlay : {A : Type 0} (d r : List A) → splice d 0 r ≡ overlay r d
 unfolding splice overlay
 splice-overlay d r = let z : 0 + length r ≡ length r = omega arith in rw z
 
-pub splice-whole : (d r : List ℕ) → length r ≡ length d → splice d 0 r ≡ r
+pub splice-whole : {A : Type 0} (d r : List A) → length r ≡ length d → splice d 0 r ≡ r
 unfolding overlay
 splice-whole d r e = splice-overlay d r ∙ rw (drop_of_length-le d {i = length r} (omega arith)) (append-nil r)
 
-pub take-overlay : (r d : List ℕ) → take (length r) (overlay r d) ≡ r
+pub take-overlay : {A : Type 0} (r d : List A) → take (length r) (overlay r d) ≡ r
 unfolding overlay
 take-overlay r d = take-append_seam r (drop (length r) d)
 
@@ -128,23 +135,23 @@ pub getD-overlay : (r d : List ℕ) (k : ℕ) → k < length r → get_or (overl
 unfolding overlay
 getD-overlay r d k h = get_or-append r (drop (length r) d) 0 k h
 
-pub length-overlay : (r d : List ℕ) → length r ≤ length d → length (overlay r d) ≡ length d
+pub length-overlay : {A : Type 0} (r d : List A) → length r ≤ length d → length (overlay r d) ≡ length d
 unfolding overlay
 length-overlay r d h = simp (length-append, length-drop) (omega arith)
 
-pub overlay-long : (r d : List ℕ) → length r ≤ length (overlay r d)
+pub overlay-long : {A : Type 0} (r d : List A) → length r ≤ length (overlay r d)
 unfolding overlay
 overlay-long r d = simp length-append (omega arith)
 
-pub overlay-overlay : (r p d : List ℕ) → length r ≡ length p → overlay r (overlay p d) ≡ overlay r d
+pub overlay-overlay : {A : Type 0} (r p d : List A) → length r ≡ length p → overlay r (overlay p d) ≡ overlay r d
 unfolding overlay
 overlay-overlay r p d e = rw e (ap (◌++◌ r) (drop-append_seam p (drop (length p) d)))
 
 -- a run that is laid, and one after it
-pub laid-length : {r d₀ d : List ℕ} {at end : ℕ} → Laid r d₀ at end d → at + length r ≤ length d₀ → length d ≡ length d₀
+pub laid-length : {A : Type 0} {r d₀ d : List A} {at end : ℕ} → Laid r d₀ at end d → at + length r ≤ length d₀ → length d ≡ length d₀
 laid-length {r = r} {d₀ = d₀} {at = at} l h = ap length l.holds ∙ length-splice d₀ at r h
 
-pub laid-after : {p q d₀ d₁ d₂ : List ℕ} {at mid end : ℕ} → Laid p d₀ at mid d₁ → Laid q d₁ mid end d₂ → at ≤ length d₀ → Laid (p ++ q) d₀ at end d₂
+pub laid-after : {A : Type 0} {p q d₀ d₁ d₂ : List A} {at mid end : ℕ} → Laid p d₀ at mid d₁ → Laid q d₁ mid end d₂ → at ≤ length d₀ → Laid (p ++ q) d₀ at end d₂
 laid-after {p = p} {q = q} {d₀ = d₀} {at = at} l m h =
     record {
       reach = omega (arith, l.reach, m.reach, length-append p q);
@@ -174,25 +181,24 @@ all-written {s = s} {j = j} w done =
     let full : j ≡ length s = omega (arith, w.most) in
     w.now_is ∙ rw (full, take-length s)
 
--- a run of one value, n times
-pub one_same : (n v : ℕ) {d₀ d : List ℕ} {at j : ℕ} → Written (replicate n v) d₀ at d j → at + n ≤ length d₀ → j < n → Written (replicate n v) d₀ at (set d (at + j) v) (j + 1)
-one_same n v {j = j} w room more =
-    one_more w (simp length-replicate room) (simp length-replicate more) (sym (get_or-replicate n j v 0 more))
-
-pub all_same : (n v : ℕ) {d₀ d : List ℕ} {at j : ℕ} → Written (replicate n v) d₀ at d j → n ≤ j → d ≡ splice d₀ at (replicate n v)
-all_same n v w done = all-written w (simp length-replicate done)
+-- one value at each index
+pub all_same : {A : Type 0} (xs : List A) (i : ℕ) (v : A) → take i xs ≡ replicate i v → (n : ℕ) → length xs ≡ n → n ≤ i → xs ≡ replicate n v
+all_same xs i v so_far n long done =
+    let whole : xs ≡ replicate i v = sym (take_all i xs (omega arith)) ∙ so_far in
+    let reach : i ≡ n = sym (length-replicate i v) ∙ sym (ap length whole) ∙ long in
+    rw reach at whole
 
 -- of `whole`, all but `rest` is in d up to `at`; from there on d is d₀
-pub record Laying (whole rest d₀ : List ℕ) (at : ℕ) (d : List ℕ) : Type 0 where
+pub record Laying {A : Type 0} (whole rest d₀ : List A) (at : ℕ) (d : List A) : Type 0 where
   pub so_far : take at d ++ rest ≡ whole
   pub beyond : drop at d ≡ drop at d₀
   pub room : at + length rest ≤ length d
   pub same : length d ≡ length d₀
 
-pub none-laid : (whole d₀ : List ℕ) → length whole ≤ length d₀ → Laying whole whole d₀ 0 d₀
+pub none-laid : {A : Type 0} (whole d₀ : List A) → length whole ≤ length d₀ → Laying whole whole d₀ 0 d₀
 none-laid whole d₀ h = record { so_far = refl; beyond = refl; room = omega arith; same = refl }
 
-pub piece-laid : (whole piece rest d₀ : List ℕ) (at : ℕ) (d : List ℕ) → Laying whole (piece ++ rest) d₀ at d → (at₁ : ℕ) (d₁ : List ℕ) → at₁ ≡ at + length piece → d₁ ≡ splice d at piece → Laying whole rest d₀ at₁ d₁
+pub piece-laid : {A : Type 0} (whole piece rest d₀ : List A) (at : ℕ) (d : List A) → Laying whole (piece ++ rest) d₀ at d → (at₁ : ℕ) (d₁ : List A) → at₁ ≡ at + length piece → d₁ ≡ splice d at piece → Laying whole rest d₀ at₁ d₁
 unfolding splice
 piece-laid whole piece rest d₀ at d l at₁ d₁ here is =
     let long : at + (length piece + length rest) ≤ length d = rw length-append at l.room in
@@ -207,7 +213,7 @@ piece-laid whole piece rest d₀ at d l at₁ d₁ here is =
       same = all ∙ l.same;
     }
 
-pub laying-size : (whole rest d₀ : List ℕ) (at : ℕ) (d : List ℕ) → Laying whole rest d₀ at d → at + length rest ≡ length whole
+pub laying-size : {A : Type 0} (whole rest d₀ : List A) (at : ℕ) (d : List A) → Laying whole rest d₀ at d → at + length rest ≡ length whole
 laying-size whole rest d₀ at d l =
     sym (length_front d rest at (omega (arith, l.room))) ∙ ap length l.so_far
 
@@ -217,7 +223,7 @@ unwritten {d₀ = d₀} {k = k} {d = d} l =
     let here : k + 0 ≡ k = omega arith in
     ap (λ (i : ℕ). get_or d i 0) (sym here) ∙ sym (get_or-drop k d 0 0) ∙ ap (λ (xs : List ℕ). get_or xs 0 0) l.beyond ∙ get_or-drop k d₀ 0 0 ∙ ap (λ (i : ℕ). get_or d₀ i 0) here
 
-pub all_laid : (whole d₀ : List ℕ) (at : ℕ) (d : List ℕ) → Laying whole [] d₀ at d → d ≡ overlay whole d₀
+pub all_laid : {A : Type 0} (whole d₀ : List A) (at : ℕ) (d : List A) → Laying whole [] d₀ at d → d ≡ overlay whole d₀
 unfolding overlay
 all_laid whole d₀ at d l =
     let is : take at d ≡ whole = sym (append-nil (take at d)) ∙ l.so_far in

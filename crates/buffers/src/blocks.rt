@@ -5,102 +5,52 @@ ghost use Rattle.std.specs.Prelude.{◌≡◌, ◌+◌, ◌≤◌, length, repli
 ghost use Rattle.buffers.specs.Splice.{part, splice};
 ghost use Rattle.buffers.specs.Over.{Over, Source};
 
-use crate::{Offset, copy_bytes, copy_offsets, fill_offsets};
+use crate::{copy, fill};
 
-// The 64 elements of `src` from `i` on stand in `dst` from `at` on: through a local array, so that source and
+// The N elements of `src` from `i` on stand in `dst` from `at` on: through a local array, so that source and
 // destination are not tested for an overlap.
-pub fn copy_bytes_block(src: &[u8], i: usize, dst: &mut [u8], at: usize)
-    requires { (i + 64 ≤ length src.now) × (at + 64 ≤ length dst.old) }
-    ensures { dst.new ≡ splice dst.old at (part src.now i (i + 64)) }
+pub fn copy_block<T: Copy, const N: usize>(src: &[T], i: usize, dst: &mut [T], at: usize)
+    requires { (i + N ≤ length src.now) × (at + N ≤ length dst.old) }
+    ensures { dst.new ≡ splice dst.old at (part src.now i (i + N)) }
 {
-    let mut block = [0u8; 64];
-    copy_bytes(&src[i..i + 64], &mut block, 0);
-    copy_bytes(&block, dst, at);
-}
-
-pub fn copy_offsets_block(src: &[Offset], i: usize, dst: &mut [Offset], at: usize)
-    requires { (i + 64 ≤ length src.now) × (at + 64 ≤ length dst.old) }
-    ensures { dst.new ≡ splice dst.old at (part src.now i (i + 64)) }
-{
-    let mut block = [0u16; 64];
-    copy_offsets(&src[i..i + 64], &mut block, 0);
-    copy_offsets(&block, dst, at);
+    let block = *src[i..i + N].as_array::<N>().unwrap();
+    copy(&block, dst, at);
 }
 
 // What `src` has from `from` up to `to` is in `dst` from `at` on.
-pub fn copy_bytes_over(src: &[u8], from: usize, to: usize, dst: &mut [u8], at: usize, until: usize)
+pub fn copy_over<T: Copy>(src: &[T], from: usize, to: usize, dst: &mut [T], at: usize, until: usize)
     requires { Source src.now from to dst.old at until }
     ensures { Over (part src.now from to) dst.old at until dst.new }
 {
-    if src.len() - to < 64 {
-        copy_bytes(&src[from..to], dst, at);
+    if src.len() - to < 64 || until.saturating_sub(at + (to - from)) < 64 {
+        copy(&src[from..to], dst, at);
         return;
     }
-    if until < at + (to - from) + 64 {
-        copy_bytes(&src[from..to], dst, at);
-        return;
-    }
-    let mut i = from;
-    while i < to {
-        copy_bytes_block(src, i, dst, at + (i - from));
-        i += 64;
+    for k in 0..(to - from).div_ceil(64) {
+        copy_block::<T, 64>(src, from + 64 * k, dst, at + 64 * k);
     }
 }
 
-pub fn copy_offsets_over(
-    src: &[Offset],
-    from: usize,
-    to: usize,
-    dst: &mut [Offset],
-    at: usize,
-    until: usize,
-)
-    requires { Source src.now from to dst.old at until }
-    ensures { Over (part src.now from to) dst.old at until dst.new }
-{
-    if src.len() - to < 64 {
-        copy_offsets(&src[from..to], dst, at);
-        return;
-    }
-    if until < at + (to - from) + 64 {
-        copy_offsets(&src[from..to], dst, at);
-        return;
-    }
-    let mut i = from;
-    while i < to {
-        copy_offsets_block(src, i, dst, at + (i - from));
-        i += 64;
-    }
-}
-
-// The first `count` bytes of `src` stand in `dst` from `at` on: 16 at once where they are no more.
-pub fn copy_front_over(src: &[u8], count: usize, dst: &mut [u8], at: usize, until: usize)
+// The first `count` elements of `src` stand in `dst` from `at` on: 16 at once where they are no more.
+pub fn copy_front_over<T: Copy>(src: &[T], count: usize, dst: &mut [T], at: usize, until: usize)
     requires { Source src.now 0 count dst.old at until }
     ensures { Over (part src.now 0 count) dst.old at until dst.new }
 {
-    if count <= 16 {
-        if 16 <= src.len() {
-            if at + 16 <= until {
-                let mut block = [0u8; 16];
-                copy_bytes(&src[0..16], &mut block, 0);
-                copy_bytes(&block, dst, at);
-                return;
-            }
-        }
+    if count <= 16 && 16 <= src.len() && 16 <= until.saturating_sub(at) {
+        copy_block::<T, 16>(src, 0, dst, at);
+        return;
     }
-    copy_bytes_over(src, 0, count, dst, at, until);
+    copy_over(src, 0, count, dst, at, until);
 }
 
 // `count` times `value` is in `dst` from `at` on.
-pub fn fill_offsets_over(value: Offset, count: usize, dst: &mut [Offset], at: usize, until: usize)
+pub fn fill_over<T: Copy>(value: T, count: usize, dst: &mut [T], at: usize, until: usize)
     requires { (at + count ≤ length dst.old) × (until ≤ length dst.old) }
     ensures { Over (replicate count value) dst.old at until dst.new }
 {
-    if count <= 16 {
-        if at + 16 <= until {
-            fill_offsets(value, 16, dst, at);
-            return;
-        }
+    if count <= 16 && 16 <= until.saturating_sub(at) {
+        fill(value, 16, dst, at);
+        return;
     }
-    fill_offsets(value, count, dst, at);
+    fill(value, count, dst, at);
 }

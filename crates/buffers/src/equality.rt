@@ -1,35 +1,9 @@
-// Whether two runs are the same. The loops have no way out inside, so that they are vectorised.
+// Whether two runs are the same.
 ghost use Rattle.std.specs.Prelude.{◌≡◌};
-ghost use Rattle.buffers.specs.Same.{same};
+ghost use Rattle.std.specs.Cmp.Lexicographic.{pointwise};
 
-use crate::Offset;
-
-pub fn same_bytes(a: &[u8], b: &[u8]) -> bool
-    ensures { result ≡ same a.now b.now }
+pub fn same<T: PartialEq>(a: &[T], b: &[T]) -> bool
+    ensures { result ≡ pointwise T.eq a.now b.now }
 {
-    if a.len() != b.len() {
-        return false;
-    }
-    let mut ok = true;
-    let mut i = 0;
-    while i < a.len() {
-        ok = ok & (a[i] == b[i]);
-        i += 1;
-    }
-    ok
-}
-
-pub fn same_offsets(a: &[Offset], b: &[Offset]) -> bool
-    ensures { result ≡ same a.now b.now }
-{
-    if a.len() != b.len() {
-        return false;
-    }
-    let mut ok = true;
-    let mut i = 0;
-    while i < a.len() {
-        ok = ok & (a[i] == b[i]);
-        i += 1;
-    }
-    ok
+    a == b
 }

@@ -1,4 +1,4 @@
-// Runs of bytes and of 16-bit numbers, copied or filled into passed buffers.
+// Runs of elements, as bytes and offsets, copied or filled into passed buffers.
 // Each function here is an inner one: its callers have measured the room before.
 #![tactic(auto)]
 
@@ -14,47 +14,19 @@ ghost use Rattle.buffers.specs.Splice.{splice};
 pub type Offset = u16;
 
 // `src` is in `dst` from `at` on; all else is as it was.
-pub fn copy_bytes(src: &[u8], dst: &mut [u8], at: usize)
+pub fn copy<T: Copy>(src: &[T], dst: &mut [T], at: usize)
     requires { at + length src.now ≤ length dst.old }
     ensures { dst.new ≡ splice dst.old at src.now }
 {
-    let mut j = 0;
-    while j < src.len() {
-        dst[at + j] = src[j];
-        j += 1;
-    }
-}
-
-pub fn copy_offsets(src: &[Offset], dst: &mut [Offset], at: usize)
-    requires { at + length src.now ≤ length dst.old }
-    ensures { dst.new ≡ splice dst.old at src.now }
-{
-    let mut j = 0;
-    while j < src.len() {
-        dst[at + j] = src[j];
-        j += 1;
-    }
+    dst[at..at + src.len()].copy_from_slice(src);
 }
 
 // `count` times `value` is in `dst` from `at` on; all else is as it was.
-pub fn fill_bytes(value: u8, count: usize, dst: &mut [u8], at: usize)
+pub fn fill<T: Copy>(value: T, count: usize, dst: &mut [T], at: usize)
     requires { at + count ≤ length dst.old }
     ensures { dst.new ≡ splice dst.old at (replicate count value) }
 {
-    let mut j = 0;
-    while j < count {
-        dst[at + j] = value;
-        j += 1;
-    }
-}
-
-pub fn fill_offsets(value: Offset, count: usize, dst: &mut [Offset], at: usize)
-    requires { at + count ≤ length dst.old }
-    ensures { dst.new ≡ splice dst.old at (replicate count value) }
-{
-    let mut j = 0;
-    while j < count {
-        dst[at + j] = value;
-        j += 1;
+    for x in dst[at..at + count].iter_mut() {
+        *x = value;
     }
 }

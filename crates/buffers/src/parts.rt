@@ -1,7 +1,7 @@
 // A text and its two columns of alignments, copied together. An inner function: its callers have measured the room.
 ghost use Rattle.buffers.specs.Keeping.{KeepRoom, PartKept};
 
-use crate::{Offset, copy_bytes, copy_offsets};
+use crate::{Offset, copy};
 
 // Bytes that stay, with their alignments, laid into the buffers from `at` on.
 pub fn keep(
@@ -21,7 +21,7 @@ pub fn keep(
         out.old out_starts.old out_ends.old at
         out.new out_starts.new out_ends.new }
 {
-    copy_bytes(&text[from..to], out, at);
-    copy_offsets(&starts[from..to], out_starts, at);
-    copy_offsets(&ends[from..to], out_ends, at);
+    copy(&text[from..to], out, at);
+    copy(&starts[from..to], out_starts, at);
+    copy(&ends[from..to], out_ends, at);
 }

@@ -11,7 +11,7 @@ ghost use Rattle.char_offsets.specs.Positions.{index_of};
 ghost use Rattle.char_columns.specs.Steps.{BothKnown, CharsCounted, EndsCounted, Known, Near};
 ghost use Rattle.char_columns.specs.Steps.{near_flags, PairsReady, PlainEnd, Stepped};
 
-use buffers::fill_bytes;
+use buffers::fill;
 use char_offsets::index_from;
 use checks::least_of_two;
 use convert::OffsetReferential;
@@ -83,11 +83,9 @@ fn first_leads(text: &[u8], flags: &[u8; 32], from: usize, n: usize) -> u8
 {
     let skipped = 16 - n;
     let mut count: u8 = 0;
-    let mut j = 0;
-    while j < 16 {
+    for j in 0..16 {
         let begins = !continues(text[from + j]);
         count += begins as u8 & flags[skipped + j];
-        j += 1;
     }
     count
 }
@@ -184,12 +182,10 @@ fn write_plain(
     ensures { EndsCounted text.now count out_starts.now
         out_ends.old out_ends.new }
 {
-    let mut k = 0;
-    while k < count {
+    for k in 0..count {
         let start = looked_up(side, out_starts[k]);
         let end = looked_up(side, out_ends[k]);
         out_ends[k] = plain_end(text.len() as u32, start, end);
-        k += 1;
     }
 }
 
@@ -206,11 +202,10 @@ fn count_chars(
         out_starts.new out_ends.new }
 {
     let mut flags = [0u8; 32];
-    fill_bytes(1, 16, &mut flags, 0);
+    fill(1, 16, &mut flags, 0);
     let mut first = Cursor { at: 0, index: 0 };
     let mut last = first;
-    let mut k = 0;
-    while k < count {
+    for k in 0..count {
         let start = looked_up(side, out_starts[k]);
         let end = looked_up(side, out_ends[k]);
         let offsets = in_chars(text, &flags, first, last, start, end);
@@ -218,7 +213,6 @@ fn count_chars(
         out_ends[k] = offsets.end;
         first = offsets.first;
         last = offsets.last;
-        k += 1;
     }
 }
 

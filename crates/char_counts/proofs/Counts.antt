@@ -7,7 +7,7 @@ use Rattle.utf8.specs.Formed.{continues}
 use Rattle.utf8.specs.Chars.{leads}
 use Rattle.utf8.specs.Counting.{Counted}
 use Rattle.utf8.proofs.Chars.{flag-counted, leads-le-length, leads-take-add}
-use Rattle.char_counts.specs.Counts.{begun_after_first, Marked, count_at, LookedUp, CountsLent}
+use Rattle.char_counts.specs.Counts.{begun_after_first, count_at, LookedUp, CountsLent}
 
 pub begun-zero : (s : List ℕ) → begun_after_first s 0 ≡ 0
 unfolding begun_after_first leads
@@ -34,48 +34,37 @@ begun-next s b {t} h e =
     let same : t ≡ continues (get_or (drop 1 s) b 0) = rw (get_or-drop 1 s b 0, turn) e in
     sym (flag-counted here long same).so_far
 
--- the marks up to the k-th are written, and i is its byte
-pub record Marking (s d₀ d : List ℕ) (count i k : ℕ) : Type 0 where
-  pub byte_is : i ≡ k * 128
-  pub count_is : count ≡ begun_after_first s i
-  pub inside : i ≤ length s - 1
+-- the first k marks are written
+pub record Marking (s d₀ d : List ℕ) (count k : ℕ) : Type 0 where
+  pub count_is : count ≡ begun_after_first s ((k - 1) * 128)
   pub same : length d ≡ length d₀
   pub room : length s ≤ 128 * length d
-  pub so_far : (j : ℕ) → j ≤ k → get_or d j 0 ≡ begun_after_first s (j * 128)
+  pub so_far : (j : ℕ) → j < k → get_or d j 0 ≡ begun_after_first s (j * 128)
 
-pub first-mark : {s : List ℕ} (d : List ℕ) → 1 ≤ length d → length s ≤ 128 * length d → Marking s (set d 0 0) (set d 0 0) 0 0 0
+pub first-mark : {s : List ℕ} (d : List ℕ) → 1 ≤ length d → length s ≤ 128 * length d → Marking s (set d 0 0) (set d 0 0) 0 1
 first-mark {s} d some enough =
     record {
-      byte_is = refl;
       count_is = sym (begun-zero s);
-      inside = omega arith;
       same = refl;
       room = simp length-set enough;
       so_far = λ j h. let z : j ≡ 0 = omega arith in rw z (get_or-set_same d 0 0 0 some ∙ sym (begun-zero s));
     }
 
-pub next-mark : {s d₀ d : List ℕ} {count i k r : ℕ} → Marking s d₀ d count i k → 129 ≤ length s - i → r ≡ leads (part s (i + 1) (i + 129)) → Marking s d₀ (set d (k + 1) (count + r)) (count + r) (i + 128) (k + 1)
-next-mark {s} {d₀} {d} {count} {i} {k} {r} w more is =
-    let end : i + 1 + 128 ≡ i + 129 = omega arith in
-    let on : count + r ≡ begun_after_first s (i + 128) = rw (w.count_is, is) (sym (rw end at (begun-add s i 128))) in
-    let here : (k + 1) * 128 ≡ i + 128 = omega (arith, w.byte_is) in
+pub next-mark : {s d₀ d : List ℕ} {count k r : ℕ} → Marking s d₀ d count k → 1 ≤ k → k * 128 < length s → r ≡ leads (part s (k * 128 - 127) (k * 128 + 1)) → Marking s d₀ (set d k (count + r)) (count + r) (k + 1)
+next-mark {s} {d₀} {d} {count} {k} {r} w some more is =
+    let start : (k - 1) * 128 + 1 ≡ k * 128 - 127 = omega arith in
+    let end : k * 128 - 127 + 128 ≡ k * 128 + 1 = omega arith in
+    let next : (k - 1) * 128 + 128 ≡ k * 128 = omega arith in
+    let same : k + 1 - 1 ≡ k = omega arith in
+    let on : count + r ≡ begun_after_first s (k * 128) = rw (w.count_is, is) (sym (rw (start, end, next) at (begun-add s ((k - 1) * 128) 128))) in
     record {
-      byte_is = sym here;
-      count_is = on;
-      inside = omega arith;
+      count_is = rw same on;
       same = simp length-set w.same;
       room = simp length-set w.room;
       so_far =
-          λ j h. le-or-lt (k + 1) j
-          (λ last. let z : j ≡ k + 1 = omega arith in rw (z, get_or-set_same d (k + 1) (count + r) 0 (omega (arith, w.room, w.byte_is)), here) on)
-          (λ before. get_or-set_other d (k + 1) j (count + r) 0 (λ e. omega (arith, e)) ∙ w.so_far j (omega arith));
-    }
-
-pub all-marks : {s d₀ d : List ℕ} {count i k : ℕ} → Marking s d₀ d count i k → length s - i < 129 → Marked s d
-all-marks {s} {d₀} {d} {k = k} w left =
-    record {
-      enough = w.room;
-      marked = λ j h. let turn : 128 * j ≡ j * 128 = omega arith in rw turn (w.so_far j (omega (arith, w.byte_is)));
+          λ j h. le-or-lt k j
+          (λ last. let z : j ≡ k = omega arith in rw (z, get_or-set_same d k (count + r) 0 (omega (arith, w.room))) on)
+          (λ before. get_or-set_other d k j (count + r) 0 (λ e. omega (arith, e)) ∙ w.so_far j before);
     }
 
 -- a look-up

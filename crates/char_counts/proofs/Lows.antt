@@ -9,9 +9,9 @@ use Rattle.buffers.proofs.Splice.{length_part, part-index, part-append}
 use Rattle.utf8.specs.Formed.{continues}
 use Rattle.utf8.specs.Chars.{leads}
 use Rattle.utf8.specs.Counting.{Counted}
-use Rattle.utf8.proofs.Chars.{none-counted, flag-counted, all-counted, counted-le, leads-append, leads-le-length}
+use Rattle.utf8.proofs.Chars.{none-counted, flag-counted, all-counted, leads-append, leads-le-length}
 use Rattle.char_counts.specs.Counts.{begun_after_first}
-use Rattle.char_counts.specs.Lows.{four_at, sixteen_at, LowsTo, BlockReady, EachReady}
+use Rattle.char_counts.specs.Lows.{four_at, sixteen_at, LowsTo, EachReady}
 use Rattle.char_counts.proofs.Counts.{begun-zero, begun-add, begun-next}
 
 -- four bytes, counted one after the other
@@ -32,15 +32,9 @@ module _ (s : List ℕ) (from k : ℕ) (inside : from + k + 4 ≤ length s) wher
         let zero : from + k + 0 ≡ from + k = omega arith in
         one_more (one_more {t = t0} none-counted (omega arith) (rw zero p0)) (omega arith) p1
 
-    pub two-fit : bool_byte (not t0) + bool_byte (not t1) ≤ 2
-    two-fit = omega (arith, counted-le two)
-
     module _ {t2 : Bool} (p2 : t2 ≡ continues (get_or s (from + k + 2) 0)) where
       three : Counted four (0 + bool_byte (not t0) + bool_byte (not t1) + bool_byte (not t2)) 3
       three = one_more two (omega arith) p2
-
-      pub three-fit : bool_byte (not t0) + bool_byte (not t1) + bool_byte (not t2) ≤ 3
-      three-fit = omega (arith, counted-le three)
 
       pub four-flags : {t3 : Bool} → t3 ≡ continues (get_or s (from + k + 3) 0) → bool_byte (not t0) + bool_byte (not t1) + bool_byte (not t2) + bool_byte (not t3) ≡ four_at s from k
       unfolding four_at
@@ -115,19 +109,12 @@ module _ {s d₀ d : List ℕ} {n : ℕ} (w : LowsTo s d₀ n d) where
   each-ready to some inside room =
       record { some = some; inside = inside; room = omega (arith, w.same); so_far = record { same = refl; lows = w.lows } }
 
-  pub lows-after : {m : ℕ} {d₁ : List ℕ} → LowsTo s d m d₁ → LowsTo s d₀ m d₁
-  lows-after v = record { same = v.same ∙ w.same; lows = v.lows }
-
   -- one byte on
   pub next_low : {t : Bool} {r : ℕ} → 1 ≤ n → n < length s → t ≡ continues (get_or s n 0) → r ≡ (get_or d (n - 1) 0 + bool_byte (not t)) % 256 → r ≡ begun_after_first s n % 256
   next_low {t} {r} some inside e is =
       let back : n - 1 + 1 ≡ n = omega arith in
       let on : begun_after_first s n ≡ begun_after_first s (n - 1) + bool_byte (not t) = rw back at (begun-next s (n - 1) {t = t} (omega arith) (rw back e)) in
       is ∙ omega (arith, w.lows (n - 1) (omega arith))
-
-pub block-ready : {s d₀ d : List ℕ} (i : ℕ) → LowsTo s d₀ (i + 16) d → i + 144 ≤ length s → length s ≤ length d₀ → BlockReady s i d
-block-ready i w inside room =
-    record { inside = inside; room = omega (arith, w.same); so_far = record { same = refl; lows = w.lows } }
 
 -- 16 bytes on
 pub far-low : {s d₀ d f₀ fours g₀ sixteens : List ℕ} (i j : ℕ) {r : ℕ} → LowsTo s d₀ (i + 16 + j) d → Filled (four_at s (i + 1)) f₀ 0 140 fours → Filled (sixteen_at fours) g₀ 0 128 sixteens → j < 128 → r ≡ (get_or d (i + j) 0 + get_or sixteens j 0) % 256 → r ≡ begun_after_first s (i + 16 + j) % 256

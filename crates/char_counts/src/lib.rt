@@ -35,13 +35,10 @@ pub fn write_marks(text: &[u8], marks: &mut [Offset])
     ensures { Marked text.now marks.new }
 {
     let mut count: Offset = 0;
-    let mut i = 0;
-    let mut k = 0;
     marks[0] = 0;
-    while 129 <= text.len() - i {
-        count += count_leads(&text[i + 1..i + 129]) as Offset;
-        i += 128;
-        k += 1;
+    for k in 1..text.len().div_ceil(128) {
+        let byte = k * 128;
+        count += count_leads(&text[byte - 127..byte + 1]) as Offset;
         marks[k] = count;
     }
 }
@@ -52,5 +49,5 @@ pub fn count_at(marks: &[Offset], lows: &[u8], b: usize) -> u32
     ensures { result ≡ count_at marks.now lows.now b }
 {
     let mark = marks[b / 128];
-    mark as u32 + std::num::wrapping_sub_u8(lows[b], (mark % 256) as u8) as u32
+    mark as u32 + lows[b].wrapping_sub((mark % 256) as u8) as u32
 }

@@ -12,13 +12,11 @@ fn write_fours(text: &[u8], from: usize, fours: &mut [u8])
     ensures { Filled (four_at text.now from) fours.old 0
         (length fours.old) fours.new }
 {
-    let mut j = 0;
-    while j < fours.len() {
-        fours[j] = !continues(text[from + j]) as u8
+    for (j, four) in fours.iter_mut().enumerate() {
+        *four = !continues(text[from + j]) as u8
             + !continues(text[from + j + 1]) as u8
             + !continues(text[from + j + 2]) as u8
             + !continues(text[from + j + 3]) as u8;
-        j += 1;
     }
 }
 
@@ -28,10 +26,8 @@ fn write_sixteens(fours: &[u8], sixteens: &mut [u8])
     ensures { Filled (sixteen_at fours.now) sixteens.old 0
         (length sixteens.old) sixteens.new }
 {
-    let mut j = 0;
-    while j < sixteens.len() {
-        sixteens[j] = fours[j] + fours[j + 4] + fours[j + 8] + fours[j + 12];
-        j += 1;
+    for (j, sixteen) in sixteens.iter_mut().enumerate() {
+        *sixteen = fours[j] + fours[j + 4] + fours[j + 8] + fours[j + 12];
     }
 }
 
@@ -44,10 +40,8 @@ fn low_block(text: &[u8], i: usize, lows: &mut [u8])
     write_fours(text, i + 1, &mut fours);
     let mut sixteens = [0u8; 128];
     write_sixteens(&fours, &mut sixteens);
-    let mut j = 0;
-    while j < 128 {
-        lows[i + 16 + j] = std::num::wrapping_add_u8(lows[i + j], sixteens[j]);
-        j += 1;
+    for (j, more) in sixteens.iter().enumerate() {
+        lows[i + 16 + j] = lows[i + j].wrapping_add(*more);
     }
 }
 
@@ -56,10 +50,8 @@ fn low_each(text: &[u8], from: usize, to: usize, lows: &mut [u8])
     requires { EachReady text.now from to lows.old }
     ensures { LowsTo text.now lows.old to lows.new }
 {
-    let mut i = from;
-    while i < to {
-        lows[i] = std::num::wrapping_add_u8(lows[i - 1], !continues(text[i]) as u8);
-        i += 1;
+    for i in from..to {
+        lows[i] = lows[i - 1].wrapping_add(!continues(text[i]) as u8);
     }
 }
 
@@ -76,10 +68,9 @@ pub fn write_lows(text: &[u8], lows: &mut [u8])
         return;
     }
     low_each(text, 1, 16, lows);
-    let mut i = 0;
-    while 144 <= text.len() - i {
-        low_block(text, i, lows);
-        i += 128;
+    let blocks = (text.len() - 16) / 128;
+    for block in 0..blocks {
+        low_block(text, block * 128, lows);
     }
-    low_each(text, i + 16, text.len(), lows);
+    low_each(text, blocks * 128 + 16, text.len(), lows);
 }

@@ -7,23 +7,21 @@ use borrow.Author.Tests.{lt-ltb, le-ltb}
 use native.Mathlib.Omega.{arith}
 use lib.Dec.{eqb}
 use lib.ListN.{length, get_or, set}
+use Rattle.std.specs.Prelude.{Result, Err}
 use Rattle.buffers.proofs.Columns.{Filling, one-filling, all-filling}
 use Rattle.note.specs.declared.Refusal.{Refusal}
 use Rattle.note.specs.declared.Refusal.TheVariants.{LengthMismatch, NoRoom, Missing, IllFormed}
-use Rattle.note.specs.declared.Verdict.{Verdict}
-use Rattle.note.specs.declared.Verdict.TheVariants.{Accepted, Refused as Rejected}
-use Rattle.note.specs.Refusals.{none, meets, also, verdict, unless_refused, least}
+use Rattle.note.specs.Refusals.{none, meets, also, verdict, unless_refused, least, Verdict, Accepted}
 use Rattle.note.specs.Rank.{earlier}
 use Rattle.note.specs.Faults.{text_faults, room_faults, length_faults}
 use Rattle.note.specs.Rank.{up_to}
 use Rattle.note.proofs.FirstMet.{refused-then, accepted-then}
 use Rattle.note.proofs.LengthFaults.{beside-list}
 use Rattle.note.proofs.Faults.{no_room, enough-room}
-use Rattle.char_offsets.specs.declared.CharOffsets.{CharOffsets}
-use Rattle.char_offsets.specs.declared.CharOffsets.TheVariants.{Refused}
 use Rattle.char_offsets.specs.declared.Pair.{Pair}
 use Rattle.char_offsets.specs.Positions.{index_of, is_mapped, char_pair, end_index, pair_of, char_offsets, pair_number, pair_start, pair_end, pair_at, CharOffsetsList}
 use Rattle.char_offsets.specs.Steps.{IndexKnown, PairTold, PairRoom, PairsWritten}
+use Rattle.note.specs.declared.CharIndex.{CharIndex}
 
 -- nothing is read yet
 pub known-none : {most : ℕ} {s : List ℕ} → length s ≤ most → IndexKnown most s 0 0
@@ -31,7 +29,7 @@ unfolding index_of
 known-none h = record { short = h; inside = omega arith; so_far = refl }
 
 -- one pair
-missing-verdict : (s : List ℕ) (a : ℕ) → verdict (meets Missing (not (is_mapped s a)) none) ≡ cond (not (is_mapped s a)) (Rejected Missing) Accepted
+missing-verdict : (s : List ℕ) (a : ℕ) → verdict (meets Missing (not (is_mapped s a)) none) ≡ cond (not (is_mapped s a)) (Err Missing) Accepted
 unfolding verdict
 missing-verdict s a = refl
 
@@ -39,18 +37,18 @@ module _ (most : ℕ) (s : List ℕ) (a e : ℕ) {v : Verdict} (is : v ≡ verdi
   abbrev starts-there : Refusal → Bool
   starts-there = meets Missing (not (is_mapped s a)) none
 
-  abbrev answer : Verdict → CharOffsets
-  answer w = unless_refused Refused w (pair_of s a e)
+  abbrev answer : Verdict → Result (CharIndex × CharIndex) Refusal
+  answer w = unless_refused Err w (pair_of s a e)
 
-  pub pair-refused : {k : Refusal} → v ≡ Rejected k → Refused k ≡ char_offsets most s a e
+  pub pair-refused : {k : Refusal} → v ≡ Err k → Err k ≡ char_offsets most s a e
   unfolding char_offsets
   pair-refused no_text = ap answer (refused-then (up_to IllFormed) (text_faults most s) starts-there refl refl is no_text)
 
   module _ (ok : v ≡ Accepted) where
-    pub pair-missing : length s ≤ a → Refused Missing ≡ char_offsets most s a e
+    pub pair-missing : length s ≤ a → Err Missing ≡ char_offsets most s a e
     unfolding char_offsets
     pair-missing past =
-        let off : Rejected Missing ≡ verdict starts-there = sym (missing-verdict s a ∙ rw (le-ltb a (length s) past)) in
+        let off : Err Missing ≡ verdict starts-there = sym (missing-verdict s a ∙ rw (le-ltb a (length s) past)) in
         ap answer (accepted-then (up_to IllFormed) (text_faults most s) starts-there refl refl is ok off)
 
     pub pair-chars : {r : Pair} → a < length s → PairTold s a e r → char_pair r.start r.end ≡ char_offsets most s a e
@@ -81,14 +79,14 @@ module _ {s starts ends n₀ a₀ e₀ : List ℕ} (room : PairRoom starts ends 
 abbrev inputs : ℕ → List ℕ → List ℕ → List ℕ → Refusal → Bool
 inputs most s starts ends = also (text_faults most s) (length_faults starts ends)
 
-module _ (most : ℕ) (s starts ends n₀ a₀ e₀ : List ℕ) {v w u : Verdict} (p : v ≡ verdict (text_faults most s)) (q : w ≡ cond (not (eqb (length starts) (length ends))) (Rejected LengthMismatch) Accepted) (both : u ≡ earlier v w) where
+module _ (most : ℕ) (s starts ends n₀ a₀ e₀ : List ℕ) {v w u : Verdict} (p : v ≡ verdict (text_faults most s)) (q : w ≡ cond (not (eqb (length starts) (length ends))) (Err LengthMismatch) Accepted) (both : u ≡ earlier v w) where
   abbrev room : ℕ
   room = least (length n₀) (length a₀) (length e₀)
 
   abbrev rooms : Refusal → Bool
   rooms = room_faults (length starts) room
 
-  pub list-refused : {k : Refusal} → u ≡ Rejected k → CharOffsetsList most s starts ends n₀ a₀ e₀ (Rejected k) n₀ a₀ e₀
+  pub list-refused : {k : Refusal} → u ≡ Err k → CharOffsetsList most s starts ends n₀ a₀ e₀ (Err k) n₀ a₀ e₀
   list-refused is =
       record {
         answer = refused-then (up_to IllFormed) (inputs most s starts ends) rooms refl refl (beside-list (text_faults most s) starts ends p q both) is;
@@ -98,7 +96,7 @@ module _ (most : ℕ) (s starts ends n₀ a₀ e₀ : List ℕ) {v w u : Verdict
       }
 
   module _ (ok : u ≡ Accepted) where
-    pub too-little-room : room < length starts → CharOffsetsList most s starts ends n₀ a₀ e₀ (Rejected NoRoom) n₀ a₀ e₀
+    pub too-little-room : room < length starts → CharOffsetsList most s starts ends n₀ a₀ e₀ (Err NoRoom) n₀ a₀ e₀
     too-little-room h =
         record {
           answer = accepted-then (up_to IllFormed) (inputs most s starts ends) rooms refl refl (beside-list (text_faults most s) starts ends p q both) ok (no_room h);

@@ -9,6 +9,7 @@ use native.Mathlib.Numerals.{add-one}
 use native.Mathlib.Omega.{arith}
 use lib.ListN.{length, get_or, take, drop, length-drop, take-append-drop}
 use lib.Seq.{get_or-drop}
+use Rattle.std.specs.Prelude.{Err}
 use Rattle.buffers.proofs.Cases.{le-or-lt, true-or-false}
 use Rattle.utf8.specs.Formed.{well_formed, continues}
 use Rattle.utf8.specs.Chars.{leads, lead_at}
@@ -19,7 +20,6 @@ use Rattle.utf8.specs.CharRanges.{char_start}
 use Rattle.utf8.proofs.CharRanges.{ranged}
 use Rattle.char_counts.specs.Counts.{begun_after_first, count_at, CountsLent}
 use Rattle.char_counts.proofs.Counts.{count-begun}
-use Rattle.char_offsets.specs.declared.CharOffsets.TheVariants.{Refused}
 use Rattle.char_offsets.specs.Positions.{index_of, char_pair, end_index, pair_of, pair_start, pair_end, IndexIsChars, PositionsBounded}
 
 pub index-most : (s : List ℕ) (b : ℕ) → index_of s b ≤ b
@@ -100,7 +100,7 @@ pub positions-bounded : PositionsBounded
 unfolding pair_of
 positions-bounded s a e i j formed p =
     le-or-lt (length s) a
-    (λ past. let none : Refused Missing ≡ char_pair i j = rw (le-ltb a (length s) past) at p in let z : ◌≡◌ {A = ℕ} 0 1 = cc in absurd (omega arith))
+    (λ past. let none : Err Missing ≡ char_pair i j = rw (le-ltb a (length s) past) at p in let z : ◌≡◌ {A = ℕ} 0 1 = cc in absurd (omega arith))
     (λ below.
     let is : char_pair (index_of s a) (end_index s a e) ≡ char_pair i j = rw (lt-ltb a (length s) below) at p in
     let first : index_of s a ≡ i = ap pair_start is in

@@ -4,29 +4,20 @@ ghost use Rattle.note.specs.Notes.{limit};
 ghost use Rattle.char_offsets.specs.Counting.{letter_count};
 
 use checks::check_text;
-use note::{OriginalByte, Refusal, Verdict};
+use note::{OriginalByte, Refusal};
 use utf8::count::count_leads;
 use utf8::is_char_range;
 
-// What a letter count answers.
-#[derive(Clone, Copy)]
-pub enum LetterCount {
-    Letters(u32),
-    Refused(Refusal),
-}
-
 // How many letters there are from `start` up to `end`, one for each character. A text alone is a transcript. Refusals:
 // those of a text, then `NotBoundary`.
-pub fn letter_count(text: &[u8], start: OriginalByte, end: OriginalByte) -> LetterCount
+pub fn letter_count(text: &[u8], start: OriginalByte, end: OriginalByte) -> Result<u32, Refusal>
     ensures { result ≡ letter_count limit text.now start.0 end.0 }
 {
-    if let Verdict::Refused(k) = check_text(text) {
-        return LetterCount::Refused(k);
-    }
+    check_text(text)?;
     let from = start.0 as usize;
     let to = end.0 as usize;
     if !is_char_range(text, from, to) {
-        return LetterCount::Refused(Refusal::NotBoundary);
+        return Err(Refusal::NotBoundary);
     }
-    LetterCount::Letters(count_leads(&text[from..to]) as u32)
+    Ok(count_leads(&text[from..to]) as u32)
 }

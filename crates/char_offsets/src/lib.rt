@@ -16,15 +16,8 @@ use char_counts::low_bytes::write_lows;
 use char_counts::{count_at, write_marks, zeroed_lows, zeroed_marks};
 use checks::{check_text, least_room};
 use note::verdicts::{earlier, refused_if};
-use note::{CharIndex, OriginalByte, Refusal, Verdict};
+use note::{CharIndex, OriginalByte, Refusal};
 use utf8::count::count_leads;
-
-// What converting a pair answers.
-#[derive(Clone, Copy)]
-pub enum CharOffsets {
-    Chars(CharIndex, CharIndex),
-    Refused(Refusal),
-}
 
 // The index of the character of the byte `to`, from that of the byte `at`, wherever the two stand. An inner function:
 // the text was judged before.
@@ -69,7 +62,7 @@ fn end_byte(size: usize, start: OriginalByte, end: OriginalByte) -> EndByte
     }
 }
 
-// A pair's answer in numbers.
+// A pair's answer in numbers, as the three columns of a list have it for C.
 #[derive(Clone, Copy)]
 pub struct Pair {
     pub number: u8,
@@ -124,15 +117,13 @@ fn write_pairs(
         numbers.old char_starts.old char_ends.old
         numbers.new char_starts.new char_ends.new }
 {
-    let mut i = 0;
-    while i < starts.len() {
+    for i in 0..starts.len() {
         let start = OriginalByte(starts[i]);
         let end = OriginalByte(ends[i]);
         let pair = convert_pair(text, marks, lows, start, end);
         numbers[i] = pair.number;
         char_starts[i] = pair.start;
         char_ends[i] = pair.end;
-        i += 1;
     }
 }
 
@@ -168,19 +159,21 @@ fn count_and_write(
 }
 
 // A pair of bytes of the text as a pair of its characters. Refusals: those of a text, then `Missing`.
-pub fn char_offsets(text: &[u8], start: OriginalByte, end: OriginalByte) -> CharOffsets
+pub fn char_offsets(
+    text: &[u8],
+    start: OriginalByte,
+    end: OriginalByte,
+) -> Result<(CharIndex, CharIndex), Refusal>
     ensures { result ≡ char_offsets limit text.now start.0 end.0 }
 {
-    if let Verdict::Refused(k) = check_text(text) {
-        return CharOffsets::Refused(k);
-    }
+    check_text(text)?;
     if text.len() <= start.0 as usize {
-        return CharOffsets::Refused(Refusal::Missing);
+        return Err(Refusal::Missing);
     }
     let last = end_byte(text.len(), start, end);
     let first = index_from(text, OriginalByte(0), CharIndex(0), start);
     let past = index_from(text, start, first, last.byte);
-    CharOffsets::Chars(first, CharIndex(past.0 + last.more))
+    Ok((first, CharIndex(past.0 + last.more)))
 }
 
 // A list of pairs (RULES 15.4), in whatever order: for each 0 and its two characters, or the number
@@ -193,19 +186,17 @@ pub fn char_offsets_list(
     numbers: &mut [u8],
     char_starts: &mut [u32],
     char_ends: &mut [u32],
-) -> Verdict
+) -> Result<(), Refusal>
     ensures { CharOffsetsList limit text.now starts.now ends.now
         numbers.old char_starts.old char_ends.old result
         numbers.new char_starts.new char_ends.new }
 {
     let checked = check_text(text);
     let unpaired = refused_if(starts.len() != ends.len(), Refusal::LengthMismatch);
-    if let Verdict::Refused(k) = earlier(checked, unpaired) {
-        return Verdict::Refused(k);
-    }
+    earlier(checked, unpaired)?;
     if least_room(numbers.len(), char_starts.len(), char_ends.len()) < starts.len() {
-        return Verdict::Refused(Refusal::NoRoom);
+        return Err(Refusal::NoRoom);
     }
     count_and_write(text, starts, ends, numbers, char_starts, char_ends);
-    Verdict::Accepted
+    Ok(())
 }

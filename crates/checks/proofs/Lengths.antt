@@ -8,12 +8,11 @@ use borrow.Author.Tests.{le-leb, lt-leb, leb-true, eqb-true, not-true, not-false
 use native.Mathlib.Omega.{arith}
 use lib.Dec.{leb, eqb}
 use lib.ListN.{length}
+use Rattle.std.specs.Prelude.{Err}
 use Rattle.buffers.proofs.Cases.{le-or-lt}
 use Rattle.utf8.specs.Formed.{well_formed}
 use Rattle.note.specs.declared.Refusal.TheVariants.{IllFormed, TooLong, LengthMismatch, Misaligned}
-use Rattle.note.specs.declared.Verdict.{Verdict}
-use Rattle.note.specs.declared.Verdict.TheVariants.{Accepted, Refused}
-use Rattle.note.specs.Refusals.{verdict}
+use Rattle.note.specs.Refusals.{verdict, Verdict, Accepted}
 use Rattle.note.specs.Notes.{lent, fits, paired, texts_formed, aligned}
 use Rattle.note.specs.Faults.{note_faults, text_faults, string_faults}
 use Rattle.checks.specs.Lengths.{lengths_fit, lengths_paired}
@@ -67,34 +66,34 @@ module _ (o m : List ℕ) {r : Bool} (e : r ≡ well_formed o) where
 
 -- the note, by what the code tests
 module _ (most : ℕ) (o m s e : List ℕ) (shift : ℕ) where
-  pub too_long : {t : Bool} → t ≡ lengths_fit most (length o) (length m) shift → not t ≡ true → Refused TooLong ≡ verdict (note_faults most (lent o m s e shift))
+  pub too_long : {t : Bool} → t ≡ lengths_fit most (length o) (length m) shift → not t ≡ true → Err TooLong ≡ verdict (note_faults most (lent o m s e shift))
   unfolding verdict fits lengths_fit
   too_long {t} is f = rw (sym is ∙ not-true t f)
 
   module _ {t u : Bool} (is : t ≡ lengths_fit most (length o) (length m) shift) (f : not t ≡ false) (are : u ≡ lengths_paired (length m) (length s) (length e)) where
-    pub unpaired : not u ≡ true → Refused LengthMismatch ≡ verdict (note_faults most (lent o m s e shift))
+    pub unpaired : not u ≡ true → Err LengthMismatch ≡ verdict (note_faults most (lent o m s e shift))
     unfolding verdict fits paired lengths_fit lengths_paired
     unpaired p = rw (sym is ∙ not-false t f, sym are ∙ not-true u p)
 
     module _ (p : not u ≡ false) {w : Bool} (formed : w ≡ (well_formed o && well_formed m)) where
-      pub ill-formed : not w ≡ true → Refused IllFormed ≡ verdict (note_faults most (lent o m s e shift))
+      pub ill-formed : not w ≡ true → Err IllFormed ≡ verdict (note_faults most (lent o m s e shift))
       unfolding verdict fits paired texts_formed lengths_fit lengths_paired
       ill-formed q = rw (sym is ∙ not-false t f, sym are ∙ not-false u p, sym formed ∙ not-true w q)
 
-      pub by-alignments : {r : Verdict} {a : Bool} → not w ≡ false → a ≡ aligned (lent o m s e 0) → r ≡ cond (not a) (Refused Misaligned) Accepted → r ≡ verdict (note_faults most (lent o m s e shift))
+      pub by-alignments : {r : Verdict} {a : Bool} → not w ≡ false → a ≡ aligned (lent o m s e 0) → r ≡ cond (not a) (Err Misaligned) Accepted → r ≡ verdict (note_faults most (lent o m s e shift))
       unfolding verdict fits paired texts_formed lengths_fit lengths_paired
       by-alignments {r} {a} q is-aligned answer =
           answer ∙ rw (sym is ∙ not-false t f, sym are ∙ not-false u p, sym formed ∙ not-false w q, ← aligned-shift o m s e shift is-aligned)
 
 -- a text alone, and another string
-pub text_long : (most : ℕ) (s : List ℕ) → most < length s → Refused TooLong ≡ verdict (text_faults most s)
+pub text_long : (most : ℕ) (s : List ℕ) → most < length s → Err TooLong ≡ verdict (text_faults most s)
 unfolding verdict
 text_long most s h = rw (lt-leb (length s) most h)
 
-pub text-verdict : (most : ℕ) (s : List ℕ) {t : Bool} → length s ≤ most → t ≡ well_formed s → cond (not t) (Refused IllFormed) Accepted ≡ verdict (text_faults most s)
+pub text-verdict : (most : ℕ) (s : List ℕ) {t : Bool} → length s ≤ most → t ≡ well_formed s → cond (not t) (Err IllFormed) Accepted ≡ verdict (text_faults most s)
 unfolding verdict
 text-verdict most s h e = rw (le-leb (length s) most h, e)
 
-pub string-verdict : (s : List ℕ) {t : Bool} → t ≡ well_formed s → cond (not t) (Refused IllFormed) Accepted ≡ verdict (string_faults s)
+pub string-verdict : (s : List ℕ) {t : Bool} → t ≡ well_formed s → cond (not t) (Err IllFormed) Accepted ≡ verdict (string_faults s)
 unfolding verdict
 string-verdict s e = rw e

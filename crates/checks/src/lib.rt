@@ -4,16 +4,16 @@
 ghost use Rattle.std.specs.Prelude.{◌≡◌, true, ◌&&◌, min};
 ghost use Rattle.utf8.specs.Formed.{well_formed};
 ghost use Rattle.validity.specs.Texts.{ascii};
-ghost use Rattle.note.specs.Notes.{lent, limit};
+ghost use Rattle.note.specs.Notes.{passed, limit};
 ghost use Rattle.note.specs.Faults.{note_faults, string_faults, text_faults};
 ghost use Rattle.note.specs.Refusals.{least, verdict};
 ghost use Rattle.checks.specs.Lengths.{lengths_fit, lengths_paired};
 
 use aligned::aligned;
 use buffers::Offset;
-use buffers::equality::same_bytes;
+use buffers::equality::same;
 use note::verdicts::refused_if;
-use note::{LIMIT, Refusal, Verdict};
+use note::{LIMIT, NormalizedString, Refusal};
 use validity::{is_ascii, well_formed};
 
 // Whether the lengths of two texts and a shift are within the limit.
@@ -64,27 +64,26 @@ fn texts_formed(original: &[u8], normalized: &[u8], plain: bool, same: bool) -> 
 }
 
 // Whether a passed note is refused.
-pub fn check_note(
-    original: &[u8],
-    normalized: &[u8],
-    starts: &[Offset],
-    ends: &[Offset],
-    original_shift: u32,
-) -> Verdict
-    ensures { result ≡ verdict (note_faults limit
-        (lent original.now normalized.now
-        starts.now ends.now original_shift)) }
+pub fn check_note(note: &NormalizedString) -> Result<(), Refusal>
+    ensures { result ≡ verdict (note_faults limit (passed note.now)) }
 {
+    let NormalizedString {
+        original,
+        normalized,
+        starts,
+        ends,
+        original_shift,
+    } = *note;
     if !lengths_fit(original.len(), normalized.len(), original_shift) {
-        return Verdict::Refused(Refusal::TooLong);
+        return Err(Refusal::TooLong);
     }
     if !lengths_paired(normalized.len(), starts.len(), ends.len()) {
-        return Verdict::Refused(Refusal::LengthMismatch);
+        return Err(Refusal::LengthMismatch);
     }
     let plain = is_ascii(original);
-    let same = same_bytes(original, normalized);
+    let same = same(original, normalized);
     if !texts_formed(original, normalized, plain, same) {
-        return Verdict::Refused(Refusal::IllFormed);
+        return Err(Refusal::IllFormed);
     }
     refused_if(
         !aligned(original, normalized, starts, ends, plain, same),
@@ -93,17 +92,17 @@ pub fn check_note(
 }
 
 // Whether a text that is passed alone is refused.
-pub fn check_text(text: &[u8]) -> Verdict
+pub fn check_text(text: &[u8]) -> Result<(), Refusal>
     ensures { result ≡ verdict (text_faults limit text.now) }
 {
     if LIMIT < text.len() {
-        return Verdict::Refused(Refusal::TooLong);
+        return Err(Refusal::TooLong);
     }
     refused_if(!well_formed(text), Refusal::IllFormed)
 }
 
 // Whether another string of the call is refused.
-pub fn check_string(string: &[u8]) -> Verdict
+pub fn check_string(string: &[u8]) -> Result<(), Refusal>
     ensures { result ≡ verdict (string_faults string.now) }
 {
     refused_if(!well_formed(string), Refusal::IllFormed)

@@ -34,9 +34,6 @@ pub record Gathered (codes : List ℕ) (bits i : ℕ) : Type 0 where
   pub so_far : or_all bits (drop i codes) ≡ or_all 0 codes
   pub inside : i ≤ length codes
 
-pub none-gathered : {codes : List ℕ} → Gathered codes 0 0
-none-gathered = record { so_far = refl; inside = omega arith }
-
 pub one-gathered : {codes : List ℕ} {bits i : ℕ} → Gathered codes bits i → i < length codes → Gathered codes (bit_or bits (get_or codes i 0)) (i + 1)
 one-gathered {codes} {bits} {i} g h =
     record { so_far = rw (add-one i, ← or-cons bits (get_or codes i 0) (drop (suc i) codes), ← drop-cons codes i 0 h) g.so_far; inside = omega arith }

@@ -1,12 +1,11 @@
 -- Laws of a text that is laid code point by code point, or block by block.
 use Prim.Native.Nat.{ℕ, ◌+◌, ◌*◌, ◌/◌, ◌≤◌, ◌<◌}
-use mathlib.Core.Path.{◌≡◌, ◌∙◌, ap, refl, sym}
-use mathlib.Core.List.{List, [], append-nil}
+use mathlib.Core.Path.{◌≡◌, ◌∙◌, ap}
+use mathlib.Core.List.{List}
 use native.Mathlib.Omega.{arith}
 use lib.ListN.{length, get_or, drop, length-append}
 use Rattle.buffers.specs.Splice.{part, splice}
 use Rattle.buffers.specs.Columns.{Filled}
-use Rattle.buffers.proofs.Splice.{part_end}
 use Rattle.buffers.specs.Over.{Over}
 use Rattle.utf8.specs.Scalar.{bytes_of}
 use Rattle.utf8.specs.Scalar.{len_utf8}
@@ -37,9 +36,6 @@ module _ {codes out₀ : List ℕ} {from until : ℕ} {out : List ℕ} {at i : �
 
   -- so many more
   module _ (n : ℕ) (h : i + n ≤ length codes) where
-    block_size : length (text_of (drop i codes)) ≡ length (text_of (part codes i (i + n))) + length (text_of (drop (i + n) codes))
-    block_size = ap length (text-block codes i n) ∙ length-append (text_of (part codes i (i + n))) (text_of (drop (i + n) codes))
-
     pub some-characters : {at₁ : ℕ} {out₁ : List ℕ} → TextLaid (part codes i (i + n)) out at until at₁ out₁ → Texts codes out₀ from until out₁ at₁ (i + n)
     some-characters l =
         record { most = h; parts = one-part k.parts (text_of (part codes i (i + n))) (text_of (drop (i + n) codes)) (text-block codes i n) l.reached l.over }
@@ -47,19 +43,10 @@ module _ {codes out₀ : List ℕ} {from until : ℕ} {out : List ℕ} {at i : �
   pub all-characters : length codes ≤ i → TextLaid codes out₀ from until at out
   all-characters h = let done = all-parts k.parts (text-end codes h) in record { reached = done.0; over = done.1 }
 
-  pub last-characters : {at₁ : ℕ} {out₁ : List ℕ} → TextLaid (part codes i (length codes)) out at until at₁ out₁ → TextLaid codes out₀ from until at₁ out₁
-  last-characters {at₁} {out₁} given =
-      let l : TextLaid (drop i codes) out at until at₁ out₁ = rw (part_end codes i) at given in
-      let done = all-parts (one-part k.parts (text_of (drop i codes)) [] (sym (append-nil (text_of (drop i codes)))) l.reached l.over) refl in
-      record { reached = done.0; over = done.1 }
-
 -- word by word
 pub record Words (codes out₀ : List ℕ) (from until : ℕ) (out : List ℕ) (at i : ℕ) : Type 0 where
   pub texts : Texts codes out₀ from until out at i
   pub near : at ≤ from + i * 4
-
-pub no_word : {codes out₀ : List ℕ} {from until : ℕ} → Words codes out₀ from until out₀ from 0
-no_word = record { texts = no_text; near = omega arith }
 
 module _ {codes out₀ : List ℕ} {from until : ℕ} (r : CodesBlockRoom codes out₀ from until) (small : EachBelow codes 0x10000) {out : List ℕ} {at i : ℕ} (k : Words codes out₀ from until out at i) (h : i < 64) where
   code : Packing (get_or codes i 0)

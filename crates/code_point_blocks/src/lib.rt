@@ -2,12 +2,13 @@
 // Each function here is an inner one: its callers have judged the code points and measured the room before.
 #![tactic(auto)]
 
-ghost use Rattle.std.specs.Prelude.{◌≡◌, cond, ◌+◌, ◌≤◌, length, get_or};
+ghost use Rattle.std.specs.Prelude.{◌≡◌, ◌+◌, ◌≤◌, length, get_or};
 ghost use Rattle.buffers.specs.Columns.{Filled};
 ghost use Rattle.buffers.specs.Splice.{splice};
 ghost use Rattle.code_point_blocks.specs.Laying.{CodesBlockRoom, EachBelow, TextLaid};
 ghost use Rattle.code_point_blocks.specs.Laying.{or_all, packed_code, word_bytes};
 
+use buffers::lanes::select;
 use numbers::little_endian::put_u16_le;
 
 // The bits of all code points together: each code point is at most that, and a power of two that all are below is above
@@ -16,10 +17,8 @@ pub fn or_all(codes: &[u32]) -> u32
     ensures { result ≡ or_all 0 codes.now }
 {
     let mut bits: u32 = 0;
-    let mut i = 0;
-    while i < codes.len() {
-        bits = bits | codes[i];
-        i += 1;
+    for code in codes {
+        bits |= *code;
     }
     bits
 }
@@ -29,21 +28,9 @@ pub fn lay_ascii(codes: &[u32], out: &mut [u8], at: usize)
     requires { EachBelow codes.now 0x80 × (at + length codes.now ≤ length out.old) }
     ensures { out.new ≡ splice out.old at codes.now }
 {
-    let mut i = 0;
-    while i < codes.len() {
-        out[at + i] = codes[i] as u8;
-        i += 1;
+    for (i, code) in codes.iter().enumerate() {
+        out[at + i] = *code as u8;
     }
-}
-
-// One of two numbers, without a branch.
-fn pick(first: bool, a: u32, b: u32) -> u32
-    ensures { result ≡ cond first a b }
-{
-    if first {
-        return a;
-    }
-    b
 }
 
 // The bytes of a code point of at most three, the first one lowest, and in the highest byte how many they are.
@@ -53,7 +40,7 @@ fn packed(c: u32) -> u32
     let one = 0x1000000 + c % 128;
     let two = 0x20080C0 + c / 64 % 32 + c % 64 * 256;
     let three = 0x38080E0 + c / 4096 % 16 + c / 64 % 64 * 256 + c % 64 * 0x10000;
-    pick(c < 0x80, one, pick(c < 0x800, two, three))
+    select(c < 0x80, one, select(c < 0x800, two, three))
 }
 
 fn pack(codes: &[u32], words: &mut [u32])
@@ -61,10 +48,8 @@ fn pack(codes: &[u32], words: &mut [u32])
     ensures { Filled (λ k. packed_code (get_or codes.now k 0)) words.old
         0 (length words.old) words.new }
 {
-    let mut i = 0;
-    while i < words.len() {
-        words[i] = packed(codes[i]);
-        i += 1;
+    for (i, word) in words.iter_mut().enumerate() {
+        *word = packed(codes[i]);
     }
 }
 
@@ -85,12 +70,9 @@ pub fn lay_text_block(codes: &[u32], out: &mut [u8], from: usize, until: usize) 
     let mut words = [0u32; 64];
     pack(codes, &mut words);
     let mut at = from;
-    let mut i = 0;
-    while i < 64 {
-        let word = words[i];
-        put_u32_le(word, out, at);
-        at += (word / 0x1000000) as usize;
-        i += 1;
+    for word in &words {
+        put_u32_le(*word, out, at);
+        at += (*word / 0x1000000) as usize;
     }
     at
 }

@@ -2,21 +2,19 @@
 use Prim.Native.Nat.{ℕ, ◌+◌, ◌*◌, ◌≤◌, ◌<◌}
 use mathlib.Core.Path.{◌≡◌, ◌∙◌, ap, refl, sym}
 use mathlib.Core.Bool.{Bool, true, false, ◌&&◌, not}
-use mathlib.Core.List.{List}
+use mathlib.Core.List.{List, [], ◌∷◌, ◌++◌}
 use native.Mathlib.Omega.{arith}
 use lib.Dec.{eqb}
 use lib.ListN.{length, get_or, drop, length-append}
 use borrow.Author.Tests.{eq-eqb, ne_eqb}
-use Rattle.buffers.specs.Splice.{part}
 use Rattle.buffers.proofs.Cases.{true-or-false}
-use Rattle.buffers.proofs.Splice.{length_part, part_end}
 use Rattle.utf8.specs.Scalar.{scalar, bytes_of}
 use Rattle.utf8.specs.Scalar.{len_utf8}
 use Rattle.utf8.proofs.LenUtf8.{size_most, size-scalar}
-use Rattle.code_points.specs.declared.Judged.{Judged}
 use Rattle.code_point_blocks.specs.Codes.{text_of, all_scalar}
+use Rattle.code_points.specs.declared.Judged.{Judged}
 use Rattle.code_points.specs.Laying.{JudgedAs}
-use Rattle.code_point_blocks.proofs.Codes.{length-text, text-cons, text-end, text-block, scalar-cons, scalar-end, scalar-block}
+use Rattle.code_point_blocks.proofs.Codes.{text-append, scalar-append, text-cons, text-end, scalar-cons, scalar-end}
 
 -- some are judged
 pub record Judging (cs : List ℕ) (scalars : Bool) (size i : ℕ) : Type 0 where
@@ -51,15 +49,6 @@ module _ {cs : List ℕ} {scalars : Bool} {size i : ℕ} (k : Judging cs scalars
         most = omega arith;
       }
 
-  pub block-judged : (n : ℕ) {r : Judged} → i + n ≤ length cs → JudgedAs (part cs i (i + n)) r → Judging cs (scalars && r.scalar) (size + r.size) (i + n)
-  block-judged n {r} h j =
-      record {
-        scalar_so_far = k.scalar_so_far ∙ rw (scalar-block cs i n, j.scalar_is) (both scalars (all_scalar (part cs i (i + n))) (all_scalar (drop (i + n) cs)));
-        size_so_far = let all : length (text_of (drop i cs)) ≡ r.size + length (text_of (drop (i + n) cs)) = ap length (text-block cs i n) ∙ length-append (text_of (part cs i (i + n))) (text_of (drop (i + n) cs)) ∙ rw (← j.size_is) in omega (arith, k.size_so_far, all);
-        small = omega (arith, k.small, j.size_is, length-text (part cs i (i + n)), length_part cs i (i + n) h);
-        most = h;
-      }
-
   pub all-judged : length cs ≤ i → JudgedAs cs (record { scalar = scalars; size = size })
   all-judged h =
       record {
@@ -67,7 +56,25 @@ module _ {cs : List ℕ} {scalars : Bool} {size i : ℕ} (k : Judging cs scalars
         size_is = let none : length (text_of (drop i cs)) ≡ 0 = rw (text-end cs h) in omega (arith, k.size_so_far, none);
       }
 
-  pub rest-judged : {r : Judged} → JudgedAs (part cs i (length cs)) r → JudgedAs cs (record { scalar = scalars && r.scalar; size = size + r.size })
-  rest-judged {r} given =
-      let j : JudgedAs (drop i cs) r = rw (part_end cs i) at given in
-      record { scalar_is = sym (k.scalar_so_far ∙ rw (← j.scalar_is)); size_is = omega (arith, k.size_so_far, j.size_is) }
+-- blocks are judged, and the rest is ahead
+pub record Ahead (cs rest : List ℕ) (step : ℕ) (scalars : Bool) (size : ℕ) : Type 0 where
+  pub scalar_so_far : all_scalar cs ≡ (scalars && all_scalar rest)
+  pub size_so_far : length (text_of cs) ≡ size + length (text_of rest)
+  pub short : step ≡ 4096
+
+pub blocks-judged : {cs : List ℕ} (rest : List ℕ) {step : ℕ} {scalars : Bool} {size : ℕ} → length rest ≡ 0 → Ahead cs rest step scalars size → JudgedAs cs (record { scalar = scalars; size = size })
+unfolding text_of all_scalar
+blocks-judged [] {scalars = scalars} none k =
+    record { scalar_is = sym (k.scalar_so_far ∙ all_of scalars); size_is = omega (arith, k.size_so_far) }
+blocks-judged (c ∷ rest) none k = absurd (omega arith)
+
+-- one more block is judged
+pub next-block : {cs rest : List ℕ} {step : ℕ} {scalars : Bool} {size : ℕ} → Ahead cs rest step scalars size → (block left : List ℕ) → rest ≡ block ++ left → {step₁ : ℕ} → step₁ ≡ step → {r : Judged} → JudgedAs block r → Ahead cs left step₁ (scalars && r.scalar) (size + r.size)
+next-block {scalars = scalars} k block left cut same {r} j =
+    record {
+      scalar_so_far = k.scalar_so_far ∙ ap (λ (l : List ℕ). scalars && all_scalar l) cut ∙ rw (scalar-append block left, ← j.scalar_is) (both scalars r.scalar (all_scalar left));
+      size_so_far =
+          let long = ap (λ (l : List ℕ). length (text_of l)) cut ∙ ap length (text-append block left) ∙ length-append (text_of block) (text_of left) in
+          omega (arith, k.size_so_far, j.size_is, long);
+      short = same ∙ k.short;
+    }

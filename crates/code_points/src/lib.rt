@@ -9,12 +9,13 @@ ghost use Rattle.code_point_blocks.specs.Codes.{all_scalar};
 ghost use Rattle.code_point_blocks.specs.Laying.{CodesBlockRoom, TextLaid};
 ghost use Rattle.code_points.specs.Laying.{JudgedAs, TextRoom};
 
-use buffers::copy_bytes;
+use buffers::copy;
 use code_point_blocks::{lay_ascii, lay_text_block, or_all};
 use utf8::encode_utf8;
 use utf8::lead::len_utf8;
 
-// Whether numbers are scalar values, and how many bytes those that are have.
+// Whether numbers are scalar values, and how many bytes those that are have. It is no Option, since `JudgedAs` tells the
+// size where a number is none too.
 #[derive(Clone, Copy)]
 pub struct Judged {
     pub scalar: bool,
@@ -29,12 +30,10 @@ pub fn judge_block(codes: &[u32]) -> Judged
 {
     let mut scalar = true;
     let mut size: u32 = 0;
-    let mut i = 0;
-    while i < codes.len() {
-        let more = len_utf8(codes[i]) as u32;
+    for code in codes {
+        let more = len_utf8(*code) as u32;
         scalar = scalar & (more != 0);
         size += more;
-        i += 1;
     }
     Judged {
         scalar,
@@ -47,18 +46,12 @@ pub fn judge(codes: &[u32]) -> Judged
 {
     let mut scalar = true;
     let mut size: usize = 0;
-    let mut i = 0;
-    while 4096 <= codes.len() - i {
-        let judged = judge_block(&codes[i..i + 4096]);
+    for block in codes.chunks(4096) {
+        let judged = judge_block(block);
         scalar = scalar & judged.scalar;
         size += judged.size;
-        i += 4096;
     }
-    let last = judge_block(&codes[i..]);
-    Judged {
-        scalar: scalar & last.scalar,
-        size: size + last.size,
-    }
+    Judged { scalar, size }
 }
 
 // A character's bytes, laid from `at` on, and what is after them in four where that stays below `until`; how many
@@ -73,10 +66,10 @@ pub fn put_character(character: u32, out: &mut [u8], at: usize, until: usize) ->
     let bytes = encoded.bytes;
     let len = encoded.len;
     if at + 4 <= until {
-        copy_bytes(&bytes, out, at);
+        copy(&bytes, out, at);
         return len;
     }
-    copy_bytes(&bytes[..len], out, at);
+    copy(&bytes[..len], out, at);
     len
 }
 
@@ -86,10 +79,8 @@ fn lay_singly(codes: &[u32], out: &mut [u8], from: usize, until: usize) -> usize
     ensures { TextLaid codes.now out.old from until result out.new }
 {
     let mut at = from;
-    let mut i = 0;
-    while i < codes.len() {
-        at += put_character(codes[i], out, at, until);
-        i += 1;
+    for code in codes {
+        at += put_character(*code, out, at, until);
     }
     at
 }
@@ -118,6 +109,7 @@ pub fn lay_text(codes: &[u32], out: &mut [u8], from: usize, until: usize) -> usi
 {
     let mut at = from;
     let mut i = 0;
+    // No `for`: the room may end before the code points, and what is left is laid singly either way.
     while (64 <= codes.len() - i) & (at + 256 <= until) {
         at = lay_block(&codes[i..i + 64], out, at, until);
         i += 64;

@@ -77,7 +77,7 @@ steps-most {steps = steps} m long w below k =
 -- a block, by its steps
 module _ (s : List ℕ) (p : well_formed s ≡ true) (low : largest s < 0xF0) (i : ℕ) (l : ℕ) (at : ℕ) (d₀ d z steps : List ℕ) where
   pub pairs-starts : 2 ≤ i → i + 67 ≤ length s → l ≤ i - 2
-      → Filled (λ k. l + k + 2 - continuation_run (get_or (part s i (i + 64)) k 0) (get_or (part s (i - 1) (i + 63)) k 0) 0) z 0 64 steps
+      → Filled (λ k. l + k + 2 - continuation_run (get_or (part s i (i + 64)) k 0) (get_or (part s (i - 1) (i - 1 + 64)) k 0) 0) z 0 64 steps
       → Filled (λ k. i - 2 - l + get_or steps (k - at) 0) d₀ at (at + 64) d → Filled (λ k. char_start s (i + (k - at))) d₀ at (at + 64) d
   pairs-starts some room few w made =
       filled-as _ (λ k. char_start s (i + (k - at))) d₀ at (at + 64) d made
@@ -85,17 +85,17 @@ module _ (s : List ℕ) (p : well_formed s ≡ true) (low : largest s < 0xF0) (i
       let j : ℕ = k - at in
       let step = w.within j (omega arith) (omega arith) in
       let here : get_or (part s i (i + 64)) j 0 ≡ get_or s (i + j) 0 = part-index s i (i + 64) j (omega arith) in
-      let back : get_or (part s (i - 1) (i + 63)) j 0 ≡ get_or s (i + j - 1) 0 = let is : i - 1 + j ≡ i + j - 1 = omega arith in rw is at (part-index s (i - 1) (i + 63) j (omega arith)) in
+      let back : get_or (part s (i - 1) (i - 1 + 64)) j 0 ≡ get_or s (i + j - 1) 0 = let is : i - 1 + j ≡ i + j - 1 = omega arith in rw is at (part-index s (i - 1) (i - 1 + 64) j (omega arith)) in
       omega (arith, rw (here, back) at step, pair_small (get_or s (i + j) 0) (get_or s (i + j - 1) 0), pair-back s p low (i + j) (omega arith) (omega arith)))
 
   pub pairs-ends : 2 ≤ i → i + 67 ≤ length s → l ≤ i - 2
-      → Filled (λ k. l + k + 3 + continuation_run (get_or (part s (i + 1) (i + 65)) k 0) (get_or (part s (i + 2) (i + 66)) k 0) 0) z 0 64 steps
+      → Filled (λ k. l + k + 3 + continuation_run (get_or (part s (i + 1) (i + 1 + 64)) k 0) (get_or (part s (i + 2) (i + 2 + 64)) k 0) 0) z 0 64 steps
       → Filled (λ k. i - 2 - l + get_or steps (k - at) 0) d₀ at (at + 64) d → Filled (λ k. char_end s (i + (k - at))) d₀ at (at + 64) d
   pairs-ends some room few w made =
       filled-as _ (λ k. char_end s (i + (k - at))) d₀ at (at + 64) d made
       (λ k from to.
       let j : ℕ = k - at in
       let step = w.within j (omega arith) (omega arith) in
-      let one : get_or (part s (i + 1) (i + 65)) j 0 ≡ get_or s (i + j + 1) 0 = let is : i + 1 + j ≡ i + j + 1 = omega arith in rw is at (part-index s (i + 1) (i + 65) j (omega arith)) in
-      let two : get_or (part s (i + 2) (i + 66)) j 0 ≡ get_or s (i + j + 2) 0 = let is : i + 2 + j ≡ i + j + 2 = omega arith in rw is at (part-index s (i + 2) (i + 66) j (omega arith)) in
+      let one : get_or (part s (i + 1) (i + 1 + 64)) j 0 ≡ get_or s (i + j + 1) 0 = let is : i + 1 + j ≡ i + j + 1 = omega arith in rw is at (part-index s (i + 1) (i + 1 + 64) j (omega arith)) in
+      let two : get_or (part s (i + 2) (i + 2 + 64)) j 0 ≡ get_or s (i + j + 2) 0 = let is : i + 2 + j ≡ i + j + 2 = omega arith in rw is at (part-index s (i + 2) (i + 2 + 64) j (omega arith)) in
       omega (arith, rw (one, two) at step, pair-ahead s p low (i + j) (omega arith)))

@@ -6,3 +6,6 @@
 pub mod pairs;
 pub mod plain;
 pub mod runs;
+
+// The bytes of a block.
+pub const BLOCK: usize = 64;

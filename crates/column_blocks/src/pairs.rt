@@ -8,6 +8,7 @@ ghost use Rattle.note.specs.Notes.{limit};
 ghost use Rattle.utf8.specs.CharRanges.{char_start, char_end};
 ghost use Rattle.column_blocks.specs.ContinuationRun.{continuation_run};
 
+use crate::BLOCK;
 use buffers::Offset;
 use utf8::continues;
 
@@ -27,14 +28,12 @@ fn count_back(a: &[u8], b: &[u8], low: u8, steps: &mut [u8])
         (λ k. low + k + 2 - continuation_run (get_or a.now k 0) (get_or b.now k 0) 0)
         steps.old 0 64 steps.new }
 {
-    let mut j: u8 = 0;
-    while j < 64 {
-        let k = j as usize;
-        steps[k] = low + j + begun(a[k], b[k]);
-        j += 1;
+    for k in 0..BLOCK {
+        steps[k] = low + k as u8 + begun(a[k], b[k]);
     }
 }
 
+// It and `count_back` stay two: one loop for both takes the sum as a closure and a law of it, longer than this loop.
 // For each of 64 indices `low` and the index, and three more than what continues a character at it in `a` and then in
 // `b`.
 fn count_ahead(a: &[u8], b: &[u8], low: u8, steps: &mut [u8])
@@ -43,11 +42,8 @@ fn count_ahead(a: &[u8], b: &[u8], low: u8, steps: &mut [u8])
         (λ k. low + k + 3 + continuation_run (get_or a.now k 0) (get_or b.now k 0) 0)
         steps.old 0 64 steps.new }
 {
-    let mut j: u8 = 0;
-    while j < 64 {
-        let k = j as usize;
-        steps[k] = low + j + 5 - begun(a[k], b[k]);
-        j += 1;
+    for k in 0..BLOCK {
+        steps[k] = low + k as u8 + 5 - begun(a[k], b[k]);
     }
 }
 
@@ -58,10 +54,8 @@ fn add_base(base: Offset, steps: &[u8], out: &mut [Offset], at: usize)
     ensures { Filled (λ k. base + get_or steps.now (k - at) 0) out.old at (at + 64)
         out.new }
 {
-    let mut k = 0;
-    while k < 64 {
+    for k in 0..BLOCK {
         out[at + k] = base + steps[k] as Offset;
-        k += 1;
     }
 }
 
@@ -74,17 +68,18 @@ pub fn starts_block(text: &[u8], i: usize, starts: &mut [Offset], at: usize)
     ensures { Filled (λ k. char_start text.now (i + (k - at))) starts.old at (at + 64)
         starts.new }
 {
-    let low = (i - 2) % 64;
-    let mut steps = [0u8; 64];
+    let low = (i - 2) % BLOCK;
+    let mut steps = [0u8; BLOCK];
     count_back(
-        &text[i..i + 64],
-        &text[i - 1..i + 63],
+        &text[i..i + BLOCK],
+        &text[i - 1..i - 1 + BLOCK],
         low as u8,
         &mut steps,
     );
     add_base((i - 2 - low) as Offset, &steps, starts, at);
 }
 
+// It and `starts_block` stay two: their clauses, which may not change, speak of `char_start` and of `char_end`.
 // The ends of the 64 bytes from `i` on, in `ends` from `at` on.
 // An inner function: the text is well-formed, within the limit and without a character of four bytes; two bytes of it
 // come before the block and three after it, and `ends` has room for the block.
@@ -94,11 +89,11 @@ pub fn ends_block(text: &[u8], i: usize, ends: &mut [Offset], at: usize)
     ensures { Filled (λ k. char_end text.now (i + (k - at))) ends.old at (at + 64)
         ends.new }
 {
-    let low = (i - 2) % 64;
-    let mut steps = [0u8; 64];
+    let low = (i - 2) % BLOCK;
+    let mut steps = [0u8; BLOCK];
     count_ahead(
-        &text[i + 1..i + 65],
-        &text[i + 2..i + 66],
+        &text[i + 1..i + 1 + BLOCK],
+        &text[i + 2..i + 2 + BLOCK],
         low as u8,
         &mut steps,
     );

@@ -3,6 +3,7 @@ ghost use Rattle.std.specs.Prelude.{◌+◌, ◌-◌, ◌≤◌, length};
 ghost use Rattle.buffers.specs.Columns.{Filled};
 ghost use Rattle.note.specs.Notes.{limit};
 
+use crate::BLOCK;
 use buffers::Offset;
 
 // 64 numbers from `first` on.
@@ -11,9 +12,7 @@ pub fn count_up(first: Offset, out: &mut [Offset], at: usize)
     requires { (at + 64 ≤ length out.old) × (first + 63 ≤ limit) }
     ensures { Filled (λ k. first + (k - at)) out.old at (at + 64) out.new }
 {
-    let mut k = 0;
-    while k < 64 {
+    for k in 0..BLOCK {
         out[at + k] = first + k as Offset;
-        k += 1;
     }
 }

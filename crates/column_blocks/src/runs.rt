@@ -6,6 +6,7 @@ ghost use Rattle.note.specs.Notes.{limit};
 ghost use Rattle.utf8.specs.CharRanges.{char_start, char_end};
 ghost use Rattle.column_blocks.specs.ContinuationRun.{continuation_run, run_at};
 
+use crate::BLOCK;
 use buffers::Offset;
 use utf8::continues;
 
@@ -26,10 +27,8 @@ fn count_runs(text: &[u8], a: usize, b: usize, c: usize, counts: &mut [u8])
     ensures { Filled (run_at text.now a b c) counts.old 0 (length counts.old)
         counts.new }
 {
-    let mut j = 0;
-    while j < counts.len() {
+    for j in 0..counts.len() {
         counts[j] = continuation_run(text[a + j], text[b + j], text[c + j]);
-        j += 1;
     }
 }
 
@@ -40,13 +39,12 @@ fn step_back(i: usize, counts: &[u8], starts: &mut [Offset], at: usize)
     ensures { Filled (λ k. i + (k - at) - get_or counts.now (k - at) 0) starts.old at
         (at + length counts.now) starts.new }
 {
-    let mut k = 0;
-    while k < counts.len() {
+    for k in 0..counts.len() {
         starts[at + k] = (i + k) as Offset - counts[k] as Offset;
-        k += 1;
     }
 }
 
+// It and `step_back` stay two: one loop for both takes the number as a closure and a law of it, longer than this loop.
 // From `i` on, the index after each one and its count, in `ends` from `at` on.
 fn step_ahead(i: usize, counts: &[u8], ends: &mut [Offset], at: usize)
     requires counts_in_bounds { (at + length counts.now ≤ length ends.old) × (i + length counts.now + 3 ≤ limit) }
@@ -54,10 +52,8 @@ fn step_ahead(i: usize, counts: &[u8], ends: &mut [Offset], at: usize)
     ensures { Filled (λ k. i + (k - at) + 1 + get_or counts.now (k - at) 0) ends.old at
         (at + length counts.now) ends.new }
 {
-    let mut k = 0;
-    while k < counts.len() {
+    for k in 0..counts.len() {
         ends[at + k] = (i + k + 1) as Offset + counts[k] as Offset;
-        k += 1;
     }
 }
 
@@ -70,11 +66,12 @@ pub fn starts_block(text: &[u8], i: usize, starts: &mut [Offset], at: usize)
     ensures { Filled (λ k. char_start text.now (i + (k - at))) starts.old at (at + 64)
         starts.new }
 {
-    let mut counts = [0u8; 64];
+    let mut counts = [0u8; BLOCK];
     count_runs(text, i, i - 1, i - 2, &mut counts);
     step_back(i, &counts, starts, at);
 }
 
+// It and `starts_block` stay two: their clauses, which may not change, speak of `char_start` and of `char_end`.
 // The ends of the 64 bytes from `i` on, in `ends` from `at` on.
 // An inner function: the text is well-formed and within the limit; three bytes of it come after the block, and `ends`
 // has room for the block.
@@ -84,7 +81,7 @@ pub fn ends_block(text: &[u8], i: usize, ends: &mut [Offset], at: usize)
     ensures { Filled (λ k. char_end text.now (i + (k - at))) ends.old at (at + 64)
         ends.new }
 {
-    let mut counts = [0u8; 64];
+    let mut counts = [0u8; BLOCK];
     count_runs(text, i + 1, i + 2, i + 3, &mut counts);
     step_ahead(i, &counts, ends, at);
 }

@@ -8,11 +8,10 @@ use lib.Dec.{leb, ltb, eqb}
 use lib.ListN.{length}
 use borrow.Author.Tests.{leb-true}
 use mathlib.Mathlib.Data.Bool.Basic.{and_elim_left, and_elim_right}
+use Rattle.std.specs.Prelude.{Result, Ok, Err}
 use Rattle.note.specs.declared.Refusal.{Refusal}
 use Rattle.note.specs.declared.Refusal.TheVariants.{Missing, Misaligned}
-use Rattle.note.specs.declared.Verdict.{Verdict}
-use Rattle.note.specs.declared.Verdict.TheVariants.{Accepted, Refused as Rejected}
-use Rattle.note.specs.Refusals.{none, meets, verdict, unless_refused}
+use Rattle.note.specs.Refusals.{none, meets, verdict, unless_refused, Verdict, Accepted}
 use Rattle.note.specs.Notes.{Note, fits, Sound}
 use Rattle.note.specs.Faults.{note_faults}
 use Rattle.note.specs.Rank.{up_to}
@@ -21,18 +20,16 @@ use Rattle.note.proofs.Faults.{accepted-sound}
 use Rattle.note.proofs.Sound.{length-starts, length-ends, forward-at}
 use Rattle.convert.specs.declared.Range.{Range}
 use Rattle.convert.specs.declared.Range.TheVariants.{Original, Normalized}
-use Rattle.convert.specs.declared.Converted.{Converted}
-use Rattle.convert.specs.declared.Converted.TheVariants.{Found, Refused}
 use Rattle.convert.specs.declared.Places.{Places}
 use Rattle.convert.specs.declared.Places.TheVariants.{Neither, Last, Both}
 use Rattle.convert.specs.Converting.{expanded, walked, spanned, to_original, to_normalized, converted, missing, answered}
 use Rattle.convert.specs.Blocks.{OrderedColumns}
 
 -- an answer that has no refusal but `Missing`
-abbrev pub MissingOnly : Converted → Type 0
-MissingOnly answer = answer ≡ unless_refused Refused (cond (missing answer) (Rejected Missing) Accepted) answer
+abbrev pub MissingOnly : Result Range Refusal → Type 0
+MissingOnly answer = answer ≡ unless_refused Err (cond (missing answer) (Err Missing) Accepted) answer
 
-pub found-or-missing : (t : Bool) (range : Range) → MissingOnly (cond t (Found range) (Refused Missing))
+pub found-or-missing : (t : Bool) (range : Range) → MissingOnly (cond t (Ok range) (Err Missing))
 found-or-missing true range = refl
 found-or-missing false range = refl
 
@@ -41,7 +38,7 @@ spanned-missing Neither = refl
 spanned-missing (Last last) = refl
 spanned-missing (Both first last) = refl
 
-forward-missing : (same reversed : Bool) (range : Range) (answer : Converted) → MissingOnly answer → MissingOnly (cond same (Found range) (cond reversed (Refused Missing) answer))
+forward-missing : (same reversed : Bool) (range : Range) (answer : Result Range Refusal) → MissingOnly answer → MissingOnly (cond same (Ok range) (cond reversed (Err Missing) answer))
 forward-missing true reversed range answer only = refl
 forward-missing false true range answer only = refl
 forward-missing false false range answer only = only
@@ -53,21 +50,21 @@ converted-missing starts ends (Original a b) =
 converted-missing starts ends (Normalized a b) =
     forward-missing (eqb a.0 b.0) (ltb b.0 a.0) _ _ (found-or-missing (leb b.0 (length ends)) _)
 
-missing-verdict : (m : Bool) → cond m (Rejected Missing) Accepted ≡ verdict (meets Missing m none)
+missing-verdict : (m : Bool) → cond m (Err Missing) Accepted ≡ verdict (meets Missing m none)
 unfolding verdict
 missing-verdict m = refl
 
-module _ (most : ℕ) (n : Note) (answer : Converted) {v : Verdict} (e : v ≡ verdict (note_faults most n)) where
-  pub answered-refused : {k : Refusal} → v ≡ Rejected k → Refused k ≡ answered most n answer
+module _ (most : ℕ) (n : Note) (answer : Result Range Refusal) {v : Verdict} (e : v ≡ verdict (note_faults most n)) where
+  pub answered-refused : {k : Refusal} → v ≡ Err k → Err k ≡ answered most n answer
   unfolding answered
   answered-refused is =
-      ap (λ (w : Verdict). unless_refused Refused w answer) (refused-then (up_to Misaligned) (note_faults most n) (meets Missing (missing answer) none) refl refl e is)
+      ap (λ (w : Verdict). unless_refused Err w answer) (refused-then (up_to Misaligned) (note_faults most n) (meets Missing (missing answer) none) refl refl e is)
 
   pub answered-accepted : v ≡ Accepted → MissingOnly answer → answer ≡ answered most n answer
   unfolding answered
   answered-accepted is only =
       only
-      ∙ ap (λ (w : Verdict). unless_refused Refused w answer)
+      ∙ ap (λ (w : Verdict). unless_refused Err w answer)
       (accepted-then (up_to Misaligned) (note_faults most n) (meets Missing (missing answer) none) refl refl e is (missing-verdict (missing answer)))
 
 pub accepted-columns : (most : ℕ) (n : Note) → verdict (note_faults most n) ≡ Accepted → OrderedColumns most n.starts n.ends

@@ -6,6 +6,7 @@ use mathlib.Core.List.{List}
 use native.Mathlib.Omega.{arith}
 use lib.ListN.{length, get_or}
 use borrow.Author.Tests.{le-leb, le-ltb, eq-eqb, ne_eqb}
+use Rattle.std.specs.Prelude.{Ok}
 use Rattle.buffers.proofs.Cases.{le-or-lt, clash}
 use Rattle.utf8.specs.Formed.{well_formed, continues, boundary}
 use Rattle.utf8.proofs.Boundaries.{boundary-most, boundary-begins, Between, char-range-between}
@@ -16,7 +17,6 @@ use Rattle.utf8.proofs.CharRanges.{Ranged, ranged, char_start-begins, char_end-b
 use Rattle.note.proofs.Starting.{length-starting-starts, length-starting-ends, starting-start, starting-end, starting-accepted}
 use Rattle.convert.specs.declared.Range.{Range}
 use Rattle.convert.specs.declared.Range.TheVariants.{Original, Normalized}
-use Rattle.convert.specs.declared.Converted.TheVariants.{Found}
 use Rattle.convert.specs.Converting.{in_original, in_normalized, start_of, end_of, expanded, to_original, to_normalized, converted, convert_offsets}
 use Rattle.convert.specs.Leading.{leading}
 use Rattle.convert.specs.Inside.{unconverted, ConvertedItself}
@@ -47,7 +47,7 @@ module _ (s : List ℕ) (p : well_formed s ≡ true) where
         let h : k < length s = omega (arith, boundary-most s b at_b) in
         absurd (omega (arith, leading-past ends b (omega (arith, length-starting-ends s)), starting-end s k h, ends-within k low)))
 
-    walked-itself : converted (starting s).starts (starting s).ends (in_original a b) ≡ Found (in_normalized a b)
+    walked-itself : converted (starting s).starts (starting s).ends (in_original a b) ≡ Ok (in_normalized a b)
     walked-itself =
         let h : a < length s = omega (arith, boundary-most s b at_b) in
         let start : char_start s a ≡ a = char_start-begins s a (boundary-begins s a at_a) in
@@ -62,7 +62,7 @@ module _ (s : List ℕ) (p : well_formed s ≡ true) where
           none_before = λ j less q. omega (arith, q.0, starting-start s j (omega arith), (ranged s j p (omega arith)).from);
         })
 
-    expanded-itself : expanded (starting s).starts (starting s).ends a b ≡ Found (in_original a b)
+    expanded-itself : expanded (starting s).starts (starting s).ends a b ≡ Ok (in_original a b)
     unfolding expanded
     expanded-itself =
         let most : b ≤ length s = boundary-most s b at_b in
@@ -73,7 +73,7 @@ module _ (s : List ℕ) (p : well_formed s ≡ true) where
         ∙ char_end-begins s (b - 1) (ranged s (b - 1) p (omega arith)) (rw next (boundary-begins s b at_b)) ∙ next in
         rw (le-leb b (length (starting s).ends) (omega (arith, length-starting-ends s)), start, end)
 
-  itself : (range : Range) → boundary s (start_of range) ≡ true → boundary s (end_of range) ≡ true → start_of range ≤ end_of range → converted (starting s).starts (starting s).ends range ≡ Found (unconverted range)
+  itself : (range : Range) → boundary s (start_of range) ≡ true → boundary s (end_of range) ≡ true → start_of range ≤ end_of range → converted (starting s).starts (starting s).ends range ≡ Ok (unconverted range)
   unfolding converted to_normalized to_original
   itself (Original a b) at_a at_b on =
       le-or-lt b.0 a.0

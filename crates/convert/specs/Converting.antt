@@ -1,6 +1,6 @@
 -- RULES 4 (Rust: `convert_offsets`, `expand_alignments`): a range of one text as a range of the other.
 -- The definitions go over the two columns of alignments; what the texts hold plays no part in them.
-use Rattle.std.specs.Prelude.{ℕ, ◌+◌, ◌-◌, Bool, true, false, cond, ◌&&◌, not, List, [], ◌∷◌, leb, ltb, eqb, length, get_or}
+use Rattle.std.specs.Prelude.{ℕ, ◌+◌, ◌-◌, Bool, true, false, cond, ◌&&◌, not, List, [], ◌∷◌, leb, ltb, eqb, length, get_or, Result, Ok, Err}
 use Rattle.note.specs.declared.OriginalByte.{OriginalByte}
 use Rattle.note.specs.declared.NormalizedByte.{NormalizedByte}
 use Rattle.note.specs.declared.Refusal.TheVariants.{Missing}
@@ -14,10 +14,9 @@ use Rattle.convert.specs.declared.OffsetReferential.TheVariants.{
 }
 use Rattle.convert.specs.declared.Range.{Range}
 use Rattle.convert.specs.declared.Range.TheVariants.{Original, Normalized}
-use Rattle.convert.specs.declared.Converted.{Converted}
-use Rattle.convert.specs.declared.Converted.TheVariants.{Found, Refused}
 use Rattle.convert.specs.declared.Places.{Places}
 use Rattle.convert.specs.declared.Places.TheVariants.{Neither, Last, Both}
+use Rattle.note.specs.declared.Refusal.{Refusal}
 
 -- a range by its numbers, and by the text that they are of
 abbrev pub in_original : ℕ → ℕ → Range
@@ -39,22 +38,22 @@ end_of (Original a b) = b.0
 end_of (Normalized a b) = b.0
 
 -- an answer in three numbers: 0, start and end, or the refusal's number, 0 and 0
-abbrev pub number_in : Converted → ℕ
-number_in (Found range) = 0
-number_in (Refused k) = number_of k
+abbrev pub number_in : Result Range Refusal → ℕ
+number_in (Ok range) = 0
+number_in (Err k) = number_of k
 
-abbrev pub start_in : Converted → ℕ
-start_in (Found range) = start_of range
-start_in (Refused k) = 0
+abbrev pub start_in : Result Range Refusal → ℕ
+start_in (Ok range) = start_of range
+start_in (Err k) = 0
 
-abbrev pub end_in : Converted → ℕ
-end_in (Found range) = end_of range
-end_in (Refused k) = 0
+abbrev pub end_in : Result Range Refusal → ℕ
+end_in (Ok range) = end_of range
+end_in (Err k) = 0
 
 -- RULES 4.4: the cleaned bytes a..b in the transcript, from the first one's start to the last one's end
-unfoldable pub expanded : List ℕ → List ℕ → ℕ → ℕ → Converted
+unfoldable pub expanded : List ℕ → List ℕ → ℕ → ℕ → Result Range Refusal
 expanded starts ends a b =
-    cond (leb b (length ends)) (Found (in_original (get_or starts a 0) (get_or ends (b - 1) 0))) (Refused Missing)
+    cond (leb b (length ends)) (Ok (in_original (get_or starts a 0) (get_or ends (b - 1) 0))) (Err Missing)
 
 -- RULES 4.5: an alignment s..e at which a first place can be: not before the range's start, and not empty
 abbrev pub can_be_first : ℕ → ℕ → ℕ → Bool
@@ -81,45 +80,45 @@ unfoldable pub walked : List ℕ → List ℕ → ℕ → ℕ → Places
 walked starts ends from to = walk_from 0 starts ends from to Neither
 
 -- RULES 4.6: what the places answer
-abbrev pub spanned : Places → Converted
-spanned (Both first last) = Found (Normalized first last)
-spanned (Last last) = Found (Normalized last last)
-spanned Neither = Refused Missing
+abbrev pub spanned : Places → Result Range Refusal
+spanned (Both first last) = Ok (Normalized first last)
+spanned (Last last) = Ok (Normalized last last)
+spanned Neither = Err Missing
 
 -- RULES 4.2, 4.3: an empty range is the same numbers of the other text, a reversed one has no answer
-unfoldable pub to_original : List ℕ → List ℕ → NormalizedByte → NormalizedByte → Converted
+unfoldable pub to_original : List ℕ → List ℕ → NormalizedByte → NormalizedByte → Result Range Refusal
 to_original starts ends a b =
-    cond (eqb a.0 b.0) (Found (in_original a.0 b.0))
-    (cond (ltb b.0 a.0) (Refused Missing)
+    cond (eqb a.0 b.0) (Ok (in_original a.0 b.0))
+    (cond (ltb b.0 a.0) (Err Missing)
     (expanded starts ends a.0 b.0))
 
-unfoldable pub to_normalized : List ℕ → List ℕ → OriginalByte → OriginalByte → Converted
+unfoldable pub to_normalized : List ℕ → List ℕ → OriginalByte → OriginalByte → Result Range Refusal
 to_normalized starts ends a b =
-    cond (eqb a.0 b.0) (Found (in_normalized a.0 b.0))
-    (cond (ltb b.0 a.0) (Refused Missing)
+    cond (eqb a.0 b.0) (Ok (in_normalized a.0 b.0))
+    (cond (ltb b.0 a.0) (Err Missing)
     (spanned (walked starts ends a.0 b.0)))
 
-unfoldable pub converted : List ℕ → List ℕ → Range → Converted
+unfoldable pub converted : List ℕ → List ℕ → Range → Result Range Refusal
 converted starts ends (Normalized a b) = to_original starts ends a b
 converted starts ends (Original a b) = to_normalized starts ends a b
 
 -- a range in the cleaned text, and one in the transcript: converted where it is of the other
-unfoldable pub as_normalized : List ℕ → List ℕ → Range → Converted
+unfoldable pub as_normalized : List ℕ → List ℕ → Range → Result Range Refusal
 as_normalized starts ends (Original a b) = converted starts ends (Original a b)
-as_normalized starts ends (Normalized a b) = Found (Normalized a b)
+as_normalized starts ends (Normalized a b) = Ok (Normalized a b)
 
-unfoldable pub as_original : List ℕ → List ℕ → Range → Converted
-as_original starts ends (Original a b) = Found (Original a b)
+unfoldable pub as_original : List ℕ → List ℕ → Range → Result Range Refusal
+as_original starts ends (Original a b) = Ok (Original a b)
 as_original starts ends (Normalized a b) = converted starts ends (Normalized a b)
 
 -- RULES 4.1: what a call says that is passed a note and answers a range: the note's refusals, then `Missing`
-abbrev pub missing : Converted → Bool
-missing (Found range) = false
-missing (Refused k) = true
+abbrev pub missing : Result Range Refusal → Bool
+missing (Ok range) = false
+missing (Err k) = true
 
-unfoldable pub answered : ℕ → Note → Converted → Converted
+unfoldable pub answered : ℕ → Note → Result Range Refusal → Result Range Refusal
 answered most n answer =
-    unless_refused Refused (verdict (also (note_faults most n) (meets Missing (missing answer) none))) answer
+    unless_refused Err (verdict (also (note_faults most n) (meets Missing (missing answer) none))) answer
 
-unfoldable pub convert_offsets : ℕ → Note → Range → Converted
+unfoldable pub convert_offsets : ℕ → Note → Range → Result Range Refusal
 convert_offsets most n range = answered most n (converted n.starts n.ends range)

@@ -1,9 +1,9 @@
 -- RULES 4.7: the conversion of a transcript range without a walk, by the number of leading alignments that end in time.
-use Rattle.std.specs.Prelude.{ℕ, suc, ◌≤◌, ◌<◌, ◌≡◌, cond, List, [], ◌∷◌, leb, length, get_or}
+use Rattle.std.specs.Prelude.{ℕ, suc, ◌≤◌, ◌<◌, ◌≡◌, cond, List, [], ◌∷◌, leb, length, get_or, Result, Ok, Err}
 use Rattle.note.specs.declared.Refusal.TheVariants.{Missing}
-use Rattle.convert.specs.declared.Converted.{Converted}
-use Rattle.convert.specs.declared.Converted.TheVariants.{Found, Refused}
 use Rattle.convert.specs.Converting.{in_original, in_normalized, converted}
+use Rattle.convert.specs.declared.Range.{Range}
+use Rattle.note.specs.declared.Refusal.{Refusal}
 
 -- how many alignments, one after the other from the first on, have their end at `to` or before
 unfoldable pub leading : List ℕ → ℕ → ℕ
@@ -22,10 +22,10 @@ pub record First (starts ends : List ℕ) (from k i : ℕ) : Type 0 where
 
 -- the answer of the range from..to, by the number k of leading alignments: none at k = 0; from the first that qualifies
 -- to k; and k..k where none does
-pub record ByLeading (starts ends : List ℕ) (from to k : ℕ) (answer : Converted) : Type 0 where
-  pub none_leads : k ≡ 0 → answer ≡ Refused Missing
-  pub from_first : (i : ℕ) → First starts ends from k i → answer ≡ Found (in_normalized i k)
-  pub no_first : 0 < k → ((i : ℕ) → i < k → Qualifies starts ends from i → ⊥) → answer ≡ Found (in_normalized k k)
+pub record ByLeading (starts ends : List ℕ) (from to k : ℕ) (answer : Result Range Refusal) : Type 0 where
+  pub none_leads : k ≡ 0 → answer ≡ Err Missing
+  pub from_first : (i : ℕ) → First starts ends from k i → answer ≡ Ok (in_normalized i k)
+  pub no_first : 0 < k → ((i : ℕ) → i < k → Qualifies starts ends from i → ⊥) → answer ≡ Ok (in_normalized k k)
 
 -- CLAIM: a transcript range that has a byte is converted as the number of leading alignments says.
 abbrev pub ConvertedByLeading : Type 0

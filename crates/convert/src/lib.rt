@@ -2,7 +2,7 @@
 #![tactic(auto)]
 
 ghost use Rattle.std.specs.Prelude.{◌≡◌, ◌≤◌, ◌<◌, length, get_or};
-ghost use Rattle.note.specs.Notes.{lent, limit};
+ghost use Rattle.note.specs.Notes.{limit, passed};
 ghost use Rattle.convert.specs.Converting.{as_normalized, as_original, converted, convert_offsets, end_of, expanded};
 ghost use Rattle.convert.specs.Converting.{first_places, places_after, range_of, start_of, to_normalized};
 ghost use Rattle.convert.specs.Converting.{to_original, walked};
@@ -11,7 +11,7 @@ ghost use Rattle.convert.specs.Blocks.{Block, OrderedColumns, settled};
 use buffers::Offset;
 use checks::check_note;
 use note::rewrap::{same_in_normalized, same_in_original};
-use note::{NormalizedByte, OriginalByte, Refusal, Verdict};
+use note::{NormalizedByte, NormalizedString, OriginalByte, Refusal};
 
 // The text that numbers are of (Rust: `OffsetReferential`).
 #[derive(Clone, Copy)]
@@ -58,14 +58,8 @@ pub fn end_of(range: Range) -> u32
     }
 }
 
-// What a call that answers a range says; the range names its text.
-#[derive(Clone, Copy)]
-pub enum Converted {
-    Found(Range),
-    Refused(Refusal),
-}
-
-// The first and the last place that a walk over the alignments has found so far (Rust: `(start, end)`, two options).
+// The first and the last place that a walk over the alignments has found so far (Rust: `(start, end)`, two options, of
+// which one form never comes: an enum of the three that do).
 #[derive(Clone, Copy)]
 pub enum Places {
     Neither,
@@ -163,18 +157,23 @@ fn walk(starts: &[Offset], ends: &[Offset], from: u32, to: u32) -> Places
 }
 
 // Rust: `expand_alignments`, of the alignments from `from` up to `to`: two reads.
-fn expand_alignments(starts: &[Offset], ends: &[Offset], from: u32, to: u32) -> Converted
+fn expand_alignments(
+    starts: &[Offset],
+    ends: &[Offset],
+    from: u32,
+    to: u32,
+) -> Result<Range, Refusal>
     requires { (OrderedColumns limit starts.now ends.now) × (from < to) }
     ensures { result ≡ expanded starts.now ends.now from to }
 {
     let first = from as usize;
     let past = to as usize;
     if ends.len() < past {
-        return Converted::Refused(Refusal::Missing);
+        return Err(Refusal::Missing);
     }
     let start = OriginalByte(starts[first] as u32);
     let end = OriginalByte(ends[past - 1] as u32);
-    Converted::Found(Range::Original(start, end))
+    Ok(Range::Original(start, end))
 }
 
 // A range of the cleaned text, in the transcript.
@@ -183,17 +182,17 @@ fn to_original(
     ends: &[Offset],
     from: NormalizedByte,
     to: NormalizedByte,
-) -> Converted
+) -> Result<Range, Refusal>
     requires { OrderedColumns limit starts.now ends.now }
     ensures { result ≡ to_original starts.now ends.now from to }
 {
     let a = from.0;
     let b = to.0;
     if a == b {
-        return Converted::Found(Range::Original(same_in_original(from), same_in_original(to)));
+        return Ok(Range::Original(same_in_original(from), same_in_original(to)));
     }
     if b < a {
-        return Converted::Refused(Refusal::Missing);
+        return Err(Refusal::Missing);
     }
     expand_alignments(starts, ends, a, b)
 }
@@ -204,31 +203,28 @@ fn to_normalized(
     ends: &[Offset],
     from: OriginalByte,
     to: OriginalByte,
-) -> Converted
+) -> Result<Range, Refusal>
     requires { OrderedColumns limit starts.now ends.now }
     ensures { result ≡ to_normalized starts.now ends.now from to }
 {
     let a = from.0;
     let b = to.0;
     if a == b {
-        return Converted::Found(Range::Normalized(
-            same_in_normalized(from),
-            same_in_normalized(to),
-        ));
+        return Ok(Range::Normalized(same_in_normalized(from), same_in_normalized(to)));
     }
     if b < a {
-        return Converted::Refused(Refusal::Missing);
+        return Err(Refusal::Missing);
     }
     match walk(starts, ends, a, b) {
-        Places::Both(first, last) => Converted::Found(Range::Normalized(first, last)),
-        Places::Last(last) => Converted::Found(Range::Normalized(last, last)),
-        Places::Neither => Converted::Refused(Refusal::Missing),
+        Places::Both(first, last) => Ok(Range::Normalized(first, last)),
+        Places::Last(last) => Ok(Range::Normalized(last, last)),
+        Places::Neither => Err(Refusal::Missing),
     }
 }
 
 // `convert_offsets` for proved callers that have had the note checked: it asks for the columns that a check leaves.
 // An inner function: the note was checked, so its columns are within the limit and never go back.
-pub fn convert_checked(starts: &[Offset], ends: &[Offset], range: Range) -> Converted
+pub fn convert_checked(starts: &[Offset], ends: &[Offset], range: Range) -> Result<Range, Refusal>
     requires { OrderedColumns limit starts.now ends.now }
     ensures { result ≡ converted starts.now ends.now range }
 {
@@ -240,42 +236,33 @@ pub fn convert_checked(starts: &[Offset], ends: &[Offset], range: Range) -> Conv
 
 // A range in the cleaned text, and one in the transcript: converted where it is of the other. Inner functions: they ask
 // for the columns that a check leaves.
-pub fn as_normalized(starts: &[Offset], ends: &[Offset], range: Range) -> Converted
+pub fn as_normalized(starts: &[Offset], ends: &[Offset], range: Range) -> Result<Range, Refusal>
     requires { OrderedColumns limit starts.now ends.now }
     ensures { result ≡ as_normalized starts.now ends.now range }
 {
     match range {
         Range::Original(_, _) => convert_checked(starts, ends, range),
-        Range::Normalized(_, _) => Converted::Found(range),
+        Range::Normalized(_, _) => Ok(range),
     }
 }
 
 // A range in the transcript: one of the cleaned text is converted. An inner function: the note was checked.
-pub fn as_original(starts: &[Offset], ends: &[Offset], range: Range) -> Converted
+pub fn as_original(starts: &[Offset], ends: &[Offset], range: Range) -> Result<Range, Refusal>
     requires { OrderedColumns limit starts.now ends.now }
     ensures { result ≡ as_original starts.now ends.now range }
 {
     match range {
-        Range::Original(_, _) => Converted::Found(range),
+        Range::Original(_, _) => Ok(range),
         Range::Normalized(_, _) => convert_checked(starts, ends, range),
     }
 }
 
 // Rust: `convert_offsets`. Refusals: those of a note, then `Missing`.
-pub fn convert_offsets(
-    original: &[u8],
-    normalized: &[u8],
-    starts: &[Offset],
-    ends: &[Offset],
-    original_shift: u32,
-    range: Range,
-) -> Converted
+pub fn convert_offsets(note: &NormalizedString, range: Range) -> Result<Range, Refusal>
     ensures { result ≡ convert_offsets limit
-        (lent original.now normalized.now starts.now ends.now
-        original_shift) range }
+        (passed note.now) range }
 {
-    match check_note(original, normalized, starts, ends, original_shift) {
-        Verdict::Refused(k) => Converted::Refused(k),
-        Verdict::Accepted => convert_checked(starts, ends, range),
-    }
+    let NormalizedString { starts, ends, .. } = *note;
+    check_note(note)?;
+    convert_checked(starts, ends, range)
 }

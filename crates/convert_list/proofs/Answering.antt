@@ -4,18 +4,19 @@ use mathlib.Core.Path.{◌≡◌, ◌∙◌, ap, refl, sym}
 use mathlib.Core.List.{List}
 use native.Mathlib.Omega.{arith}
 use lib.ListN.{length, get_or, set, replicate, length-replicate, get_or-replicate}
+use Rattle.std.specs.Prelude.{Result, Ok}
 use Rattle.buffers.specs.Splice.{part, splice, overlay}
 use Rattle.buffers.specs.Columns.{Filled}
 use Rattle.buffers.proofs.Columns.{length-column, none_filled, filled-up, filled-kept, filled-after, filled_at, filled-as, Filling, none-filling, all-filling}
 use Rattle.buffers.proofs.Splice.{length_part, part_at, splice-overlay, length-overlay, getD-overlay, overlay-overlay}
-use Rattle.convert.specs.declared.Converted.{Converted}
-use Rattle.convert.specs.declared.Converted.TheVariants.{Found}
 use Rattle.convert.specs.Converting.{in_original, start_in, end_in, number_in, converted}
 use Rattle.convert.specs.Blocks.{OrderedColumns}
 use Rattle.convert.specs.declared.OffsetReferential.{OffsetReferential}
 use Rattle.convert_list.specs.ConvertList.{answer_at}
 use Rattle.convert_list.proofs.TwoReads.{expandable-most, expanding-most, answer-reads}
 use Rattle.convert_list.specs.TwoReads.{expandable, Expanding, AnswerRoom, AnsweredBetween, AnswersWritten, RangesBetween, BlockRead, Readable}
+use Rattle.convert.specs.declared.Range.{Range}
+use Rattle.note.specs.declared.Refusal.{Refusal}
 
 -- the numbers before the first answer
 module _ (n : ℕ) (n₀ : List ℕ) {z : List ℕ} (room : n ≤ length n₀) (is : z ≡ splice n₀ 0 (replicate n 0)) where
@@ -76,11 +77,11 @@ module _ {starts ends from to : List ℕ} {at : ℕ} {s₀ e₀ s e : List ℕ} 
       record { starts_are = filled_at _ _ _ _ _ _ _ w.starts_so refl end; ends_are = filled_at _ _ _ _ _ _ _ w.ends_so refl end }
 
 -- one answer more of those from `at` up to `past`
-pub none_between : {answers : ℕ → Converted} {at : ℕ} {m s e : List ℕ} → AnsweredBetween answers at at m s e m s e
+pub none_between : {answers : ℕ → Result Range Refusal} {at : ℕ} {m s e : List ℕ} → AnsweredBetween answers at at m s e m s e
 none_between = record { numbers_are = none_filled _ _ _; starts_are = none_filled _ _ _; ends_are = none_filled _ _ _ }
 
-module _ {answers : ℕ → Converted} {from to m₀ s₀ e₀ m s e : List ℕ} {at past i : ℕ} (b : RangesBetween from to at past m₀ s₀ e₀) (f : AnsweredBetween answers at i m₀ s₀ e₀ m s e) (more : i < past) {m₁ s₁ e₁ : List ℕ} where
-  pub one-answered : {answer : Converted} {x y w : ℕ} → answer ≡ answers i → x ≡ number_in answer → y ≡ start_in answer → w ≡ end_in answer → m₁ ≡ set m i x → s₁ ≡ set s i y → e₁ ≡ set e i w → AnsweredBetween answers at (i + 1) m₀ s₀ e₀ m₁ s₁ e₁
+module _ {answers : ℕ → Result Range Refusal} {from to m₀ s₀ e₀ m s e : List ℕ} {at past i : ℕ} (b : RangesBetween from to at past m₀ s₀ e₀) (f : AnsweredBetween answers at i m₀ s₀ e₀ m s e) (more : i < past) {m₁ s₁ e₁ : List ℕ} where
+  pub one-answered : {answer : Result Range Refusal} {x y w : ℕ} → answer ≡ answers i → x ≡ number_in answer → y ≡ start_in answer → w ≡ end_in answer → m₁ ≡ set m i x → s₁ ≡ set s i y → e₁ ≡ set e i w → AnsweredBetween answers at (i + 1) m₀ s₀ e₀ m₁ s₁ e₁
   one-answered is p q r at-m at-s at-e =
       rw (at-m, at-s, at-e)
       (record {
@@ -90,7 +91,7 @@ module _ {answers : ℕ → Converted} {from to m₀ s₀ e₀ m s e : List ℕ}
       })
 
   -- by two reads: the number is 0 already
-  pub one-expanded : {y w : ℕ} → Found (in_original y w) ≡ answers i → m₁ ≡ m → s₁ ≡ set s i y → e₁ ≡ set e i w → AnsweredBetween answers at (i + 1) m₀ s₀ e₀ m₁ s₁ e₁
+  pub one-expanded : {y w : ℕ} → Ok (in_original y w) ≡ answers i → m₁ ≡ m → s₁ ≡ set s i y → e₁ ≡ set e i w → AnsweredBetween answers at (i + 1) m₀ s₀ e₀ m₁ s₁ e₁
   one-expanded is at-m at-s at-e =
       rw (at-m, at-s, at-e)
       (record {
@@ -99,7 +100,7 @@ module _ {answers : ℕ → Converted} {from to m₀ s₀ e₀ m s e : List ℕ}
         ends_are = filled-up _ _ _ _ _ _ f.ends_are (omega (arith, b.inside, b.room.of_ends)) (ap end_in is);
       })
 
-pub between_done : {answers : ℕ → Converted} {at past i : ℕ} {m₀ s₀ e₀ m s e : List ℕ} → AnsweredBetween answers at i m₀ s₀ e₀ m s e → i ≡ past → AnsweredBetween answers at past m₀ s₀ e₀ m s e
+pub between_done : {answers : ℕ → Result Range Refusal} {at past i : ℕ} {m₀ s₀ e₀ m s e : List ℕ} → AnsweredBetween answers at i m₀ s₀ e₀ m s e → i ≡ past → AnsweredBetween answers at past m₀ s₀ e₀ m s e
 between_done f end =
     record {
       numbers_are = filled_at _ _ _ _ _ _ _ f.numbers_are refl end;
@@ -108,14 +109,14 @@ between_done f end =
     }
 
 -- i of n answers are written
-pub record Answering (answers : ℕ → Converted) (n : ℕ) (z s₀ e₀ m s e : List ℕ) (i : ℕ) : Type 0 where
+pub record Answering (answers : ℕ → Result Range Refusal) (n : ℕ) (z s₀ e₀ m s e : List ℕ) (i : ℕ) : Type 0 where
   pub zeros : (k : ℕ) → k < n → get_or z k 0 ≡ 0
   pub columns : Filling (λ k. number_in (answers k)) (λ k. start_in (answers k)) (λ k. end_in (answers k)) n z s₀ e₀ m s e i
 
-pub none-answered : {answers : ℕ → Converted} {n : ℕ} (n₀ : List ℕ) {z s e : List ℕ} → n ≤ length n₀ → z ≡ splice n₀ 0 (replicate n 0) → Answering answers n z s e z s e 0
+pub none-answered : {answers : ℕ → Result Range Refusal} {n : ℕ} (n₀ : List ℕ) {z s e : List ℕ} → n ≤ length n₀ → z ≡ splice n₀ 0 (replicate n 0) → Answering answers n z s e z s e 0
 none-answered {n = n} n₀ room is = record { zeros = zeros-are n n₀ room is; columns = none-filling }
 
-module _ {answers : ℕ → Converted} {from to z s₀ e₀ m s e : List ℕ} {i past : ℕ} (room : AnswerRoom from to z s₀ e₀) (f : Answering answers (length from) z s₀ e₀ m s e i) (some : i < length from) (up_to_lem : past ≡ min (length from) (i + 64)) where
+module _ {answers : ℕ → Result Range Refusal} {from to z s₀ e₀ m s e : List ℕ} {i past : ℕ} (room : AnswerRoom from to z s₀ e₀) (f : Answering answers (length from) z s₀ e₀ m s e i) (some : i < length from) (up_to_lem : past ≡ min (length from) (i + 64)) where
   on : i ≤ past
   on = omega arith
 
@@ -155,7 +156,7 @@ module _ {answers : ℕ → Converted} {from to z s₀ e₀ m s e : List ℕ} {i
 
   -- a block by two reads each
   pub block-answered : (starts ends : List ℕ) → {s₁ e₁ : List ℕ}
-      → ((k : ℕ) → i ≤ k → k < past → Found (in_original (get_or starts (get_or from k 0) 0) (get_or ends (get_or to k 0 - 1) 0)) ≡ answers k)
+      → ((k : ℕ) → i ≤ k → k < past → Ok (in_original (get_or starts (get_or from k 0) 0) (get_or ends (get_or to k 0 - 1) 0)) ≡ answers k)
       → BlockRead starts ends (part from i past) (part to i past) i s e s₁ e₁ → AnsweredBetween answers i past m s e m s₁ e₁
   block-answered starts ends {s₁} {e₁} is w =
       let long : i + length (part from i past) ≡ past = omega (arith, length_part from i past inside) in
@@ -181,12 +182,12 @@ module _ {most : ℕ} {starts ends from to m s e : List ℕ} (side : OffsetRefer
         of_ends = omega (arith, long, b.onward, b.inside, b.room.of_ends);
       }
 
-  pub reads : (k : ℕ) → i ≤ k → k < past → Found (in_original (get_or starts (get_or from k 0) 0) (get_or ends (get_or to k 0 - 1) 0)) ≡ answer_at (converted starts ends) side from to k
+  pub reads : (k : ℕ) → i ≤ k → k < past → Ok (in_original (get_or starts (get_or from k 0) 0) (get_or ends (get_or to k 0 - 1) 0)) ≡ answer_at (converted starts ends) side from to k
   reads k low high =
       let here : k - i < length (part from i past) = omega (arith, length_part from i past b.inside) in
       answer-reads starts ends side from to k l (rw (part_at from i past k low high, part_at to i past k low high) at (w.each (k - i) here)) refl refl
 
-pub all-answered : {answers : ℕ → Converted} {from to n₀ z s₀ e₀ m s e : List ℕ} {i : ℕ} → AnswerRoom from to n₀ s₀ e₀ → z ≡ splice n₀ 0 (replicate (length from) 0) → Answering answers (length from) z s₀ e₀ m s e i → length from ≤ i → AnswersWritten answers (length from) n₀ s₀ e₀ m s e
+pub all-answered : {answers : ℕ → Result Range Refusal} {from to n₀ z s₀ e₀ m s e : List ℕ} {i : ℕ} → AnswerRoom from to n₀ s₀ e₀ → z ≡ splice n₀ 0 (replicate (length from) 0) → Answering answers (length from) z s₀ e₀ m s e i → length from ≤ i → AnswersWritten answers (length from) n₀ s₀ e₀ m s e
 all-answered {from = from} {n₀ = n₀} room is w done =
     let over = zeroed-room n₀ room is in
     let three = all-filling w.columns done over.of_numbers over.of_starts over.of_ends in

@@ -5,11 +5,10 @@ use mathlib.Core.Bool.{Bool, cond, not}
 use mathlib.Core.List.{List}
 use lib.Dec.{eqb}
 use lib.ListN.{length}
+use Rattle.std.specs.Prelude.{Err}
 use Rattle.note.specs.declared.Refusal.{Refusal}
 use Rattle.note.specs.declared.Refusal.TheVariants.{LengthMismatch, NoRoom, Misaligned}
-use Rattle.note.specs.declared.Verdict.{Verdict}
-use Rattle.note.specs.declared.Verdict.TheVariants.{Accepted, Refused}
-use Rattle.note.specs.Refusals.{also, verdict, least}
+use Rattle.note.specs.Refusals.{also, verdict, least, Verdict, Accepted}
 use Rattle.note.specs.Rank.{earlier}
 use Rattle.note.specs.Notes.{Note}
 use Rattle.note.specs.Faults.{note_faults, room_faults, length_faults}
@@ -31,14 +30,14 @@ single most n ok = λ j range. answered-accepted most n (converted n.starts n.en
 abbrev inputs : ℕ → Note → List ℕ → List ℕ → Refusal → Bool
 inputs most n from to = also (note_faults most n) (length_faults from to)
 
-module _ (most : ℕ) (n : Note) (side : OffsetReferential) (from to n₀ s₀ e₀ : List ℕ) {v w u : Verdict} (p : v ≡ verdict (note_faults most n)) (q : w ≡ cond (not (eqb (length from) (length to))) (Refused LengthMismatch) Accepted) (both : u ≡ earlier v w) where
+module _ (most : ℕ) (n : Note) (side : OffsetReferential) (from to n₀ s₀ e₀ : List ℕ) {v w u : Verdict} (p : v ≡ verdict (note_faults most n)) (q : w ≡ cond (not (eqb (length from) (length to))) (Err LengthMismatch) Accepted) (both : u ≡ earlier v w) where
   abbrev room : ℕ
   room = least (length n₀) (length s₀) (length e₀)
 
   abbrev rooms : Refusal → Bool
   rooms = room_faults (length from) room
 
-  pub list-refused : {k : Refusal} → u ≡ Refused k → ConvertedList most n side from to n₀ s₀ e₀ (Refused k) n₀ s₀ e₀
+  pub list-refused : {k : Refusal} → u ≡ Err k → ConvertedList most n side from to n₀ s₀ e₀ (Err k) n₀ s₀ e₀
   list-refused is =
       record {
         answer = refused-then (up_to Misaligned) (inputs most n from to) rooms refl refl (beside-list (note_faults most n) from to p q both) is;
@@ -48,7 +47,7 @@ module _ (most : ℕ) (n : Note) (side : OffsetReferential) (from to n₀ s₀ e
       }
 
   module _ (ok : u ≡ Accepted) where
-    pub too-little-room : room < length from → ConvertedList most n side from to n₀ s₀ e₀ (Refused NoRoom) n₀ s₀ e₀
+    pub too-little-room : room < length from → ConvertedList most n side from to n₀ s₀ e₀ (Err NoRoom) n₀ s₀ e₀
     too-little-room h =
         record {
           answer = accepted-then (up_to Misaligned) (inputs most n from to) rooms refl refl (beside-list (note_faults most n) from to p q both) ok (no_room h);

@@ -8,15 +8,15 @@ use lib.Dec.{leb, ltb}
 use lib.ListN.{length, get_or}
 use borrow.Author.Tests.{le-leb, lt-ltb, le-ltb, ltb-true, leb-true, ne_eqb}
 use mathlib.Mathlib.Data.Bool.Basic.{and_intro, and_elim_left, and_elim_right}
+use Rattle.std.specs.Prelude.{Result, Ok}
 use Rattle.buffers.proofs.Cases.{le-or-lt}
 use Rattle.convert.specs.declared.OffsetReferential.{OffsetReferential}
 use Rattle.convert.specs.declared.OffsetReferential.TheVariants.{Original, Normalized}
 use Rattle.convert.specs.declared.Range.{Range}
-use Rattle.convert.specs.declared.Converted.{Converted}
-use Rattle.convert.specs.declared.Converted.TheVariants.{Found}
 use Rattle.convert.specs.Converting.{in_original, range_of, expanded, to_original, converted}
 use Rattle.convert_list.specs.ConvertList.{answer_at}
 use Rattle.convert_list.specs.TwoReads.{expandable, expands, Expanding}
+use Rattle.note.specs.declared.Refusal.{Refusal}
 
 pub expandable-original : {side : OffsetReferential} (n : ℕ) → side ≡ Original → 0 ≡ expandable side n
 unfolding expandable
@@ -45,7 +45,7 @@ unfolding expandable
 expands-side Original a b n e = absurd (omega (arith, has-byte a b 0 e, has_end a b 0 e))
 expands-side Normalized a b n e = refl
 
-expands-reads : (starts ends : List ℕ) (side : OffsetReferential) (a b : ℕ) → expands a b (expandable side (length ends)) ≡ true → Found (in_original (get_or starts a 0) (get_or ends (b - 1) 0)) ≡ converted starts ends (range_of side a b)
+expands-reads : (starts ends : List ℕ) (side : OffsetReferential) (a b : ℕ) → expands a b (expandable side (length ends)) ≡ true → Ok (in_original (get_or starts a 0) (get_or ends (b - 1) 0)) ≡ converted starts ends (range_of side a b)
 unfolding converted to_original expanded range_of
 expands-reads starts ends side a b so =
     let n : ℕ = expandable side (length ends) in
@@ -89,10 +89,10 @@ expanding-most {from} {to} {n} {m} w few =
     }
 
 module _ (starts ends : List ℕ) (side : OffsetReferential) (from to : List ℕ) (i : ℕ) where
-  pub answer-reads : {len y w : ℕ} → len ≡ expandable side (length ends) → expands (get_or from i 0) (get_or to i 0) len ≡ true → y ≡ get_or starts (get_or from i 0) 0 → w ≡ get_or ends (get_or to i 0 - 1) 0 → Found (in_original y w) ≡ answer_at (converted starts ends) side from to i
+  pub answer-reads : {len y w : ℕ} → len ≡ expandable side (length ends) → expands (get_or from i 0) (get_or to i 0) len ≡ true → y ≡ get_or starts (get_or from i 0) 0 → w ≡ get_or ends (get_or to i 0 - 1) 0 → Ok (in_original y w) ≡ answer_at (converted starts ends) side from to i
   unfolding answer_at
   answer-reads l so p q = rw (p, q) (expands-reads starts ends side (get_or from i 0) (get_or to i 0) (rw l at so))
 
-  pub answer-converted : {range : Range} {answer : Converted} → range ≡ range_of side (get_or from i 0) (get_or to i 0) → answer ≡ converted starts ends range → answer ≡ answer_at (converted starts ends) side from to i
+  pub answer-converted : {range : Range} {answer : Result Range Refusal} → range ≡ range_of side (get_or from i 0) (get_or to i 0) → answer ≡ converted starts ends range → answer ≡ answer_at (converted starts ends) side from to i
   unfolding answer_at
   answer-converted is e = e ∙ ap (converted starts ends) is

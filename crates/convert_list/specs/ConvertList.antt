@@ -1,17 +1,16 @@
 -- RULES 15.3: converting a list of ranges over one note, each as the single call answers it; the note is checked once.
-use Rattle.std.specs.Prelude.{ℕ, ◌≡◌, List, length, get_or}
+use Rattle.std.specs.Prelude.{ℕ, ◌≡◌, List, length, get_or, Result}
 use Rattle.buffers.specs.Columns.{column}
-use Rattle.note.specs.declared.Verdict.{Verdict}
-use Rattle.note.specs.Refusals.{also, verdict, least, after}
+use Rattle.note.specs.Refusals.{also, verdict, least, after, Verdict}
 use Rattle.note.specs.Notes.{Note}
 use Rattle.note.specs.Faults.{note_faults, room_faults, length_faults}
 use Rattle.convert.specs.declared.OffsetReferential.{OffsetReferential}
 use Rattle.convert.specs.declared.Range.{Range}
-use Rattle.convert.specs.declared.Converted.{Converted}
 use Rattle.convert.specs.Converting.{number_in, start_in, end_in, range_of, convert_offsets}
+use Rattle.note.specs.declared.Refusal.{Refusal}
 
 -- what is answered of the range at i, by what answers a range
-unfoldable pub answer_at : (Range → Converted) → OffsetReferential → List ℕ → List ℕ → ℕ → Converted
+unfoldable pub answer_at : (Range → Result Range Refusal) → OffsetReferential → List ℕ → List ℕ → ℕ → Result Range Refusal
 answer_at answer side from to i = answer (range_of side (get_or from i 0) (get_or to i 0))
 
 -- the note's refusals, beside them a list that has not as many ends as starts; then the room for one answer a range

@@ -1,11 +1,12 @@
 -- Working forms: the ranges that are answered by two reads, and what the loop over a list asks and leaves.
-use Rattle.std.specs.Prelude.{ℕ, ◌+◌, ◌-◌, ◌≤◌, ◌<◌, ◌≡◌, Bool, true, ◌&&◌, List, leb, ltb, length, get_or}
+use Rattle.std.specs.Prelude.{ℕ, ◌+◌, ◌-◌, ◌≤◌, ◌<◌, ◌≡◌, Bool, true, ◌&&◌, List, leb, ltb, length, get_or, Result}
 use Rattle.buffers.specs.Columns.{column, Filled}
 use Rattle.buffers.specs.Splice.{overlay}
 use Rattle.convert.specs.declared.OffsetReferential.{OffsetReferential}
 use Rattle.convert.specs.declared.OffsetReferential.TheVariants.{Original, Normalized}
-use Rattle.convert.specs.declared.Converted.{Converted}
 use Rattle.convert.specs.Converting.{start_in, end_in, number_in}
+use Rattle.convert.specs.declared.Range.{Range}
+use Rattle.note.specs.declared.Refusal.{Refusal}
 
 -- of n bytes of the cleaned text, those in which a range can be answered by two reads: none where ranges are of the
 -- transcript
@@ -49,14 +50,14 @@ pub record RangesBetween (from to : List ℕ) (at past : ℕ) (numbers starts en
   pub zeros : (k : ℕ) → at ≤ k → k < past → get_or numbers k 0 ≡ 0
 
 -- the three columns, before and after their answers are written
-pub record AnsweredBetween (answers : ℕ → Converted) (at past : ℕ) (numbers₀ starts₀ ends₀ numbers starts ends : List ℕ)
+pub record AnsweredBetween (answers : ℕ → Result Range Refusal) (at past : ℕ) (numbers₀ starts₀ ends₀ numbers starts ends : List ℕ)
     : Type 0 where
   pub numbers_are : Filled (λ k. number_in (answers k)) numbers₀ at past numbers
   pub starts_are : Filled (λ k. start_in (answers k)) starts₀ at past starts
   pub ends_are : Filled (λ k. end_in (answers k)) ends₀ at past ends
 
 -- the three passed columns, before and after n answers are written
-pub record AnswersWritten (answers : ℕ → Converted) (n : ℕ) (numbers₀ starts₀ ends₀ numbers starts ends : List ℕ)
+pub record AnswersWritten (answers : ℕ → Result Range Refusal) (n : ℕ) (numbers₀ starts₀ ends₀ numbers starts ends : List ℕ)
     : Type 0 where
   pub numbers_are : numbers ≡ overlay (column n (λ i. number_in (answers i))) numbers₀
   pub starts_are : starts ≡ overlay (column n (λ i. start_in (answers i))) starts₀

@@ -2,44 +2,44 @@
 #![tactic(auto)]
 
 ghost use Rattle.std.specs.Prelude.{◌≡◌, true, ◌-◌, ◌≤◌, ◌<◌, length, get_or};
-ghost use Rattle.note.specs.Notes.{lent, limit};
+ghost use Rattle.note.specs.Notes.{limit, passed};
 ghost use Rattle.convert.specs.Converting.{converted, end_in, number_in, start_in};
 ghost use Rattle.convert.specs.Blocks.{OrderedColumns};
 ghost use Rattle.convert_list.specs.ConvertList.{answer_at, ConvertedList};
 ghost use Rattle.convert_list.specs.TwoReads.{AnswerRoom, AnsweredBetween, AnswersWritten, RangesBetween};
 ghost use Rattle.convert_list.specs.TwoReads.{BlockRead, expandable, Expanding, expands, Readable};
 
-use buffers::{Offset, fill_bytes};
+use buffers::{Offset, fill};
 use checks::{check_note, least_of_two, least_room};
-use convert::{Converted, OffsetReferential, convert_checked, end_of, range_of, start_of};
-use note::verdicts::{earlier, number, refused_if};
-use note::{Refusal, Verdict};
+use convert::{OffsetReferential, Range, convert_checked, end_of, range_of, start_of};
+use note::verdicts::{earlier, refused_if};
+use note::{NormalizedString, Refusal};
 
 // An answer's three numbers.
-fn start_in(answer: Converted) -> u32
+fn start_in(answer: Result<Range, Refusal>) -> u32
     ensures { result ≡ start_in answer }
 {
     match answer {
-        Converted::Found(range) => start_of(range),
-        Converted::Refused(_) => 0,
+        Ok(range) => start_of(range),
+        Err(_) => 0,
     }
 }
 
-fn end_in(answer: Converted) -> u32
+fn end_in(answer: Result<Range, Refusal>) -> u32
     ensures { result ≡ end_in answer }
 {
     match answer {
-        Converted::Found(range) => end_of(range),
-        Converted::Refused(_) => 0,
+        Ok(range) => end_of(range),
+        Err(_) => 0,
     }
 }
 
-fn number_in(answer: Converted) -> u8
+fn number_in(answer: Result<Range, Refusal>) -> u8
     ensures { result ≡ number_in answer }
 {
     match answer {
-        Converted::Found(_) => 0,
-        Converted::Refused(k) => number(k) as u8,
+        Ok(_) => 0,
+        Err(k) => u32::from(k) as u8,
     }
 }
 
@@ -66,10 +66,8 @@ fn all_expand(from: &[u32], to: &[u32], len: u32) -> bool
     ensures { result ≡ true → Expanding from.now to.now len }
 {
     let mut ok = true;
-    let mut i = 0;
-    while i < from.len() {
+    for i in 0..from.len() {
         ok = ok & expands(from[i], to[i], len);
-        i += 1;
     }
     ok
 }
@@ -104,11 +102,9 @@ fn expand_block(
         out_starts.old out_ends.old
         out_starts.new out_ends.new }
 {
-    let mut i = 0;
-    while i < from.len() {
+    for i in 0..from.len() {
         out_starts[at + i] = first_start(starts, from[i]);
         out_ends[at + i] = last_end(ends, to[i]);
-        i += 1;
     }
 }
 
@@ -133,8 +129,7 @@ fn convert_between(
         numbers.new out_starts.new out_ends.new }
 {
     let len = expandable(side, ends.len()) as u32;
-    let mut i = at;
-    while i < past {
+    for i in at..past {
         let a = from[i];
         let b = to[i];
         if expands(a, b, len) {
@@ -146,7 +141,6 @@ fn convert_between(
             out_starts[i] = start_in(answer);
             out_ends[i] = end_in(answer);
         }
-        i += 1;
     }
 }
 
@@ -169,10 +163,10 @@ fn convert_each(
         (length from.now) numbers.old out_starts.old out_ends.old
         numbers.new out_starts.new out_ends.new }
 {
-    fill_bytes(0, from.len(), numbers, 0);
+    fill(0, from.len(), numbers, 0);
     let len = expandable(side, ends.len()) as u32;
-    let mut i = 0;
-    while i < from.len() {
+    for k in 0..from.len().div_ceil(64) {
+        let i = 64 * k;
         let past = least_of_two(from.len(), i + 64);
         if all_expand(&from[i..past], &to[i..past], len) {
             expand_block(
@@ -189,7 +183,6 @@ fn convert_each(
                 starts, ends, side, from, to, i, past, numbers, out_starts, out_ends,
             );
         }
-        i = past;
     }
 }
 
@@ -197,32 +190,26 @@ fn convert_each(
 // its refusal's number, 0 and 0. Refusals: those of a note and, beside them, `LengthMismatch` where the list has not as
 // many ends as starts; then `NoRoom`.
 pub fn convert_list(
-    original: &[u8],
-    normalized: &[u8],
-    starts: &[Offset],
-    ends: &[Offset],
-    original_shift: u32,
+    note: &NormalizedString,
     side: OffsetReferential,
     from: &[u32],
     to: &[u32],
     numbers: &mut [u8],
     out_starts: &mut [u32],
     out_ends: &mut [u32],
-) -> Verdict
+) -> Result<(), Refusal>
     ensures { ConvertedList limit
-        (lent original.now normalized.now starts.now ends.now
-        original_shift) side from.now to.now
+        (passed note.now) side from.now to.now
         numbers.old out_starts.old out_ends.old result
         numbers.new out_starts.new out_ends.new }
 {
-    let checked = check_note(original, normalized, starts, ends, original_shift);
+    let NormalizedString { starts, ends, .. } = *note;
+    let checked = check_note(note);
     let unpaired = refused_if(from.len() != to.len(), Refusal::LengthMismatch);
-    if let Verdict::Refused(k) = earlier(checked, unpaired) {
-        return Verdict::Refused(k);
-    }
+    earlier(checked, unpaired)?;
     if least_room(numbers.len(), out_starts.len(), out_ends.len()) < from.len() {
-        return Verdict::Refused(Refusal::NoRoom);
+        return Err(Refusal::NoRoom);
     }
     convert_each(starts, ends, side, from, to, numbers, out_starts, out_ends);
-    Verdict::Accepted
+    Ok(())
 }

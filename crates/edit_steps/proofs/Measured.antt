@@ -5,15 +5,13 @@ use mathlib.Core.Bool.{Bool, true, false, ◌||◌}
 use mathlib.Core.List.{List, [], ◌∷◌}
 use native.Mathlib.Omega.{arith}
 use lib.ListN.{length, drop}
+use Rattle.std.specs.Prelude.{Option, Some, None}
 use Rattle.buffers.proofs.Cases.{true-or-false}
 use Rattle.script.specs.declared.Command.{Command}
-use Rattle.script.specs.declared.Entry.{Entry}
-use Rattle.script.specs.declared.Entry.TheVariants.{At, Broken}
 use Rattle.utf8.specs.Scalar.{len_utf8}
 use Rattle.script.specs.Scripts.{command_at, commands_of}
 use Rattle.script.proofs.Scripts.{Stepped, entry-step, entry-broken, entries-end}
 use Rattle.edit_steps.specs.declared.walking.Progress.{Progress}
-use Rattle.edit_steps.specs.declared.walking.Extent.TheVariants.{Size, Starved}
 use Rattle.edit_steps.specs.Edits.{starves, moved, starved}
 use Rattle.edit_steps.specs.Walking.{Standing, Counting, commands_size, progress_after, measured}
 use Rattle.edit_steps.proofs.Positions.{standing-moved, stepped-fed, stepped-told}
@@ -33,7 +31,7 @@ module _ {s : List ℕ} {b from : ℕ} {all rest : List Command} {g : Progress} 
     unfolding starved
     one = m.starving ∙ rw (next, ← test)
 
-    pub starves-here : t ≡ true → Starved ≡ measured s b from all
+    pub starves-here : t ≡ true → None ≡ measured s b from all
     unfolding measured
     starves-here e = let yes : starved s b from all ≡ true = one ∙ rw e in rw yes
 
@@ -49,7 +47,7 @@ module _ {s : List ℕ} {b from : ℕ} {all rest : List Command} {g : Progress} 
           standing = (standing-moved c m.standing).0;
         })
 
-  pub all-passed : rest ≡ [] → Size g.written ≡ measured s b from all
+  pub all-passed : rest ≡ [] → Some g.written ≡ measured s b from all
   unfolding measured starved commands_size
   all-passed none =
       let feeds : starved s b from all ≡ false = m.starving ∙ rw none in
@@ -67,7 +65,7 @@ pub none-measured : {s l : List ℕ} {b from : ℕ} → Standing s b from → Me
 none-measured at = record { passed = none_passed at; small = omega arith; most = omega arith }
 
 module _ {s l : List ℕ} {b from : ℕ} {g : Progress} {i : ℕ} (m : Measuring s b from l g i) where
-  module _ {entry : Entry} {c : Command} {next : ℕ} (is : entry ≡ command_at l i) (there : entry ≡ At c next) where
+  module _ {entry : Option (Command × ℕ)} {c : Command} {next : ℕ} (is : entry ≡ command_at l i) (there : entry ≡ Some (c, next)) where
     step : Stepped l i c next
     step = entry-step l is there
 
@@ -78,7 +76,7 @@ module _ {s l : List ℕ} {b from : ℕ} {g : Progress} {i : ℕ} (m : Measuring
       told : h.starved ≡ starves b g.position.0 c
       told = ap (λ (x : Progress). x.starved) on ∙ stepped-told s b g c refl
 
-      pub starves-there : h.starved ≡ true → Starved ≡ measured s b from (commands_of l)
+      pub starves-there : h.starved ≡ true → None ≡ measured s b from (commands_of l)
       starves-there e = starves-here m.passed step.commands told e
 
       pub one-measured : h.starved ≡ false → Measuring s b from l h next
@@ -91,23 +89,23 @@ module _ {s l : List ℕ} {b from : ℕ} {g : Progress} {i : ℕ} (m : Measuring
             most = step.most;
           }
 
-  pub broken-measured : {entry : Entry} → i < length l → entry ≡ command_at l i → entry ≡ Broken → Size g.written ≡ measured s b from (commands_of l)
+  pub broken-measured : {entry : Option (Command × ℕ)} → i < length l → entry ≡ command_at l i → entry ≡ None → Some g.written ≡ measured s b from (commands_of l)
   broken-measured h is e = all-passed m.passed (entry-broken l h is e).0
 
-  pub all-measured : length l ≤ i → Size g.written ≡ measured s b from (commands_of l)
+  pub all-measured : length l ≤ i → Some g.written ≡ measured s b from (commands_of l)
   all-measured h = all-passed m.passed (entries-end l h).0
 
 -- what a measure tells
 module _ (s : List ℕ) (b p : ℕ) (cs : List Command) where
-  pub measured-starved : measured s b p cs ≡ Starved → starved s b p cs ≡ true
+  pub measured-starved : measured s b p cs ≡ None → starved s b p cs ≡ true
   unfolding measured
   measured-starved e =
       true-or-false (starved s b p cs) (λ t. t)
-      (λ u. let z : Size (commands_size cs) ≡ Starved = rw u at e in let y : ◌≡◌ {A = ℕ} 0 1 = cc in absurd (omega arith))
+      (λ u. let z : Some (commands_size cs) ≡ None = rw u at e in let y : ◌≡◌ {A = ℕ} 0 1 = cc in absurd (omega arith))
 
-  pub measured-size : {size : ℕ} → measured s b p cs ≡ Size size → (starved s b p cs ≡ false) × (size ≡ commands_size cs)
+  pub measured-size : {size : ℕ} → measured s b p cs ≡ Some size → (starved s b p cs ≡ false) × (size ≡ commands_size cs)
   unfolding measured
   measured-size {size} e =
       true-or-false (starved s b p cs)
-      (λ t. let z : Starved ≡ Size size = rw t at e in let y : ◌≡◌ {A = ℕ} 0 1 = cc in absurd (omega arith))
-      (λ u. let z : Size (commands_size cs) ≡ Size size = rw u at e in (u, cc))
+      (λ t. let z : None ≡ Some size = rw t at e in let y : ◌≡◌ {A = ℕ} 0 1 = cc in absurd (omega arith))
+      (λ u. let z : Some (commands_size cs) ≡ Some size = rw u at e in (u, cc))

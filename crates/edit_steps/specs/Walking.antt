@@ -1,12 +1,10 @@
 -- What the inner functions are told and say: a position in the range, the record that goes through a script, the script
 -- measured, and what has been laid into the passed buffers.
-use Rattle.std.specs.Prelude.{ℕ, ◌+◌, ◌^◌, ◌≤◌, ◌<◌, ◌≡◌, true, false, cond, List, [], ◌∷◌}
+use Rattle.std.specs.Prelude.{ℕ, ◌+◌, ◌^◌, ◌≤◌, ◌<◌, ◌≡◌, true, false, cond, List, [], ◌∷◌, Option, Some, None}
 use Rattle.utf8.specs.Formed.{well_formed, boundary}
 use Rattle.script.specs.declared.Command.{Command}
 use Rattle.utf8.specs.Scalar.{len_utf8}
 use Rattle.edit_steps.specs.declared.walking.Progress.{Progress}
-use Rattle.edit_steps.specs.declared.walking.Extent.{Extent}
-use Rattle.edit_steps.specs.declared.walking.Extent.TheVariants.{Size, Starved}
 use Rattle.edit_steps.specs.Edits.{starves, moved, starved}
 
 -- a position of a well-formed text, at a boundary before another one or there
@@ -37,5 +35,5 @@ pub record Counting (s : List ℕ) (b : ℕ) (g : Progress) (c : Command) : Type
   pub counts : g.written + len_utf8 c.character < 2 ^ 64
 
 -- a script measured from a position on
-unfoldable pub measured : List ℕ → ℕ → ℕ → List Command → Extent
-measured s b p cs = cond (starved s b p cs) Starved (Size (commands_size cs))
+unfoldable pub measured : List ℕ → ℕ → ℕ → List Command → Option ℕ
+measured s b p cs = cond (starved s b p cs) None (Some (commands_size cs))

@@ -9,11 +9,11 @@ ghost use Rattle.edit_steps.specs.Walking.{commands_size};
 
 use crate::walking::{Progress, advanced};
 use buffers::Offset;
-use buffers::blocks::fill_offsets_over;
+use buffers::blocks::fill_over;
 use buffers::parts::keep;
 use code_points::put_character;
 use note::{NormalizedByte, before_end};
-use script::{Command, Entry, entry_at};
+use script::{Command, entry_at};
 
 // What a command's character carries of a column.
 fn carries(column: &[Offset], position: NormalizedByte, command: Command) -> Offset
@@ -47,14 +47,14 @@ pub fn lay_command(
     let at = progress.written;
     let position = progress.position;
     let size = put_character(command.character, out, at, until);
-    fill_offsets_over(
+    fill_over(
         carries(starts, position, command),
         size,
         out_starts,
         at,
         until,
     );
-    fill_offsets_over(carries(ends, position, command), size, out_ends, at, until);
+    fill_over(carries(ends, position, command), size, out_ends, at, until);
 }
 
 // Every command of a script from a position on, laid from `at` on; how far they reach. `until` is no further.
@@ -85,16 +85,14 @@ fn lay_script(
     };
     let mut i = 0;
     while i < script.len() {
-        match entry_at(script, i) {
-            Entry::At(command, next) => {
-                lay_command(
-                    starts, ends, progress, command, out, out_starts, out_ends, until,
-                );
-                progress = advanced(text, to, progress, command);
-                i = next;
-            }
-            Entry::Broken => return progress.written,
-        }
+        let Some((command, next)) = entry_at(script, i) else {
+            return progress.written;
+        };
+        lay_command(
+            starts, ends, progress, command, out, out_starts, out_ends, until,
+        );
+        progress = advanced(text, to, progress, command);
+        i = next;
     }
     progress.written
 }

@@ -6,23 +6,17 @@ ghost use Rattle.edit_steps.specs.Edits.{skipped, starves};
 ghost use Rattle.edit_steps.specs.Walking.{Counting, Standing, measured, progress_after};
 
 use note::NormalizedByte;
-use script::{Command, Entry, entry_at};
+use script::{Command, entry_at};
 use utf8::lead::{char_len, len_utf8};
 
 // How far an edit is: the running position in the cleaned text, how many bytes have been written so far, and whether
-// the last command found no character left. It is passed to each command and advanced there.
+// the last command found no character left. It is passed to each command and advanced there. It is no Option:
+// `progress_after` tells position and count where the flag is set, too.
 #[derive(Clone, Copy)]
 pub struct Progress {
     pub position: NormalizedByte,
     pub written: usize,
     pub starved: bool,
-}
-
-// How many bytes a script gives; or a replacing command of it finds no character left.
-#[derive(Clone, Copy)]
-pub enum Extent {
-    Size(usize),
-    Starved,
 }
 
 // `count` characters on from `from`, or up to `to` where fewer are left.
@@ -32,13 +26,11 @@ pub fn skip(text: &[u8], to: NormalizedByte, count: usize, from: NormalizedByte)
 {
     let end = to.0 as usize;
     let mut p = from.0 as usize;
-    let mut k = 0;
-    while k < count {
+    for _ in 0..count {
         if end <= p {
             break;
         }
         p += char_len(text, p);
-        k += 1;
     }
     NormalizedByte(p as u32)
 }
@@ -101,7 +93,12 @@ pub fn advanced(text: &[u8], to: NormalizedByte, progress: Progress, command: Co
 }
 
 // Every command of a script goes by, from a position on.
-pub fn measure(text: &[u8], to: NormalizedByte, position: NormalizedByte, script: &[u8]) -> Extent
+pub fn measure(
+    text: &[u8],
+    to: NormalizedByte,
+    position: NormalizedByte,
+    script: &[u8],
+) -> Option<usize>
     requires { Standing text.now to.0 position.0 }
     ensures { result ≡ measured text.now to.0 position.0 (commands_of script.now) }
 {
@@ -112,16 +109,14 @@ pub fn measure(text: &[u8], to: NormalizedByte, position: NormalizedByte, script
     };
     let mut i = 0;
     while i < script.len() {
-        match entry_at(script, i) {
-            Entry::At(command, next) => {
-                progress = advanced(text, to, progress, command);
-                if progress.starved {
-                    return Extent::Starved;
-                }
-                i = next;
-            }
-            Entry::Broken => return Extent::Size(progress.written),
+        let Some((command, next)) = entry_at(script, i) else {
+            return Some(progress.written);
+        };
+        progress = advanced(text, to, progress, command);
+        if progress.starved {
+            return None;
         }
+        i = next;
     }
-    Extent::Size(progress.written)
+    Some(progress.written)
 }

@@ -5,12 +5,11 @@ use mathlib.Core.List.{List}
 use native.Mathlib.Omega.{arith}
 use lib.ListN.{length, take}
 use lib.Seq.{length-take-le}
+use Rattle.std.specs.Prelude.{Result, Ok, Err}
 use Rattle.buffers.specs.Splice.{splice}
 use Rattle.note.specs.declared.Refusal.{Refusal}
 use Rattle.note.specs.declared.Refusal.TheVariants.{NoRoom, CountMismatch}
-use Rattle.note.specs.declared.Verdict.{Verdict}
-use Rattle.note.specs.declared.Verdict.TheVariants.{Accepted, Refused as Rejected}
-use Rattle.note.specs.Refusals.{least, verdict}
+use Rattle.note.specs.Refusals.{least, verdict, Verdict, Accepted}
 use Rattle.note.specs.Notes.{Note, Sound}
 use Rattle.note.specs.Faults.{note_faults}
 use Rattle.note.specs.Rank.{up_to}
@@ -19,8 +18,6 @@ use Rattle.note.proofs.Sound.{length-starts, length-ends}
 use Rattle.note.proofs.Faults.{accepted-sound}
 use Rattle.edit_steps.specs.Edits.{transformed}
 use Rattle.transform.specs.Transforming.{edit_faults}
-use Rattle.edits.specs.declared.Clearing.{Clearing}
-use Rattle.edits.specs.declared.Clearing.TheVariants.{Cleared, Refused}
 use Rattle.edits.specs.Whole.{clear_edit, clear_faults, Emptied}
 use Rattle.edits.specs.Plain.{widthless, head_bytes, cleared}
 use Rattle.edits.proofs.Head.{head-most, cleared-closed}
@@ -31,11 +28,11 @@ module _ (most : ℕ) (n : Note) (out₀ starts₀ ends₀ : List ℕ) {v : Verd
   abbrev rooms : ℕ
   rooms = least (length out₀) (length starts₀) (length ends₀)
 
-  abbrev Result : Clearing → List ℕ → List ℕ → List ℕ → Type 0
-  Result r out starts ends =
+  abbrev Answered : Result (ℕ × ℕ) Refusal → List ℕ → List ℕ → List ℕ → Type 0
+  Answered r out starts ends =
       Emptied (verdict (clear_faults most n (least (length out₀) (length starts₀) (length ends₀)))) n (transformed n (clear_edit n)) out₀ starts₀ ends₀ r out starts ends
 
-  pub note-refuses : {k : Refusal} → v ≡ Rejected k → Result (Refused k) out₀ starts₀ ends₀
+  pub note-refuses : {k : Refusal} → v ≡ Err k → Answered (Err k) out₀ starts₀ ends₀
   note-refuses is = clear-refused (refused-then (up_to CountMismatch) (note_faults most n) (edit_faults most n.normalized (clear_edit n) rooms) refl refl noted is)
 
   module _ (ok : v ≡ Accepted) where
@@ -56,10 +53,10 @@ module _ (most : ℕ) (n : Note) (out₀ starts₀ ends₀ : List ℕ) {v : Verd
       unfolding cleared
       long = rw (← head) (length-take-le left n.normalized left-most)
 
-      pub no_room : low < left → Result (Refused NoRoom) out₀ starts₀ ends₀
+      pub no_room : low < left → Answered (Err NoRoom) out₀ starts₀ ends₀
       no_room h = clear-refused (made-large most n (note_faults most n) refl noted ok (clear_edit n) rooms (cleared-closed n sound) (omega (arith, long, lowest)))
 
-      pub has-cleared : left ≤ low → {out starts ends : List ℕ} → out ≡ splice out₀ 0 (take left n.normalized) → starts ≡ splice starts₀ 0 (take left n.starts) → ends ≡ splice ends₀ 0 (take left n.ends) → Result (Cleared (length n.normalized) left) out starts ends
+      pub has-cleared : left ≤ low → {out starts ends : List ℕ} → out ≡ splice out₀ 0 (take left n.normalized) → starts ≡ splice starts₀ 0 (take left n.starts) → ends ≡ splice ends₀ 0 (take left n.ends) → Answered (Ok (length n.normalized, left)) out starts ends
       unfolding cleared
       has-cleared h o s t =
           clear-done (made-small most n (note_faults most n) refl noted ok (clear_edit n) rooms (cleared-closed n sound) (omega (arith, long, left-most, lowest, text_short most n noted ok)))

@@ -9,6 +9,7 @@ use lib.Dec.{eqb}
 use lib.ListN.{length, get_or, take, drop, drop_of_length-le, take-append-drop}
 use lib.Seq.{take-length, drop-cons, drop-drop}
 use borrow.Author.Tests.{le-leb, eq-eqb, ne_eqb, eqb-true, eqb-false, not-false}
+use Rattle.std.specs.Prelude.{Result, Ok, Err}
 use Rattle.buffers.specs.Splice.{part}
 use Rattle.buffers.specs.Same.{same}
 use Rattle.buffers.proofs.Cases.{le-or-lt, true-or-false}
@@ -20,8 +21,6 @@ use Rattle.note.specs.declared.Refusal.TheVariants.{Missing}
 use Rattle.note.specs.Notes.{Note, start_at, end_at, Sound}
 use Rattle.note.proofs.Sound.{length-starts, length-ends, normalized-formed, inside-at, shared_at}
 use Rattle.convert.specs.declared.Range.{Range}
-use Rattle.convert.specs.declared.Converted.{Converted}
-use Rattle.convert.specs.declared.Converted.TheVariants.{Found, Refused}
 use Rattle.convert.specs.Converting.{in_original, in_normalized, to_normalized, converted, as_normalized}
 use Rattle.convert.specs.Leading.{leading, First}
 use Rattle.convert.proofs.Leading.{leading-most, leading-past, converted-by-leading}
@@ -32,6 +31,7 @@ use Rattle.transform.specs.Transforming.{edit_of, range_edit}
 use Rattle.edits.specs.Whole.{whole_range, clear_edit}
 use Rattle.edits.specs.Plain.{Makes, WholePlaced, widthless, head_bytes, HeadWhole, cleared, ClearedClosed}
 use Rattle.edits.specs.Laying.{HeadPassed}
+use Rattle.note.specs.declared.Refusal.{Refusal}
 
 pub none_of : (xs : List ℕ) → length xs ≡ 0 → xs ≡ []
 none_of [] e = refl
@@ -70,9 +70,6 @@ widthless-past (s ∷ starts) (e ∷ ends) same h =
     (λ f. rw f (eqb-false s e f))
 
 -- counted from the front on, one by one and in blocks
-pub none_passed : {starts ends : List ℕ} → HeadPassed starts ends 0
-none_passed = record { most = omega arith; same = omega arith }
-
 widthless-cons : (s e : ℕ) (starts ends : List ℕ) → s ≡ e → widthless (s ∷ starts) (e ∷ ends) ≡ suc (widthless starts ends)
 unfolding widthless
 widthless-cons s e starts ends same = rw (eq-eqb s e same)
@@ -176,7 +173,7 @@ module _ (n : Note) (sound : Sound n) where
 
   -- what the whole transcript converts to: nothing where there is no cleaned text; its beginning where there is no
   -- transcript; else all after the head
-  whole-converted : (P : Converted → Type 0) → P (Found (in_normalized H N)) → (H ≡ N → P (Found (in_normalized 0 0))) → (N ≡ 0 → P (Refused Missing)) → P (converted n.starts n.ends (in_original 0 (length n.original)))
+  whole-converted : (P : Result Range Refusal → Type 0) → P (Ok (in_normalized H N)) → (H ≡ N → P (Ok (in_normalized 0 0))) → (N ≡ 0 → P (Err Missing)) → P (converted n.starts n.ends (in_original 0 (length n.original)))
   unfolding converted to_normalized
   whole-converted P behind start nothing =
       le-or-lt (length n.original) 0

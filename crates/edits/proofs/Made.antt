@@ -5,20 +5,18 @@ use mathlib.Core.Bool.{Bool, true}
 use mathlib.Core.List.{List}
 use native.Mathlib.Omega.{arith}
 use lib.ListN.{length, drop}
+use Rattle.std.specs.Prelude.{Ok, Err}
 use Rattle.buffers.specs.Splice.{splice}
 use Rattle.buffers.proofs.Splice.{splice-overlay}
 use Rattle.note.specs.declared.Refusal.{Refusal}
 use Rattle.note.specs.declared.Refusal.TheVariants.{NoRoom, CountMismatch}
-use Rattle.note.specs.declared.Verdict.{Verdict}
-use Rattle.note.specs.declared.Verdict.TheVariants.{Accepted, Refused as Rejected}
-use Rattle.note.specs.Refusals.{order, also, verdict}
+use Rattle.note.specs.Refusals.{order, also, verdict, Verdict, Accepted}
 use Rattle.note.specs.Notes.{Note}
 use Rattle.note.specs.Rank.{up_to}
 use Rattle.note.proofs.FirstMet.{unmet, accepted-then}
 use Rattle.edit_steps.specs.Edits.{characters, Edit, edited, transformed}
 use Rattle.transform.specs.Transforming.{edit_faults}
 use Rattle.transform.proofs.Verdicts.{too_large, small-enough}
-use Rattle.edits.specs.declared.Clearing.TheVariants.{Cleared, Refused}
 use Rattle.edits.specs.Whole.{Emptied}
 use Rattle.edits.specs.Plain.{Makes}
 
@@ -34,22 +32,22 @@ module _ (most : ℕ) (n : Note) (inputs : Refusal → Bool) (low : unmet (drop 
     unfolding transformed
     size = ap (λ (x : Note). length x.normalized) m.leaves
 
-    pub made-large : min most room < length made.normalized → Rejected NoRoom ≡ verdict (also inputs rest)
+    pub made-large : min most room < length made.normalized → Err NoRoom ≡ verdict (also inputs rest)
     made-large h = last (too_large most n.normalized e room m.lies m.feeds (omega (arith, size)))
 
     pub made-small : length made.normalized ≤ min most room → Accepted ≡ verdict (also inputs rest)
     made-small h = last (small-enough most n.normalized e room m.lies m.feeds (omega (arith, size)))
 
 -- what the verdict leaves of a call of `clear`
-pub clear-refused : {v : Verdict} {n made : Note} {out starts ends : List ℕ} {k : Refusal} → Rejected k ≡ v → Emptied v n made out starts ends (Refused k) out starts ends
+pub clear-refused : {v : Verdict} {n made : Note} {out starts ends : List ℕ} {k : Refusal} → Err k ≡ v → Emptied v n made out starts ends (Err k) out starts ends
 clear-refused e = rw (← e) (record { answer = refl; text_is = refl; starts_are = refl; ends_are = refl })
 
 pub clear-done : {v : Verdict} {n was made : Note} {out₀ starts₀ ends₀ : List ℕ} {left : ℕ} {out starts ends : List ℕ} → Accepted ≡ v → was ≡ made
     → left ≡ length made.normalized → out ≡ splice out₀ 0 made.normalized → starts ≡ splice starts₀ 0 made.starts
-    → ends ≡ splice ends₀ 0 made.ends → Emptied v n was out₀ starts₀ ends₀ (Cleared (length n.normalized) left) out starts ends
+    → ends ≡ splice ends₀ 0 made.ends → Emptied v n was out₀ starts₀ ends₀ (Ok (length n.normalized, left)) out starts ends
 clear-done {n = n} {made = made} {out₀} {starts₀} {ends₀} e same long o s t =
     rw (← e, same) (record {
-      answer = ap (Cleared (length n.normalized)) long;
+      answer = ap (λ (x : ℕ). Ok (length n.normalized, x)) long;
       text_is = o ∙ splice-overlay out₀ made.normalized;
       starts_are = s ∙ splice-overlay starts₀ made.starts;
       ends_are = t ∙ splice-overlay ends₀ made.ends;

@@ -7,6 +7,7 @@ use native.Mathlib.Omega.{arith}
 use lib.Dec.{ltb, eqb}
 use lib.ListN.{length, get_or}
 use borrow.Author.Tests.{not-false, lt-ltb}
+use Rattle.std.specs.Prelude.{Result, Ok, Err}
 use Rattle.buffers.specs.Splice.{overlay}
 use Rattle.buffers.specs.Over.{Over}
 use Rattle.buffers.proofs.Cases.{true-or-false}
@@ -14,9 +15,7 @@ use Rattle.buffers.proofs.Splice.{splice-overlay}
 use Rattle.utf8.specs.Chars.{chars, leads}
 use Rattle.utf8.proofs.Chars.{chars-leads}
 use Rattle.note.specs.declared.Refusal.TheVariants.{Exhausted, NoRoom}
-use Rattle.note.specs.declared.Verdict.{Verdict}
-use Rattle.note.specs.declared.Verdict.TheVariants.{Accepted}
-use Rattle.note.specs.Refusals.{least, also, verdict}
+use Rattle.note.specs.Refusals.{least, also, verdict, Verdict, Accepted}
 use Rattle.note.specs.Notes.{Note, Sound}
 use Rattle.note.specs.Faults.{note_faults}
 use Rattle.note.proofs.Sound.{length-starts, length-ends, normalized-formed, shared_at}
@@ -31,8 +30,6 @@ use Rattle.map_columns.specs.Laying.{SpreadRoom, CodesRoom, CodesLaid}
 use Rattle.map_columns.proofs.Chars.{length-chars}
 use Rattle.map_columns.proofs.Spread.{spread-all}
 use Rattle.edit_steps.specs.Edits.{characters, edited, transformed}
-use Rattle.transform.specs.declared.Editing.{Editing}
-use Rattle.transform.specs.declared.Editing.TheVariants.{Edited, Refused as Refusing}
 use Rattle.transform.specs.Transforming.{call_faults, Rewritten}
 use Rattle.transform.proofs.Verdicts.{inputs-accepted, starving, too_large, small-enough, refused-rewritten, accepted-rewritten}
 use Rattle.edits.specs.Whole.{codes_faults, map_edit}
@@ -40,6 +37,7 @@ use Rattle.edits.specs.Plain.{MakesUnless, widthless, head_bytes, head_chars, ma
 use Rattle.edits.proofs.Head.{whole-behind}
 use Rattle.edits.proofs.Inputs.{well-counted}
 use Rattle.edits.proofs.Sifted.{head-told, mapped-closed}
+use Rattle.note.specs.declared.Refusal.{Refusal}
 
 -- the head, by the first alignment
 pub no-head : (starts ends : List ℕ) → length starts ≡ 0 → false ≡ ltb 0 (widthless starts ends)
@@ -56,7 +54,7 @@ first_head (s ∷ starts) (e ∷ ends) even some =
 
 -- the call, after the note's check and the code points'
 module _ (most : ℕ) (n : Note) (codes out₀ starts₀ ends₀ : List ℕ) {v : Verdict} (noted : v ≡ verdict (note_faults most n)) (ok : v ≡ Accepted) {j : Judged} (judged : JudgedAs codes j) (scalars : not j.scalar ≡ false) {m : ℕ} (counted : m ≡ leads n.normalized) (each : length codes ≡ m) where
-  abbrev Mapped : Editing → List ℕ → List ℕ → List ℕ → Type 0
+  abbrev Mapped : Result ℕ Refusal → List ℕ → List ℕ → List ℕ → Type 0
   Mapped r out starts ends =
       Rewritten (verdict (call_faults most n (codes_faults n.normalized codes) (map_edit n codes) (least (length out₀) (length starts₀) (length ends₀)))) (transformed n (map_edit n codes)) out₀ starts₀ ends₀ r out starts ends
 
@@ -76,7 +74,7 @@ module _ (most : ℕ) (n : Note) (codes out₀ starts₀ ends₀ : List ℕ) {v 
     told : t ≡ ltb 0 (head_chars (head_bytes n) n)
     told = head ∙ sym (head-told n sound (whole-behind n sound) codes coded)
 
-    pub head-refused : t ≡ true → Mapped (Refusing Exhausted) out₀ starts₀ ends₀
+    pub head-refused : t ≡ true → Mapped (Err Exhausted) out₀ starts₀ ends₀
     head-refused e =
         inputs-accepted most n (also (note_faults most n) (codes_faults n.normalized codes)) refl (map_edit n codes) out₀ starts₀ ends₀ inputs refl refl
         (refused-rewritten (starving most n.normalized (map_edit n codes) (least (length out₀) (length starts₀) (length ends₀)) makes.lies (makes.exhausts ∙ sym told ∙ e)))
@@ -89,7 +87,7 @@ module _ (most : ℕ) (n : Note) (codes out₀ starts₀ ends₀ : List ℕ) {v 
       unfolding transformed mapped
       size = ap (λ (x : Note). length x.normalized) (makes.leaves headless) ∙ sym judged.size_is
 
-      pub map-large : room < j.size → Mapped (Refusing NoRoom) out₀ starts₀ ends₀
+      pub map-large : room < j.size → Mapped (Err NoRoom) out₀ starts₀ ends₀
       map-large h =
           inputs-accepted most n (also (note_faults most n) (codes_faults n.normalized codes)) refl (map_edit n codes) out₀ starts₀ ends₀ inputs refl refl
           (refused-rewritten (too_large most n.normalized (map_edit n codes) (least (length out₀) (length starts₀) (length ends₀)) makes.lies (makes.exhausts ∙ headless) (omega (arith, size, lowest, r))))
@@ -120,7 +118,7 @@ module _ (most : ℕ) (n : Note) (codes out₀ starts₀ ends₀ : List ℕ) {v 
             let long : length (spread codes (of_chars n.normalized xs)) ≡ length (text_of codes) = spread-all codes (of_chars n.normalized xs) (omega (arith, length-chars n.normalized xs one, each, counted)) in
             over-splice o (omega (arith, judged.size_is, long)) ∙ splice-overlay d₀ (spread codes (of_chars n.normalized xs))
 
-        pub map-made : {l : Reached} {out starts ends : List ℕ} → CodesLaid n.normalized n.starts n.ends 0 codes out₀ starts₀ ends₀ 0 j.size l out starts ends → Mapped (Edited l.written) out starts ends
+        pub map-made : {l : Reached} {out starts ends : List ℕ} → CodesLaid n.normalized n.starts n.ends 0 codes out₀ starts₀ ends₀ 0 j.size l out starts ends → Mapped (Ok l.written) out starts ends
         unfolding transformed mapped
         map-made {out = out} {starts} {ends} l =
             inputs-accepted most n (also (note_faults most n) (codes_faults n.normalized codes)) refl (map_edit n codes) out₀ starts₀ ends₀ inputs refl refl

@@ -1,12 +1,11 @@
 -- RULES 8: the edits of a whole note, each by the commands that the Rust builds and the range that it gives them
 -- (Rust: `filter`, `prepend`, `append`, `map`, `clear`).
-use Rattle.std.specs.Prelude.{ℕ, suc, ◌-◌, ◌≡◌, Bool, true, false, cond, ◌||◌, not, List, [], ◌∷◌, ◌++◌, eqb, length, get_or}
+use Rattle.std.specs.Prelude.{ℕ, suc, ◌-◌, ◌≡◌, Bool, true, false, cond, ◌||◌, not, List, [], ◌∷◌, ◌++◌, eqb, length, get_or, Result, Ok, Err}
 use Rattle.utf8.specs.Formed.{announced}
 use Rattle.utf8.specs.Chars.{chars}
 use Rattle.note.specs.declared.Refusal.{Refusal}
 use Rattle.note.specs.declared.Refusal.TheVariants.{BadScript, CountMismatch}
-use Rattle.note.specs.declared.Verdict.{Verdict}
-use Rattle.note.specs.Refusals.{none, meets, also, verdict, unless_refused, least, after, OnThree}
+use Rattle.note.specs.Refusals.{none, meets, also, verdict, unless_refused, least, after, OnThree, Verdict}
 use Rattle.note.specs.Notes.{Note, limit}
 use Rattle.utf8.specs.CharRanges.{char_start}
 use Rattle.note.specs.Faults.{note_faults, string_faults}
@@ -14,10 +13,7 @@ use Rattle.convert.specs.declared.Range.{Range}
 use Rattle.script.specs.declared.Command.{Command}
 use Rattle.code_point_blocks.specs.Codes.{all_scalar}
 use Rattle.edit_steps.specs.Edits.{edit, Edit, transformed, unchanging}
-use Rattle.transform.specs.declared.Editing.{Editing}
 use Rattle.transform.specs.Transforming.{range_edit, edit_faults, NoteCall, whole_original}
-use Rattle.edits.specs.declared.Clearing.{Clearing}
-use Rattle.edits.specs.declared.Clearing.TheVariants.{Cleared, Refused}
 use Rattle.edits.specs.Characters.{code_at, codes_of}
 
 -- the range that `filter`, `map`, `clear` and `lowercase` edit: the whole transcript
@@ -48,7 +44,7 @@ abbrev pub codes_faults : List ℕ → List ℕ → Refusal → Bool
 codes_faults text codes =
     meets BadScript (not (all_scalar codes)) (meets CountMismatch (not (eqb (length codes) (chars text))) none)
 
-abbrev pub MapCall : Note → List ℕ → OnThree Editing
+abbrev pub MapCall : Note → List ℕ → OnThree (Result ℕ Refusal)
 MapCall n codes = NoteCall n (codes_faults n.normalized codes) (map_edit n codes)
 
 -- CLEAR: no command, and as many characters skipped as the text has bytes
@@ -60,14 +56,14 @@ clear_faults most n room = also (note_faults most n) (edit_faults most n.normali
 
 -- what `clear` answers, how long the cleaned text was and is, and what it leaves in the buffers: the verdict, the note
 -- and what is made of it, the buffers before, the answer, the buffers after
-pub record Emptied (says : Verdict) (n made : Note) (out₀ starts₀ ends₀ : List ℕ) (r : Clearing)
+pub record Emptied (says : Verdict) (n made : Note) (out₀ starts₀ ends₀ : List ℕ) (r : Result (ℕ × ℕ) Refusal)
     (out starts ends : List ℕ) : Type 0 where
-  pub answer : r ≡ unless_refused Refused says (Cleared (length n.normalized) (length made.normalized))
+  pub answer : r ≡ unless_refused Err says (Ok (length n.normalized, length made.normalized))
   pub text_is : out ≡ after says made.normalized out₀
   pub starts_are : starts ≡ after says made.starts starts₀
   pub ends_are : ends ≡ after says made.ends ends₀
 
-abbrev pub ClearCall : Note → OnThree Clearing
+abbrev pub ClearCall : Note → OnThree (Result (ℕ × ℕ) Refusal)
 ClearCall n out₀ starts₀ ends₀ =
     Emptied (verdict (clear_faults limit n (least (length out₀) (length starts₀) (length ends₀)))) n
     (transformed n (clear_edit n)) out₀ starts₀ ends₀
@@ -92,10 +88,10 @@ prepend_edit n string =
     (replacing_first (codes_of string) ++ (adding (code_at n.normalized 0) ∷ [])))
 
 -- both judge the note and the string, then the edit
-abbrev pub AppendCall : Note → List ℕ → OnThree Editing
+abbrev pub AppendCall : Note → List ℕ → OnThree (Result ℕ Refusal)
 AppendCall n string = NoteCall n (string_faults string) (append_edit n string)
 
-abbrev pub PrependCall : Note → List ℕ → OnThree Editing
+abbrev pub PrependCall : Note → List ℕ → OnThree (Result ℕ Refusal)
 PrependCall n string = NoteCall n (string_faults string) (prepend_edit n string)
 
 -- FILTER: a flag for each character, 0 drops it; a kept one removes the dropped ones after it, and what is dropped
@@ -119,6 +115,6 @@ filter_edit n flags =
     range_edit n (whole_range n) (cond (any_kept flags) (dropped_ahead flags) 0)
     (kept_commands (codes_of n.normalized) flags)
 
-abbrev pub FilterCall : Note → List ℕ → OnThree Editing
+abbrev pub FilterCall : Note → List ℕ → OnThree (Result ℕ Refusal)
 FilterCall n flags =
     NoteCall n (meets CountMismatch (not (eqb (length flags) (chars n.normalized))) none) (filter_edit n flags)

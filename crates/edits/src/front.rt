@@ -5,33 +5,30 @@ ghost use Rattle.edits.specs.Laying.{HeadPassed};
 ghost use Rattle.edits.specs.Plain.{widthless};
 
 use buffers::Offset;
-use buffers::equality::same_offsets;
+use buffers::equality::same;
 
 // As many of them as blocks of 64 tell.
 fn widthless_blocks(starts: &[Offset], ends: &[Offset]) -> usize
     requires { length starts.now ≡ length ends.now }
     ensures { HeadPassed starts.now ends.now result }
 {
-    let mut i = 0;
-    while 64 <= starts.len() - i {
-        if !same_offsets(&starts[i..i + 64], &ends[i..i + 64]) {
-            break;
+    for block in 0..starts.len() / 64 {
+        let i = block * 64;
+        if !same(&starts[i..i + 64], &ends[i..i + 64]) {
+            return i;
         }
-        i += 64;
     }
-    i
+    starts.len() / 64 * 64
 }
 
 pub fn widthless(starts: &[Offset], ends: &[Offset]) -> usize
     requires { length starts.now ≡ length ends.now }
     ensures { result ≡ widthless starts.now ends.now }
 {
-    let mut i = widthless_blocks(starts, ends);
-    while i < starts.len() {
+    for i in widthless_blocks(starts, ends)..starts.len() {
         if starts[i] != ends[i] {
-            break;
+            return i;
         }
-        i += 1;
     }
-    i
+    starts.len()
 }

@@ -2,7 +2,6 @@
 use mathlib.Core.Path.{refl}
 use Rattle.buffers.specs.Columns.{column}
 use Rattle.buffers.specs.Every.{every_below}
-use Rattle.buffers.specs.Same.{same}
 use Rattle.numbers.specs.LittleEndian.{value_of, little_endian}
 use Rattle.utf8.specs.Table.{within}
 use Rattle.utf8.specs.Formed.{announced, second, asked, formed, continues, boundary}
@@ -43,7 +42,7 @@ unfolding every worked aéb nest blank final found_bytes found_places matches_fr
     column char_start char_end announced second asked formed within continues boundary fits paired texts_formed inside
     on_boundaries shared forward aligned every_below verdict converted to_original to_normalized expanded first_places
     places_after walk_from walked answered convert_offsets index_of end_index pair_of char_offsets value_of position_at place_at
-    entry_at places_of whole_list read_from fits_at covers_from covers piece laid before_end replaced same aé
+    entry_at places_of whole_list read_from fits_at covers_from covers piece laid before_end replaced aé
     prepended_nothing scalar encoded bytes_of len_utf8 skipped starves step_to starved carried_value produced char_range
     first_position relaid edited transformed code_at codes_from codes_of all_adding prepend_edit clear_edit
     AÉ漢 İA kelvinÉ run twins lowercase_table lower_image images lower_commands lowercase_edit

@@ -1,18 +1,12 @@
 -- Worked notes of RULES 4, 8, 10, 11, 12 and 16, of what the calls answer: one list, and one claim about the list.
-use Rattle.std.specs.Prelude.{ℕ, ◌+◌, ◌≡◌, Bool, true, false, ◌&&◌, List, [], ◌∷◌, eqb, length}
+use Rattle.std.specs.Prelude.{ℕ, ◌+◌, ◌≡◌, Bool, true, false, ◌&&◌, List, [], ◌∷◌, eqb, length, Result, Ok, Err}
 use Rattle.buffers.specs.Same.{same}
-use Rattle.note.specs.declared.Verdict.{Verdict}
-use Rattle.note.specs.declared.Verdict.TheVariants.{Accepted, Refused as Rejected}
-use Rattle.note.specs.Refusals.{number_of, verdict, unless_refused}
+use Rattle.note.specs.Refusals.{number_of, verdict, unless_refused, Verdict}
 use Rattle.note.specs.Notes.{Note, limit}
 use Rattle.note.specs.Starting.{starting}
 use Rattle.convert.specs.declared.Range.{Range}
 use Rattle.convert.specs.declared.Range.TheVariants.{Original, Normalized}
-use Rattle.convert.specs.declared.Converted.{Converted}
-use Rattle.convert.specs.declared.Converted.TheVariants.{Found, Refused}
 use Rattle.convert.specs.Converting.{in_original, in_normalized, convert_offsets}
-use Rattle.char_offsets.specs.declared.CharOffsets.{CharOffsets}
-use Rattle.char_offsets.specs.declared.CharOffsets.TheVariants.{Chars, Refused as Unmapped}
 use Rattle.char_offsets.specs.Positions.{char_offsets}
 use Rattle.pattern.specs.Entries.{places_of}
 use Rattle.find.specs.Finding.{found_bytes}
@@ -27,14 +21,14 @@ use Rattle.behaviors.specs.declared.SplitDelimiterBehavior.TheVariants.{
 use Rattle.behaviors.specs.declared.EmptyPieces.TheVariants.{Kept}
 use Rattle.split.specs.Splitting.{PieceColumns, cut_by, split_faults}
 use Rattle.edit_steps.specs.Edits.{transformed}
-use Rattle.edits.specs.declared.Clearing.{Clearing}
-use Rattle.edits.specs.declared.Clearing.TheVariants.{Cleared, Refused as Uncleared}
 use Rattle.note.specs.Faults.{string_faults}
 use Rattle.transform.specs.Transforming.{call_faults}
 use Rattle.edits.specs.Whole.{prepend_edit, clear_edit, clear_faults}
 use Rattle.lowercase.specs.Lowering.{lowercase_edit, lowercase_faults}
 use Rattle.replace_by_edits.specs.Road.{road_back, road_on}
 use Rattle.replace_by_edits.specs.ByEdits.{by_edits_faults}
+use Rattle.note.specs.declared.CharIndex.{CharIndex}
+use Rattle.note.specs.declared.Refusal.{Refusal}
 
 -- whether an answer is this range, of this text
 abbrev pub same_range : Range → Range → Bool
@@ -43,22 +37,22 @@ same_range (Original a b) (Normalized c d) = false
 same_range (Normalized a b) (Original c d) = false
 same_range (Normalized a b) (Normalized c d) = eqb a.0 c.0 && eqb b.0 d.0
 
-abbrev pub gives : Converted → Range → Bool
-gives (Found range) expected = same_range range expected
-gives (Refused k) expected = false
+abbrev pub gives : Result Range Refusal → Range → Bool
+gives (Ok range) expected = same_range range expected
+gives (Err k) expected = false
 
 -- whether it is these two characters
-abbrev pub names : CharOffsets → ℕ → ℕ → Bool
-names (Chars i j) a e = eqb i.0 a && eqb j.0 e
-names (Unmapped k) a e = false
+abbrev pub names : Result (CharIndex × CharIndex) Refusal → ℕ → ℕ → Bool
+names (Ok (i, j)) a e = eqb i.0 a && eqb j.0 e
+names (Err k) a e = false
 
 abbrev pub accepts : Verdict → Bool
-accepts Accepted = true
-accepts (Rejected k) = false
+accepts (Ok tt) = true
+accepts (Err k) = false
 
 abbrev pub refuses : Verdict → ℕ → Bool
-refuses Accepted number = false
-refuses (Rejected k) number = eqb (number_of k) number
+refuses (Ok tt) number = false
+refuses (Err k) number = eqb (number_of k) number
 
 abbrev pub is_note : PublishedNote → List ℕ → List ℕ → List ℕ → Bool
 is_note p text starts ends = same p.text text && same p.starts starts && same p.ends ends
@@ -88,9 +82,9 @@ abbrev pub holds : Note → List ℕ → List ℕ → List ℕ → Bool
 holds n text starts ends = same n.normalized text && same n.starts starts && same n.ends ends
 
 -- whether clearing answers these two lengths
-abbrev pub clears : Clearing → ℕ → ℕ → Bool
-clears (Cleared before left) a b = eqb before a && eqb left b
-clears (Uncleared k) a b = false
+abbrev pub clears : Result (ℕ × ℕ) Refusal → ℕ → ℕ → Bool
+clears (Ok (before, left)) a b = eqb before a && eqb left b
+clears (Err k) a b = false
 
 -- whether replacing by edits accepts, in buffers as long as the result and scratch as long as both texts, and leaves this
 -- text with these alignments, from the last place to the first and from the first to the last
@@ -169,9 +163,8 @@ worked =
     -- then leaves that character
     ∷ accepts (verdict (call_faults limit aé (string_faults []) (prepend_edit aé []) 3))
     ∷ holds prepended_nothing (0x61 ∷ 0xC3 ∷ 0xA9 ∷ []) (0 ∷ 1 ∷ 1 ∷ []) (0 ∷ 3 ∷ 3 ∷ [])
-    ∷ clears (unless_refused Uncleared (verdict (clear_faults limit prepended_nothing 1))
-    (Cleared (length prepended_nothing.normalized)
-    (length (transformed prepended_nothing (clear_edit prepended_nothing)).normalized))) 3 1
+    ∷ clears (unless_refused Err (verdict (clear_faults limit prepended_nothing 1))
+    (Ok (length prepended_nothing.normalized, length (transformed prepended_nothing (clear_edit prepended_nothing)).normalized))) 3 1
     ∷ holds (transformed prepended_nothing (clear_edit prepended_nothing)) (0x61 ∷ []) (0 ∷ []) (0 ∷ [])
     -- `lowercase`: `aé漢`; `i`, U+0307 and `a`; that again is the same; the Kelvin sign stays; a head is 7; one byte less
     -- than the result has is 9

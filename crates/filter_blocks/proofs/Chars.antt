@@ -1,16 +1,15 @@
 -- Laws of filtering character by character: four characters are still to come, so that four bytes of any can be laid.
 use Prim.Native.Nat.{ℕ, zero, suc, ◌+◌, ◌-◌, ◌≤◌, ◌<◌}
 use mathlib.Core.Path.{◌≡◌, ◌∙◌, ap, refl, sym}
-use mathlib.Core.Bool.{true, cond, not, ◌&&◌}
+use mathlib.Core.Bool.{true, cond, not}
 use mathlib.Core.List.{List, [], ◌++◌}
-use mathlib.Mathlib.Data.Bool.Basic.{and_elim_left}
 use native.Mathlib.Numerals.{add-one}
 use native.Mathlib.Omega.{arith}
 use mir.Val.{bool_byte}
-use lib.Dec.{eqb, ltb}
+use lib.Dec.{eqb}
 use lib.ListN.{length, get_or, take, drop, drop_of_length-le, length-append, length-drop, take-append-drop}
 use lib.Seq.{drop-cons}
-use borrow.Author.Tests.{eqb-true, ltb-true, eq-eqb, ne_eqb}
+use borrow.Author.Tests.{eq-eqb, ne_eqb}
 use Rattle.buffers.specs.Splice.{part, splice, overlay}
 use Rattle.buffers.specs.Over.{Over, Reaching}
 use Rattle.buffers.proofs.Cases.{le-or-lt, true-or-false}
@@ -52,9 +51,6 @@ pub none-back : (flags : List ℕ) → Back flags 0 (length flags)
 unfolding kept_count
 none-back flags = let past : length flags ≤ length flags = omega arith in record { counted = rw (drop_of_length-le flags past); small = omega arith }
 
-pub back_more : (n i : ℕ) → (ltb 0 i && ltb n 4) ≡ true → 0 < i
-back_more n i t = ltb-true 0 i (and_elim_left (ltb 0 i) (ltb n 4) t)
-
 pub one-back : {flags : List ℕ} {n i : ℕ} → Back flags n i → 0 < i → Back flags (n + bool_byte (not (eqb (get_or flags (i - 1) 0) 0))) (i - 1)
 one-back {flags} {n} {i} k more =
     let z : i - 1 + 1 ≡ i = omega arith in
@@ -63,14 +59,8 @@ one-back {flags} {n} {i} k more =
     (λ t. let same = rw t at step in rw t (record { counted = omega (arith, k.counted, same); small = omega (arith, k.small) }))
     (λ u. let same = rw u at step in rw u (record { counted = omega (arith, k.counted, same); small = omega (arith, k.small) }))
 
-pub four-back : {flags : List ℕ} {n i r : ℕ} → Back flags n i → r ≡ cond (eqb n 4) i 0 → BeforeFour flags r
-four-back {flags} {n} {i} {r} k is =
-    true-or-false (eqb n 4)
-    (λ t.
-    let here : r ≡ i = is ∙ rw t in
-    let four : n ≡ 4 = eqb-true n 4 t in
-    rw here (record { most = omega (arith, k.small); many = λ some. omega (arith, k.counted, four) }))
-    (λ u. let none : r ≡ 0 = is ∙ rw u in rw none (record { most = omega arith; many = λ some. absurd (omega arith) }))
+pub four-back : {flags : List ℕ} {n i : ℕ} → Back flags n i → n ≡ 4 → BeforeFour flags i
+four-back k four = record { most = omega (arith, k.small); many = λ some. omega (arith, k.counted, four) }
 
 pub size-dropped : (flag wide : ℕ) → flag ≡ 0 → 0 ≡ kept_len flag wide
 unfolding kept_len
@@ -224,8 +214,8 @@ module _ {s starts ends flags : List ℕ} {stop : ℕ} {out₀ starts₀ ends₀
             stands = rw wide char.ends;
           }
 
-    pub all-between-chars : stop ≤ i → i ≤ stop → CharsKept s starts ends flags stop out₀ starts₀ ends₀ (record { read = q; flag = i; written = at }) out starts₁ ends₁
-    all-between-chars past most = record { flag_is = omega arith; between-chars = k }
+    pub all-between-chars : stop ≤ i → i ≤ stop → CharsKept s starts ends flags stop out₀ starts₀ ends₀ (record { read = q; flag = stop; written = at }) out starts₁ ends₁
+    all-between-chars past most = let end : i ≡ stop = omega arith in record { flag_is = refl; between-chars = rw end at k }
 
 -- what is left, byte by byte
 again : {W rest d₀ : List ℕ} {at : ℕ} {d : List ℕ} → Reaching W rest d₀ at d → Reaching W rest d at d

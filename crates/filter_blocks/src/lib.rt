@@ -2,14 +2,13 @@
 // Each function here is an inner one: the text is well-formed, and has a flag for each character.
 #![tactic(auto)]
 
-ghost use Rattle.std.specs.Prelude.{◌≡◌, ◌+◌, ◌≤◌, length};
-ghost use Rattle.buffers.specs.Splice.{part, splice};
+ghost use Rattle.std.specs.Prelude.{◌≡◌, ◌+◌, ◌≤◌};
 ghost use Rattle.note.specs.Notes.{limit};
 ghost use Rattle.filter_blocks.specs.Counting.{BeforeFour, kept_len, KeptSoFar, CharsKept, KeptCharsRoom};
 ghost use Rattle.filter_blocks.specs.Chosen.{FlagEach, all_kept, KeptEnd, KeptLaid, KeptRoom, is_whole};
 
-use buffers::lanes::select_or_zero_usize;
-use buffers::{Offset, copy_bytes, copy_offsets};
+use buffers::Offset;
+use buffers::blocks::copy_block;
 use note::{LIMIT, NormalizedByte};
 use utf8::continues;
 use utf8::lead::lead_len;
@@ -35,10 +34,8 @@ pub fn all_kept(flags: &[u8]) -> bool
     ensures { result ≡ all_kept flags.now }
 {
     let mut ok = true;
-    let mut i = 0;
-    while i < flags.len() {
-        ok = ok & (flags[i] != 0);
-        i += 1;
+    for flag in flags {
+        ok = ok & (*flag != 0);
     }
     ok
 }
@@ -64,13 +61,14 @@ pub fn kept_end(text: &[u8], flags: &[u8]) -> usize
 fn before_four(flags: &[u8]) -> usize
     ensures { BeforeFour flags.now result }
 {
-    let mut i = flags.len();
     let mut n = 0;
-    while (0 < i) & (n < 4) {
-        i -= 1;
+    for i in (0..flags.len()).rev() {
         n += (flags[i] != 0) as usize;
+        if n == 4 {
+            return i;
+        }
     }
-    select_or_zero_usize(n == 4, i)
+    0
 }
 
 // How many bytes a flag keeps of so many, without a branch.
@@ -81,26 +79,6 @@ pub fn kept_len(flag: u8, size: usize) -> usize
         return 0;
     }
     size
-}
-
-// The four elements of `src` from `i` on stand in `dst` from `at` on: through a local array, so that source and
-// destination are not tested for an overlap.
-fn copy_four_bytes(src: &[u8], i: usize, dst: &mut [u8], at: usize)
-    requires { (i + 4 ≤ length src.now) × (at + 4 ≤ length dst.old) }
-    ensures { dst.new ≡ splice dst.old at (part src.now i (i + 4)) }
-{
-    let mut four = [0u8; 4];
-    copy_bytes(&src[i..i + 4], &mut four, 0);
-    copy_bytes(&four, dst, at);
-}
-
-fn copy_four_offsets(src: &[Offset], i: usize, dst: &mut [Offset], at: usize)
-    requires { (i + 4 ≤ length src.now) × (at + 4 ≤ length dst.old) }
-    ensures { dst.new ≡ splice dst.old at (part src.now i (i + 4)) }
-{
-    let mut four = [0u16; 4];
-    copy_offsets(&src[i..i + 4], &mut four, 0);
-    copy_offsets(&four, dst, at);
 }
 
 // The kept characters of the first `stop` flags: four bytes of each character are laid, and the next one over what is
@@ -122,20 +100,18 @@ fn lay_chars(
         result out.new out_starts.new out_ends.new }
 {
     let mut q = 0;
-    let mut i = 0;
     let mut at = 0;
-    while i < stop {
+    for i in 0..stop {
         let size = lead_len(text[q]);
-        copy_four_bytes(text, q, out, at);
-        copy_four_offsets(starts, q, out_starts, at);
-        copy_four_offsets(ends, q, out_ends, at);
+        copy_block::<u8, 4>(text, q, out, at);
+        copy_block::<Offset, 4>(starts, q, out_starts, at);
+        copy_block::<Offset, 4>(ends, q, out_ends, at);
         at += kept_len(flags[i], size);
         q += size;
-        i += 1;
     }
     Filtered {
         read: q,
-        flag: i,
+        flag: stop,
         written: at,
     }
 }
@@ -163,16 +139,14 @@ fn lay_rest(
         out.old out_starts.old out_ends.old
         result out.new out_starts.new out_ends.new }
 {
-    let mut q = from.read;
     let mut i = from.flag;
     let mut at = from.written;
-    while q < end {
+    for q in from.read..end {
         i += (!continues(text[q])) as usize;
         out[at] = text[q];
         out_starts[at] = starts[q];
         out_ends[at] = ends[q];
         at += (flags[i - 1] != 0) as usize;
-        q += 1;
     }
     at
 }

@@ -9,6 +9,7 @@ use lib.Dec.{leb, eqb}
 use lib.ListN.{length, get_or, drop, drop_of_length-le}
 use lib.Seq.{drop-cons}
 use borrow.Author.Tests.{eq-eqb, ne_eqb}
+use Rattle.std.specs.Prelude.{Some, None}
 use Rattle.buffers.proofs.Cases.{le-or-lt, true-or-false, clash}
 use Rattle.utf8.specs.Formed.{announced, well_formed, boundary}
 use Rattle.utf8.specs.Lengths.{CharBegins, CharLen}
@@ -16,7 +17,6 @@ use Rattle.utf8.proofs.Boundaries.{boundary-zero}
 use Rattle.script.specs.declared.Command.{Command}
 use Rattle.utf8.specs.Scalar.{len_utf8}
 use Rattle.edit_steps.specs.declared.walking.Progress.{Progress}
-use Rattle.edit_steps.specs.declared.walking.Extent.TheVariants.{Size, Starved}
 use Rattle.edit_steps.specs.Edits.{skipped, starves, moved, starved, produced}
 use Rattle.edit_steps.specs.Walking.{Standing, progress_after, measured}
 use Rattle.edit_steps.proofs.Positions.{skipped-none, standing-skipped, starves-replacing, moved-replacing, stepped-fed}
@@ -177,7 +177,7 @@ module _ {s : List ℕ} {b from : ℕ} {flags : List ℕ} {q p written i : ℕ} 
       unfolding flag_starves c
       test = is ∙ rw (keeps, kept_here k h keeps) (sym (starves-replacing b p c refl))
 
-      kept-starves : t ≡ true → Starved ≡ measured s b (first_kept s b from flags) (flag_commands s flags)
+      kept-starves : t ≡ true → None ≡ measured s b (first_kept s b from flags) (flag_commands s flags)
       unfolding c
       kept-starves e = starves-here f.passed (kept-rest k h keeps) test e
 
@@ -190,7 +190,7 @@ module _ {s : List ℕ} {b from : ℕ} {flags : List ℕ} {q p written i : ℕ} 
           sym (fed ∙ rw (kept_here k h keeps, kept-moves k h keeps, code-wide k h, at)) in
           one-passed f.passed (kept-rest k h keeps) test e now
 
-    pub flag-starves : t ≡ true → Starved ≡ measured s b (first_kept s b from flags) (flag_commands s flags)
+    pub flag-starves : t ≡ true → None ≡ measured s b (first_kept s b from flags) (flag_commands s flags)
     unfolding flag_starves
     flag-starves e =
         true-or-false (eqb (get_or flags i 0) 0)
@@ -217,7 +217,7 @@ module _ {s : List ℕ} {b from : ℕ} {flags : List ℕ} {q p written i : ℕ} 
           small = omega (arith, f.small);
         })
 
-  pub all-filtered : length flags ≤ i → Size written ≡ measured s b (first_kept s b from flags) (flag_commands s flags)
+  pub all-filtered : length flags ≤ i → Some written ≡ measured s b (first_kept s b from flags) (flag_commands s flags)
   all-filtered done = all-passed f.passed (rest-none s flags q done)
 
 pub counts-most : (flag wide : ℕ) {n : ℕ} → n ≡ kept_len flag wide → n ≤ wide

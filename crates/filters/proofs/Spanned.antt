@@ -8,14 +8,13 @@ use native.Mathlib.Omega.{arith}
 use lib.Dec.{leb, eqb}
 use lib.ListN.{length, drop, drop_of_length-le}
 use borrow.Author.Tests.{eqb-true, leb-true}
+use Rattle.std.specs.Prelude.{Ok}
 use Rattle.buffers.specs.Splice.{part, splice, overlay}
 use Rattle.buffers.proofs.Splice.{part_end, splice-overlay}
 use Rattle.utf8.specs.Chars.{chars, leads}
 use Rattle.utf8.proofs.Chars.{chars-leads}
 use Rattle.utf8.proofs.Boundaries.{boundary-zero, boundary-length}
-use Rattle.note.specs.declared.Verdict.{Verdict}
-use Rattle.note.specs.declared.Verdict.TheVariants.{Accepted}
-use Rattle.note.specs.Refusals.{least, verdict}
+use Rattle.note.specs.Refusals.{least, verdict, Verdict, Accepted}
 use Rattle.note.specs.Notes.{Note, lent, Sound}
 use Rattle.note.specs.Faults.{note_faults}
 use Rattle.note.proofs.Faults.{accepted-sound}
@@ -23,7 +22,6 @@ use Rattle.utf8.specs.Formed.{char_range}
 use Rattle.edit_steps.specs.Edits.{skipped, characters, carried_values, starved, Edit, first_position, relaid, edited, transformed}
 use Rattle.buffers.specs.Keeping.{KeepRoom, PartKept}
 use Rattle.edit_steps.specs.Walking.{Standing}
-use Rattle.transform.specs.declared.Editing.TheVariants.{Edited}
 use Rattle.transform.specs.Transforming.{edit_faults, Rewritten, TextCall}
 use Rattle.transform.proofs.Verdicts.{small-enough, accepted-rewritten, note-editable}
 use Rattle.code_point_blocks.specs.Codes.{text_of}
@@ -138,7 +136,7 @@ module _ {s starts ends flags : List ℕ} (r : RangeReady s starts ends flags) w
         }
 
     made : {k : ℕ} {out starts₁ ends₁ : List ℕ} → KeptLaid s starts ends flags out₀ starts₀ ends₀ k out starts₁ ends₁
-        → Rewritten (verdict (edit_faults most s e (least (length out₀) (length starts₀) (length ends₀)))) (transformed (lent [] s starts ends 0) e) out₀ starts₀ ends₀ (Edited k) out starts₁ ends₁
+        → Rewritten (verdict (edit_faults most s e (least (length out₀) (length starts₀) (length ends₀)))) (transformed (lent [] s starts ends 0) e) out₀ starts₀ ends₀ (Ok k) out starts₁ ends₁
     unfolding transformed e
     made l =
         accepted-rewritten (small-enough most s e (least (length out₀) (length starts₀) (length ends₀)) lies is-fed (omega (arith, ap length text-made, short, chosen-most flags 0 s, lowest)))
@@ -147,7 +145,7 @@ module _ {s starts ends flags : List ℕ} (r : RangeReady s starts ends flags) w
         (l.starts_are ∙ ap (λ (x : List ℕ). overlay x starts₀) (sym (column-made starts r.editable.one_start r.one_start)))
         (l.ends_are ∙ ap (λ (x : List ℕ). overlay x ends₀) (sym (column-made ends r.editable.one_end r.one_end)))
 
-    pub spanned-made : {k : ℕ} {out starts₁ ends₁ : List ℕ} → KeptLaid s starts ends flags out₀ starts₀ ends₀ k out starts₁ ends₁ → TextCall most s starts ends (flag_edit s from to flags) out₀ starts₀ ends₀ (Edited k) out starts₁ ends₁
+    pub spanned-made : {k : ℕ} {out starts₁ ends₁ : List ℕ} → KeptLaid s starts ends flags out₀ starts₀ ends₀ k out starts₁ ends₁ → TextCall most s starts ends (flag_edit s from to flags) out₀ starts₀ ends₀ (Ok k) out starts₁ ends₁
     unfolding e
     spanned-made l = rw (first, last) (made l)
 

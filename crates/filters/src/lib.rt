@@ -3,7 +3,7 @@
 
 ghost use Rattle.std.specs.Prelude.{◌≡◌, length};
 ghost use Rattle.utf8.specs.Chars.{chars};
-ghost use Rattle.note.specs.Notes.{lent, limit};
+ghost use Rattle.note.specs.Notes.{limit, passed};
 ghost use Rattle.edit_steps.specs.Laying.{CommandsLaid, Editable, EditLaid};
 ghost use Rattle.transform.specs.Transforming.{TextCall};
 ghost use Rattle.edit_steps.specs.Walking.{measured};
@@ -12,13 +12,13 @@ ghost use Rattle.filters.specs.Flags.{first_kept, FilterRoom, flag_edit, FlagLai
 ghost use Rattle.filters.specs.Flags.{FlagsRoom, flag_commands, RangeReady, flag_starves};
 
 use buffers::parts::keep;
-use buffers::{Offset, copy_bytes, fill_offsets};
+use buffers::{Offset, copy, fill};
 use checks::{check_note, least_of_two, least_room};
-use convert::{Converted, Range, as_normalized, end_of, start_of};
-use edit_steps::walking::{Extent, skip};
+use convert::{Range, as_normalized, end_of, start_of};
+use edit_steps::walking::skip;
 use filter_blocks::{all_kept, is_whole, kept_end, kept_len, lay_kept};
-use note::{LIMIT, NormalizedByte, OriginalByte, Refusal, Verdict};
-use transform::{Editing, edit};
+use note::{LIMIT, NormalizedByte, NormalizedString, OriginalByte, Refusal};
+use transform::edit;
 use utf8::count::count_leads;
 use utf8::is_char_range;
 use utf8::lead::char_len;
@@ -34,7 +34,12 @@ fn flag_starves(flag: u8, to: NormalizedByte, position: NormalizedByte) -> bool
 }
 
 // The text's characters and the range's go by together, one for each flag.
-fn measure_flags(text: &[u8], to: NormalizedByte, from: NormalizedByte, flags: &[u8]) -> Extent
+fn measure_flags(
+    text: &[u8],
+    to: NormalizedByte,
+    from: NormalizedByte,
+    flags: &[u8],
+) -> Option<usize>
     requires { FlagsReady text.now to.0 from.0 flags.now }
     ensures { result ≡ measured text.now to.0
         (first_kept text.now to.0 from.0 flags.now)
@@ -43,18 +48,16 @@ fn measure_flags(text: &[u8], to: NormalizedByte, from: NormalizedByte, flags: &
     let mut q = 0;
     let mut p = from;
     let mut written = 0;
-    let mut i = 0;
-    while i < flags.len() {
+    for flag in flags {
         let size = char_len(text, q);
-        if flag_starves(flags[i], to, p) {
-            return Extent::Starved;
+        if flag_starves(*flag, to, p) {
+            return None;
         }
-        written += kept_len(flags[i], size);
+        written += kept_len(*flag, size);
         p = skip(text, to, 1, p);
         q += size;
-        i += 1;
     }
-    Extent::Size(written)
+    Some(written)
 }
 
 // The character of `size` bytes at `q`, laid from `at` on with the alignment at `position`, where its flag keeps it;
@@ -82,9 +85,9 @@ fn lay_flag(
         return at;
     }
     let p = position.0 as usize;
-    copy_bytes(&text[q..q + size], out, at);
-    fill_offsets(starts[p], size, out_starts, at);
-    fill_offsets(ends[p], size, out_ends, at);
+    copy(&text[q..q + size], out, at);
+    fill(starts[p], size, out_starts, at);
+    fill(ends[p], size, out_ends, at);
     at + size
 }
 
@@ -112,15 +115,13 @@ fn lay_flags(
     let mut q = 0;
     let mut p = from;
     let mut written = at;
-    let mut i = 0;
-    while i < flags.len() {
+    for flag in flags {
         let size = char_len(text, q);
         written = lay_flag(
-            flags[i], text, starts, ends, q, size, p, out, out_starts, out_ends, written,
+            *flag, text, starts, ends, q, size, p, out, out_starts, out_ends, written,
         );
         p = skip(text, to, 1, p);
         q += size;
-        i += 1;
     }
     written
 }
@@ -177,7 +178,7 @@ fn edit_flags(
     out: &mut [u8],
     out_starts: &mut [Offset],
     out_ends: &mut [Offset],
-) -> Editing
+) -> Result<usize, Refusal>
     requires { (Editable text.now starts.now ends.now) × (length flags.now ≡ chars text.now) }
     ensures { TextCall limit text.now starts.now ends.now
         (flag_edit text.now from.0 to.0 flags.now)
@@ -187,27 +188,25 @@ fn edit_flags(
     let first = from.0 as usize;
     let end = to.0 as usize;
     if !is_char_range(text, first, end) {
-        return Editing::Refused(Refusal::NotBoundary);
+        return Err(Refusal::NotBoundary);
     }
-    match measure_flags(text, to, from, flags) {
-        Extent::Starved => Editing::Refused(Refusal::Exhausted),
-        Extent::Size(size) => {
-            let room = least_of_two(
-                LIMIT,
-                least_room(out.len(), out_starts.len(), out_ends.len()),
-            );
-            let kept = first + (text.len() - end);
-            if room < kept {
-                return Editing::Refused(Refusal::NoRoom);
-            }
-            if room - kept < size {
-                return Editing::Refused(Refusal::NoRoom);
-            }
-            Editing::Edited(lay_filtered(
-                text, starts, ends, from, to, flags, out, out_starts, out_ends,
-            ))
-        }
+    let Some(size) = measure_flags(text, to, from, flags) else {
+        return Err(Refusal::Exhausted);
+    };
+    let room = least_of_two(
+        LIMIT,
+        least_room(out.len(), out_starts.len(), out_ends.len()),
+    );
+    let kept = first + (text.len() - end);
+    if room < kept {
+        return Err(Refusal::NoRoom);
     }
+    if room - kept < size {
+        return Err(Refusal::NoRoom);
+    }
+    Ok(lay_filtered(
+        text, starts, ends, from, to, flags, out, out_starts, out_ends,
+    ))
 }
 
 // A range made anew by flags, where the bytes of each character carry one alignment: the whole text is filtered byte by
@@ -222,7 +221,7 @@ fn filter_range(
     out: &mut [u8],
     out_starts: &mut [Offset],
     out_ends: &mut [Offset],
-) -> Editing
+) -> Result<usize, Refusal>
     requires { RangeReady text.now starts.now ends.now flags.now }
     ensures { TextCall limit text.now starts.now ends.now
         (flag_edit text.now from.0 to.0 flags.now)
@@ -243,10 +242,10 @@ fn filter_range(
                 out_ends,
                 0,
             );
-            return Editing::Edited(text.len());
+            return Ok(text.len());
         }
         let end = kept_end(text, flags);
-        return Editing::Edited(lay_kept(text, starts, ends, flags, end, out, out_starts, out_ends));
+        return Ok(lay_kept(text, starts, ends, flags, end, out, out_starts, out_ends));
     }
     edit_flags(
         text, starts, ends, from, to, flags, out, out_starts, out_ends,
@@ -255,58 +254,56 @@ fn filter_range(
 
 // Rust: `filter`. Refusals: those of a note, 11 for another number of flags than cleaned characters, then the edit's.
 pub fn filter(
-    original: &[u8],
-    normalized: &[u8],
-    starts: &[Offset],
-    ends: &[Offset],
-    original_shift: u32,
+    note: &NormalizedString,
     flags: &[u8],
     out: &mut [u8],
     out_starts: &mut [Offset],
     out_ends: &mut [Offset],
-) -> Editing
+) -> Result<usize, Refusal>
     ensures { FilterCall
-        (lent original.now normalized.now starts.now ends.now
-        original_shift)
+        (passed note.now)
         flags.now
         out.old out_starts.old out_ends.old
         result out.new out_starts.new out_ends.new }
 {
-    match check_note(original, normalized, starts, ends, original_shift) {
-        Verdict::Refused(k) => Editing::Refused(k),
-        Verdict::Accepted => {
-            if flags.len() != count_leads(normalized) {
-                return Editing::Refused(Refusal::CountMismatch);
-            }
-            match as_normalized(
-                starts,
-                ends,
-                Range::Original(OriginalByte(0), OriginalByte(original.len() as u32)),
-            ) {
-                Converted::Found(found) => filter_range(
-                    normalized,
-                    starts,
-                    ends,
-                    NormalizedByte(start_of(found)),
-                    NormalizedByte(end_of(found)),
-                    flags,
-                    out,
-                    out_starts,
-                    out_ends,
-                ),
-                Converted::Refused(_) => edit(
-                    normalized,
-                    starts,
-                    ends,
-                    NormalizedByte(0),
-                    NormalizedByte(0),
-                    0,
-                    &flags[..0],
-                    out,
-                    out_starts,
-                    out_ends,
-                ),
-            }
-        }
+    let NormalizedString {
+        original,
+        normalized,
+        starts,
+        ends,
+        ..
+    } = *note;
+    check_note(note)?;
+    if flags.len() != count_leads(normalized) {
+        return Err(Refusal::CountMismatch);
+    }
+    match as_normalized(
+        starts,
+        ends,
+        Range::Original(OriginalByte(0), OriginalByte(original.len() as u32)),
+    ) {
+        Ok(found) => filter_range(
+            normalized,
+            starts,
+            ends,
+            NormalizedByte(start_of(found)),
+            NormalizedByte(end_of(found)),
+            flags,
+            out,
+            out_starts,
+            out_ends,
+        ),
+        Err(_) => edit(
+            normalized,
+            starts,
+            ends,
+            NormalizedByte(0),
+            NormalizedByte(0),
+            0,
+            &flags[..0],
+            out,
+            out_starts,
+            out_ends,
+        ),
     }
 }

@@ -103,9 +103,6 @@ module _ (a b : List ℕ) (x y : ℕ) where
   unfolding apart_below together
   apart_more j is = rw (is, every-suc j (λ (k : ℕ). not (together a b x y k))) (de-morgan (every_below j (λ (k : ℕ). not (together a b x y k))) (together a b x y j))
 
-  pub apart-all : {j : ℕ} {hit : Bool} → hit ≡ not (apart_below a b x y j) → j ≡ 64 → hit ≡ not (apart_below a b x y 64)
-  apart-all is full = rw full at is
-
   pub apart-candidate : {hit : Bool} → hit ≡ not (apart_below a b x y 64) → hit ≡ false → Candidate a b x y 64 64
   unfolding apart_below
   apart-candidate is f =

@@ -7,14 +7,13 @@ use native.Mathlib.Omega.{arith}
 use lib.Dec.{leb}
 use lib.ListN.{length, length-append}
 use borrow.Author.Tests.{le-leb, not-true, not-false, leb-true, leb-false}
+use Rattle.std.specs.Prelude.{Ok, Err}
 use Rattle.buffers.specs.Splice.{overlay, Laid}
 use Rattle.buffers.proofs.Cases.{le-or-lt}
 use Rattle.buffers.proofs.Splice.{Laying, splice-nil, splice-overlay, none-laid, piece-laid, laying-size, all_laid}
 use Rattle.note.specs.declared.Refusal.{Refusal}
 use Rattle.note.specs.declared.Refusal.TheVariants.{NoRoom, IllFormed}
-use Rattle.note.specs.declared.Verdict.{Verdict}
-use Rattle.note.specs.declared.Verdict.TheVariants.{Accepted, Refused as Rejected}
-use Rattle.note.specs.Refusals.{also, verdict, after, unless_refused}
+use Rattle.note.specs.Refusals.{also, verdict, after, unless_refused, Verdict, Accepted}
 use Rattle.note.specs.Notes.{limit}
 use Rattle.note.specs.Faults.{text_faults, string_faults, room_faults}
 use Rattle.note.specs.Rank.{up_to}
@@ -23,7 +22,6 @@ use Rattle.note.proofs.Faults.{no_room, enough-room}
 use Rattle.pattern.specs.declared.Place.{Place}
 use Rattle.pattern.specs.Encoding.{place_bytes, encoded_places, room_for}
 use Rattle.pattern.proofs.Encoding.{length-encoded}
-use Rattle.find.specs.declared.Matches.TheVariants.{Written, Refused}
 use Rattle.find.specs.Matching.{first_from, place_from, between, matches_from, found_places}
 use Rattle.find.specs.Finding.{found_bytes, find_faults, Finding}
 use Rattle.find.specs.Searching.{first_match}
@@ -158,20 +156,20 @@ module _ (text literal : List ℕ) {p : ℕ} {q : Place} (is : p ≡ first_match
   whole-listed {d₀} laid = rw whole-bytes (omega (arith, laid.reach), laid.holds ∙ splice-overlay d₀ _)
 
 module _ (most : ℕ) (text literal o : List ℕ) where
-  finding : {v : Verdict} → v ≡ verdict (find_faults most text literal (length o)) → Finding most text literal o (unless_refused Refused v (Written (length (found_bytes text literal)))) (after v (found_bytes text literal) o)
+  finding : {v : Verdict} → v ≡ verdict (find_faults most text literal (length o)) → Finding most text literal o (unless_refused Err v (Ok (length (found_bytes text literal)))) (after v (found_bytes text literal) o)
   finding e =
-      record { answer = ap (λ (v : Verdict). unless_refused Refused v (Written (length (found_bytes text literal)))) e; list = ap (λ (v : Verdict). after v (found_bytes text literal) o) e }
+      record { answer = ap (λ (v : Verdict). unless_refused Err v (Ok (length (found_bytes text literal)))) e; list = ap (λ (v : Verdict). after v (found_bytes text literal) o) e }
 
   module _ {v : Verdict} (e : v ≡ verdict (also (text_faults most text) (string_faults literal))) where
-    pub input-refused : {k : Refusal} → v ≡ Rejected k → Finding most text literal o (Refused k) o
+    pub input-refused : {k : Refusal} → v ≡ Err k → Finding most text literal o (Err k) o
     input-refused is = finding (refused-then (up_to IllFormed) (also (text_faults most text) (string_faults literal)) (room_faults (length (found_bytes text literal)) (length o)) refl refl e is)
 
     module _ (is : v ≡ Accepted) {fits : Bool} (room : fits ≡ leb (length (found_bytes text literal)) (length o)) where
       then-room : {w : Verdict} → w ≡ verdict (room_faults (length (found_bytes text literal)) (length o)) → w ≡ verdict (find_faults most text literal (length o))
       then-room w = accepted-then (up_to IllFormed) (also (text_faults most text) (string_faults literal)) (room_faults (length (found_bytes text literal)) (length o)) refl refl e is w
 
-      pub room-refused : not fits ≡ true → Finding most text literal o (Refused NoRoom) o
+      pub room-refused : not fits ≡ true → Finding most text literal o (Err NoRoom) o
       room-refused short = finding (then-room (no_room (leb-false (length (found_bytes text literal)) (length o) (sym room ∙ not-true fits short))))
 
-      pub list_written : {size : ℕ} {o₁ : List ℕ} → not fits ≡ false → (size ≡ length (found_bytes text literal)) × (o₁ ≡ overlay (found_bytes text literal) o) → Finding most text literal o (Written size) o₁
+      pub list_written : {size : ℕ} {o₁ : List ℕ} → not fits ≡ false → (size ≡ length (found_bytes text literal)) × (o₁ ≡ overlay (found_bytes text literal) o) → Finding most text literal o (Ok size) o₁
       list_written enough wrote = rw (wrote.0, wrote.1) (finding (then-room (enough-room (leb-true (length (found_bytes text literal)) (length o) (sym room ∙ not-false fits enough)))))

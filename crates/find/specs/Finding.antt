@@ -1,5 +1,5 @@
 -- RULES 9.6: the list that `find_matches` writes, its refusals and its answer.
-use Rattle.std.specs.Prelude.{ℕ, ◌+◌, ◌*◌, ◌/◌, ◌≤◌, ◌<◌, ◌≡◌, Bool, true, List, length}
+use Rattle.std.specs.Prelude.{ℕ, ◌+◌, ◌*◌, ◌/◌, ◌≤◌, ◌<◌, ◌≡◌, Bool, true, List, length, Result, Ok, Err}
 use Rattle.utf8.specs.Formed.{well_formed}
 use Rattle.note.specs.declared.Refusal.{Refusal}
 use Rattle.note.specs.Refusals.{also, verdict, after, unless_refused}
@@ -8,8 +8,6 @@ use Rattle.note.specs.Faults.{text_faults, string_faults, room_faults}
 use Rattle.pattern.specs.Entries.{places_of}
 use Rattle.pattern.specs.Places.{covers}
 use Rattle.pattern.specs.Encoding.{encoded_places, room_for}
-use Rattle.find.specs.declared.Matches.{Matches}
-use Rattle.find.specs.declared.Matches.TheVariants.{Written, Refused}
 use Rattle.find.specs.Matching.{found_places}
 
 -- the list as it is written
@@ -38,8 +36,8 @@ find_faults most text literal room =
     also (also (text_faults most text) (string_faults literal)) (room_faults (length (found_bytes text literal)) room)
 
 -- the call: limit, text, literal, the passed bytes before, the answer, the passed bytes after
-pub record Finding (most : ℕ) (text literal o₀ : List ℕ) (r : Matches) (o₁ : List ℕ) : Type 0 where
+pub record Finding (most : ℕ) (text literal o₀ : List ℕ) (r : Result ℕ Refusal) (o₁ : List ℕ) : Type 0 where
   pub answer :
-      r ≡ unless_refused Refused (verdict (find_faults most text literal (length o₀)))
-      (Written (length (found_bytes text literal)))
+      r ≡ unless_refused Err (verdict (find_faults most text literal (length o₀)))
+      (Ok (length (found_bytes text literal)))
   pub list : o₁ ≡ after (verdict (find_faults most text literal (length o₀))) (found_bytes text literal) o₀

@@ -15,17 +15,10 @@ ghost use Rattle.find.specs.Searching.{first_match};
 
 use checks::{check_string, check_text};
 use note::verdicts::earlier;
-use note::{NormalizedByte, Refusal, Verdict};
+use note::{NormalizedByte, Refusal};
 use pattern::Place;
 use pattern::writing::{room_for, write_place};
 use search::{first_match, next_match};
-
-// What finding says: how many bytes of the list were written.
-#[derive(Clone, Copy)]
-pub enum Matches {
-    Written(usize),
-    Refused(Refusal),
-}
 
 // The place from `start` up to `end`.
 fn place_from(start: usize, end: usize, matched: bool) -> Place
@@ -121,15 +114,13 @@ pub fn write_list(text: &[u8], literal: &[u8], first: usize, out: &mut [u8]) -> 
 
 // The literal's matches in the text, and what is between them, as a match list in `out`.
 // It judges, in this order: `TooLong` (the text), `IllFormed` (text or literal), `NoRoom`.
-pub fn find_matches(text: &[u8], literal: &[u8], out: &mut [u8]) -> Matches
+pub fn find_matches(text: &[u8], literal: &[u8], out: &mut [u8]) -> Result<usize, Refusal>
     ensures { Finding limit text.now literal.now out.old result out.new }
 {
-    if let Verdict::Refused(k) = earlier(check_text(text), check_string(literal)) {
-        return Matches::Refused(k);
-    }
+    earlier(check_text(text), check_string(literal))?;
     let first = first_match(text, literal);
     if !list_fits(text, literal, first, out.len()) {
-        return Matches::Refused(Refusal::NoRoom);
+        return Err(Refusal::NoRoom);
     }
-    Matches::Written(write_list(text, literal, first, out))
+    Ok(write_list(text, literal, first, out))
 }

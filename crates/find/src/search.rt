@@ -6,8 +6,8 @@ ghost use Rattle.std.specs.Prelude.{◌≡◌, not, ◌+◌, ◌≤◌, ◌<◌,
 ghost use Rattle.find.specs.Matching.{occurs_at, first_from};
 ghost use Rattle.find.specs.Searching.{Absent, apart_below, first_match, first_together};
 
-use buffers::equality::same_bytes;
-use buffers::lanes::{max_u8, select_or_zero_u8};
+use buffers::equality::same;
+use buffers::lanes::select;
 
 // Whether the literal is in the text at `p`.
 // An inner function: the literal has a byte, and fits the text from `p` on.
@@ -18,7 +18,7 @@ pub fn occurs_at(text: &[u8], literal: &[u8], p: usize) -> bool
     if text[p] != literal[0] {
         return false;
     }
-    same_bytes(&text[p..p + literal.len()], literal)
+    same(&text[p..p + literal.len()], literal)
 }
 
 // The first of 64 indices at which `first` is in `a` and `last` in `b`, or 64.
@@ -29,14 +29,10 @@ pub fn first_candidate(a: &[u8], b: &[u8], first: u8, last: u8) -> usize
     ensures { result ≡ first_together a.now b.now first last 64 0 }
 {
     let mut left: u8 = 0;
-    let mut j: u8 = 0;
-    while j < 64 {
+    for j in 0..64u8 {
         let k = j as usize;
-        left = max_u8(
-            left,
-            select_or_zero_u8((a[k] == first) & (b[k] == last), 64 - j),
-        );
-        j += 1;
+        let hit = (a[k] == first) & (b[k] == last);
+        left = left.max(select(hit, 64 - j, 0));
     }
     64 - left as usize
 }
@@ -47,10 +43,8 @@ fn has_candidate(a: &[u8], b: &[u8], first: u8, last: u8) -> bool
     ensures { result ≡ not (apart_below a.now b.now first last 64) }
 {
     let mut hit = false;
-    let mut j = 0;
-    while j < 64 {
+    for j in 0..64 {
         hit = hit | ((a[j] == first) & (b[j] == last));
-        j += 1;
     }
     hit
 }
@@ -64,15 +58,15 @@ fn skip_blocks(text: &[u8], literal: &[u8], from: usize) -> usize
     let width = literal.len() - 1;
     let first = literal[0];
     let last = literal[width];
-    let mut i = from;
-    while width + 64 <= text.len() - i {
+    let blocks = (text.len() - from).saturating_sub(width) / 64;
+    for k in 0..blocks {
+        let i = from + 64 * k;
         let j = i + width;
         if has_candidate(&text[i..i + 64], &text[j..j + 64], first, last) {
             return i;
         }
-        i += 64;
     }
-    i
+    from + 64 * blocks
 }
 
 // The next position to try the literal at: past all at which two of its bytes say that it does not stand, while 64

@@ -3,12 +3,11 @@ use Prim.Native.Nat.{ℕ, min, ◌≤◌, ◌<◌}
 use mathlib.Core.Path.{◌≡◌, refl}
 use mathlib.Core.List.{List}
 use lib.ListN.{length}
+use Rattle.std.specs.Prelude.{Err}
 use Rattle.buffers.specs.Splice.{overlay}
 use Rattle.note.specs.declared.Refusal.{Refusal}
 use Rattle.note.specs.declared.Refusal.TheVariants.{NoRoom, IllFormed}
-use Rattle.note.specs.declared.Verdict.{Verdict}
-use Rattle.note.specs.declared.Verdict.TheVariants.{Accepted, Refused}
-use Rattle.note.specs.Refusals.{verdict}
+use Rattle.note.specs.Refusals.{verdict, Verdict, Accepted}
 use Rattle.note.specs.Faults.{text_faults, room_faults}
 use Rattle.note.specs.Starting.{starting}
 use Rattle.note.specs.Rank.{up_to}
@@ -20,7 +19,7 @@ module _ (most : ℕ) (s a b : List ℕ) {v : Verdict} (e : v ≡ verdict (text_
   abbrev room : ℕ
   room = min (length a) (length b)
 
-  pub text-refused : {k : Refusal} → v ≡ Refused k → Started most s a b (Refused k) a b
+  pub text-refused : {k : Refusal} → v ≡ Err k → Started most s a b (Err k) a b
   text-refused is =
       record {
         answer = refused-then (up_to IllFormed) (text_faults most s) (room_faults (length s) room) refl refl e is;
@@ -29,7 +28,7 @@ module _ (most : ℕ) (s a b : List ℕ) {v : Verdict} (e : v ≡ verdict (text_
       }
 
   module _ (is : v ≡ Accepted) where
-    pub too-little-room : room < length s → Started most s a b (Refused NoRoom) a b
+    pub too-little-room : room < length s → Started most s a b (Err NoRoom) a b
     too-little-room h =
         record {
           answer = accepted-then (up_to IllFormed) (text_faults most s) (room_faults (length s) room) refl refl e is (no_room h);

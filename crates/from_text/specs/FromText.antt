@@ -1,7 +1,6 @@
 -- RULES 15.2: the columns of a fresh text's note (RULES 1.6), written into two passed columns.
 use Rattle.std.specs.Prelude.{ℕ, min, ◌≡◌, List, length}
-use Rattle.note.specs.declared.Verdict.{Verdict}
-use Rattle.note.specs.Refusals.{also, verdict, after}
+use Rattle.note.specs.Refusals.{also, verdict, after, Verdict}
 use Rattle.note.specs.Faults.{text_faults, room_faults}
 use Rattle.note.specs.Starting.{starting}
 

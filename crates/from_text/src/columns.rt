@@ -10,6 +10,7 @@ ghost use Rattle.utf8.specs.CharRanges.{char_start, char_end};
 ghost use Rattle.note.specs.Starting.{starting};
 
 use buffers::Offset;
+use column_blocks::BLOCK;
 use column_blocks::runs::{ends_block, starts_block};
 use utf8::continues;
 
@@ -21,13 +22,11 @@ fn carry_starts(text: &[u8], to: usize, starts: &mut [Offset])
     ensures { Filled (char_start text.now) starts.old 0 to starts.new }
 {
     let mut start: Offset = 0;
-    let mut i = 0;
-    while i < to {
+    for i in 0..to {
         if !continues(text[i]) {
             start = i as Offset;
         }
         starts[i] = start;
-        i += 1;
     }
 }
 
@@ -39,9 +38,7 @@ fn carry_ends(text: &[u8], from: usize, ends: &mut [Offset])
         ends.new }
 {
     let mut end = text.len() as Offset;
-    let mut i = text.len();
-    while from < i {
-        i -= 1;
+    for i in (from..text.len()).rev() {
         ends[i] = end;
         if !continues(text[i]) {
             end = i as Offset;
@@ -49,30 +46,30 @@ fn carry_ends(text: &[u8], from: usize, ends: &mut [Offset])
     }
 }
 
-// Where each byte's character begins, in blocks from the text's end on.
+// Where each byte's character begins, in blocks from the text's end on, as long as three bytes come before a block.
 pub fn write_starts(text: &[u8], starts: &mut [Offset])
     requires text_value { (well_formed text.now ≡ true) × (length text.now ≤ limit) }
     requires text_in_bounds { length text.now ≤ length starts.old }
     ensures { starts.new ≡ overlay (starting text.now).starts starts.old }
 {
-    let mut i = text.len();
-    while 67 <= i {
-        i -= 64;
+    let blocks = text.len().saturating_sub(3) / BLOCK;
+    for k in 0..blocks {
+        let i = text.len() - (k + 1) * BLOCK;
         starts_block(text, i, starts, i);
     }
-    carry_starts(text, i, starts);
+    carry_starts(text, text.len() - blocks * BLOCK, starts);
 }
 
-// Where each byte's character ends, in blocks from the text's beginning on.
+// Where each byte's character ends, in blocks from the text's beginning on, as long as three bytes come after a block.
 pub fn write_ends(text: &[u8], ends: &mut [Offset])
     requires text_value { (well_formed text.now ≡ true) × (length text.now ≤ limit) }
     requires text_in_bounds { length text.now ≤ length ends.old }
     ensures { ends.new ≡ overlay (starting text.now).ends ends.old }
 {
-    let mut i = 0;
-    while 67 <= text.len() - i {
+    let blocks = text.len().saturating_sub(3) / BLOCK;
+    for k in 0..blocks {
+        let i = k * BLOCK;
         ends_block(text, i, ends, i);
-        i += 64;
     }
-    carry_ends(text, i, ends);
+    carry_ends(text, blocks * BLOCK, ends);
 }

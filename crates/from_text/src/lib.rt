@@ -9,20 +9,18 @@ ghost use Rattle.from_text.specs.FromText.{Started};
 use buffers::Offset;
 use checks::{check_text, least_of_two};
 use columns::{write_ends, write_starts};
-use note::{Refusal, Verdict};
+use note::Refusal;
 
 // Writes one start and one end for each byte of the text. Refusals: those of a text, then `NoRoom`.
-pub fn from_text(text: &[u8], starts: &mut [Offset], ends: &mut [Offset]) -> Verdict
+pub fn from_text(text: &[u8], starts: &mut [Offset], ends: &mut [Offset]) -> Result<(), Refusal>
     ensures { Started limit text.now starts.old ends.old result
         starts.new ends.new }
 {
-    if let Verdict::Refused(k) = check_text(text) {
-        return Verdict::Refused(k);
-    }
+    check_text(text)?;
     if least_of_two(starts.len(), ends.len()) < text.len() {
-        return Verdict::Refused(Refusal::NoRoom);
+        return Err(Refusal::NoRoom);
     }
     write_starts(text, starts);
     write_ends(text, ends);
-    Verdict::Accepted
+    Ok(())
 }

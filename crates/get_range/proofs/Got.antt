@@ -3,42 +3,39 @@ use Prim.Native.Nat.{ℕ}
 use mathlib.Core.Path.{◌≡◌, ◌∙◌, ap, refl}
 use mathlib.Core.Bool.{Bool, true, false}
 use mathlib.Core.List.{List}
+use Rattle.std.specs.Prelude.{Result, Ok, Err}
 use Rattle.note.specs.declared.Refusal.{Refusal}
 use Rattle.note.specs.declared.Refusal.TheVariants.{Missing}
-use Rattle.note.specs.declared.Verdict.{Verdict}
-use Rattle.note.specs.declared.Verdict.TheVariants.{Accepted, Refused as Rejected}
-use Rattle.note.specs.Refusals.{verdict}
+use Rattle.note.specs.Refusals.{verdict, Verdict, Accepted}
 use Rattle.note.specs.Notes.{Note}
 use Rattle.note.specs.Faults.{note_faults}
 use Rattle.convert.specs.declared.Range.{Range}
 use Rattle.convert.specs.declared.Range.TheVariants.{Original, Normalized}
-use Rattle.convert.specs.declared.Converted.{Converted}
-use Rattle.convert.specs.declared.Converted.TheVariants.{Found, Refused}
 use Rattle.convert.specs.Converting.{start_of, end_of}
 use Rattle.convert.proofs.Answered.{MissingOnly, found-or-missing, converted-missing, answered-refused, answered-accepted}
 use Rattle.convert.specs.Converting.{as_normalized, as_original}
 use Rattle.utf8.specs.Formed.{char_range}
 use Rattle.get_range.specs.Reading.{got, get_range, get_range_original}
 
-module _ (s : List ℕ) {answer : Converted} where
-  module _ {range : Range} {a e : ℕ} {t : Bool} (is : answer ≡ Found range) (p : a ≡ start_of range) (q : e ≡ end_of range) (r : t ≡ char_range s a e) where
-    pub got-found : t ≡ true → Found range ≡ got s answer
+module _ (s : List ℕ) {answer : Result Range Refusal} where
+  module _ {range : Range} {a e : ℕ} {t : Bool} (is : answer ≡ Ok range) (p : a ≡ start_of range) (q : e ≡ end_of range) (r : t ≡ char_range s a e) where
+    pub got-found : t ≡ true → Ok range ≡ got s answer
     unfolding got
     got-found y = rw (is, ← p, ← q, ← r, y)
 
-    pub got-unread : t ≡ false → Refused Missing ≡ got s answer
+    pub got-unread : t ≡ false → Err Missing ≡ got s answer
     unfolding got
     got-unread y = rw (is, ← p, ← q, ← r, y)
 
-  pub got-refused : {k : Refusal} → answer ≡ Refused k → Refused k ≡ got s answer
+  pub got-refused : {k : Refusal} → answer ≡ Err k → Err k ≡ got s answer
   unfolding got
   got-refused is = rw is
 
 -- no refusal but `Missing`
-got-missing : (s : List ℕ) (answer : Converted) → MissingOnly answer → MissingOnly (got s answer)
+got-missing : (s : List ℕ) (answer : Result Range Refusal) → MissingOnly answer → MissingOnly (got s answer)
 unfolding got
-got-missing s (Found range) only = found-or-missing (char_range s (start_of range) (end_of range)) range
-got-missing s (Refused k) only = only
+got-missing s (Ok range) only = found-or-missing (char_range s (start_of range) (end_of range)) range
+got-missing s (Err k) only = only
 
 pub as_normalized-missing : (starts ends : List ℕ) (range : Range) → MissingOnly (as_normalized starts ends range)
 unfolding as_normalized
@@ -52,15 +49,15 @@ as_original-missing starts ends (Normalized a b) = converted-missing starts ends
 
 -- the two calls, by what the check of the note says
 module _ (most : ℕ) (n : Note) (range : Range) {v : Verdict} (e : v ≡ verdict (note_faults most n)) where
-  pub get_range-refused : {k : Refusal} → v ≡ Rejected k → Refused k ≡ get_range most n range
+  pub get_range-refused : {k : Refusal} → v ≡ Err k → Err k ≡ get_range most n range
   unfolding get_range
   get_range-refused is = answered-refused most n _ e is
 
-  pub get_range_original-refused : {k : Refusal} → v ≡ Rejected k → Refused k ≡ get_range_original most n range
+  pub get_range_original-refused : {k : Refusal} → v ≡ Err k → Err k ≡ get_range_original most n range
   unfolding get_range_original
   get_range_original-refused is = answered-refused most n _ e is
 
-  module _ (ok : v ≡ Accepted) {answer r : Converted} where
+  module _ (ok : v ≡ Accepted) {answer r : Result Range Refusal} where
     pub get_range-got : answer ≡ as_normalized n.starts n.ends range → r ≡ got n.normalized answer → r ≡ get_range most n range
     unfolding get_range
     get_range-got is q =

@@ -1,5 +1,5 @@
 -- RULES 5 (Rust: `get_range`, `get_range_original`, `str::get`), and the added reader.
-use Rattle.std.specs.Prelude.{ℕ, Bool, cond, not, List, []}
+use Rattle.std.specs.Prelude.{ℕ, Bool, cond, not, List, [], Result, Ok, Err}
 use Rattle.buffers.specs.Splice.{part}
 use Rattle.utf8.specs.Formed.{char_range}
 use Rattle.note.specs.declared.Refusal.{Refusal}
@@ -9,20 +9,18 @@ use Rattle.note.specs.Notes.{Note}
 use Rattle.note.specs.Faults.{text_faults}
 use Rattle.convert.specs.declared.Range.{Range}
 use Rattle.convert.specs.declared.Range.TheVariants.{Original, Normalized}
-use Rattle.convert.specs.declared.Converted.{Converted}
-use Rattle.convert.specs.declared.Converted.TheVariants.{Found, Refused}
 use Rattle.convert.specs.Converting.{start_of, end_of, answered, as_normalized, as_original}
 
 -- RULES 5.1: what `str::get` makes of a range that may have been missed already
-unfoldable pub got : List ℕ → Converted → Converted
-got s (Found range) = cond (char_range s (start_of range) (end_of range)) (Found range) (Refused Missing)
-got s (Refused k) = Refused k
+unfoldable pub got : List ℕ → Result Range Refusal → Result Range Refusal
+got s (Ok range) = cond (char_range s (start_of range) (end_of range)) (Ok range) (Err Missing)
+got s (Err k) = Err k
 
 -- RULES 5.2, 5.3: the two calls
-unfoldable pub get_range : ℕ → Note → Range → Converted
+unfoldable pub get_range : ℕ → Note → Range → Result Range Refusal
 get_range most n range = answered most n (got n.normalized (as_normalized n.starts n.ends range))
 
-unfoldable pub get_range_original : ℕ → Note → Range → Converted
+unfoldable pub get_range_original : ℕ → Note → Range → Result Range Refusal
 get_range_original most n range = answered most n (got n.original (as_original n.starts n.ends range))
 
 -- RULES 5.6, of the added reader: both texts are judged, then the range in the one that it names

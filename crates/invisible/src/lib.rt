@@ -8,7 +8,8 @@ ghost use Rattle.invisible.specs.Characters.{code_at, code_of, first_invisible};
 
 use utf8::lead::lead_len;
 
-// Whether a code point is a control character.
+// Whether a code point is a control character. Here and below a range is written as `in_range` has it: `matches!` and
+// `contains` are no plainer, and add cases to prove for each range.
 fn is_control(c: u32) -> bool
     ensures { result ≡ in_some controls c }
 {
@@ -85,10 +86,7 @@ fn code_of(a: u8, b: u8, c: u8, d: u8) -> u32
 fn byte_at(text: &[u8], i: usize) -> u8
     ensures { result ≡ get_or text.now i 0 }
 {
-    if i < text.len() {
-        return text[i];
-    }
-    0
+    text.get(i).copied().unwrap_or(0)
 }
 
 // The code point of the character that begins at `i`; 0 after the text.

@@ -6,12 +6,11 @@ use mathlib.Core.List.{List}
 use native.Mathlib.Omega.{arith}
 use lib.Dec.{ltb}
 use lib.ListN.{length}
+use Rattle.std.specs.Prelude.{Result, Ok, Err}
 use Rattle.buffers.specs.Splice.{overlay}
 use Rattle.note.specs.declared.Refusal.{Refusal}
 use Rattle.note.specs.declared.Refusal.TheVariants.{Exhausted, NoRoom, Misaligned}
-use Rattle.note.specs.declared.Verdict.{Verdict}
-use Rattle.note.specs.declared.Verdict.TheVariants.{Accepted, Refused as Rejected}
-use Rattle.note.specs.Refusals.{none, least, also, verdict}
+use Rattle.note.specs.Refusals.{none, least, also, verdict, Verdict, Accepted}
 use Rattle.note.specs.Notes.{Note, Sound}
 use Rattle.note.specs.Faults.{note_faults}
 use Rattle.note.specs.Rank.{up_to}
@@ -22,8 +21,6 @@ use Rattle.code_point_blocks.specs.Codes.{text_of}
 use Rattle.map_columns.specs.Spreading.{of_chars}
 use Rattle.map_columns.specs.Laying.{Steady}
 use Rattle.edit_steps.specs.Edits.{characters, edited, transformed}
-use Rattle.transform.specs.declared.Editing.{Editing}
-use Rattle.transform.specs.declared.Editing.TheVariants.{Edited, Refused as Refusing}
 use Rattle.transform.specs.Transforming.{Rewritten}
 use Rattle.transform.proofs.Verdicts.{inputs-refused, inputs-accepted, starving, too_large, small-enough, refused-rewritten, accepted-rewritten}
 use Rattle.edits.specs.Characters.{codes_of}
@@ -38,14 +35,14 @@ use Rattle.lowercase.proofs.Grown.{grown-carried, grown-size}
 use Rattle.lowercase.proofs.Lowering.{lowercased-closed}
 
 module _ (most : ℕ) (n : Note) (out₀ starts₀ ends₀ : List ℕ) {v : Verdict} (noted : v ≡ verdict (note_faults most n)) where
-  abbrev Called : Editing → List ℕ → List ℕ → List ℕ → Type 0
+  abbrev Called : Result ℕ Refusal → List ℕ → List ℕ → List ℕ → Type 0
   Called r out starts ends =
       Rewritten (verdict (lowercase_faults most n (least (length out₀) (length starts₀) (length ends₀)))) (transformed n (lowercase_edit n)) out₀ starts₀ ends₀ r out starts ends
 
   abbrev inputs : Refusal → Bool
   inputs = also (note_faults most n) none
 
-  pub note-refused : {k : Refusal} → v ≡ Rejected k → Called (Refusing k) out₀ starts₀ ends₀
+  pub note-refused : {k : Refusal} → v ≡ Err k → Called (Err k) out₀ starts₀ ends₀
   note-refused is =
       inputs-refused most n inputs refl (lowercase_edit n) out₀ starts₀ ends₀ (refused-then (up_to Misaligned) (note_faults most n) none refl refl noted is) refl
 
@@ -70,7 +67,7 @@ module _ (most : ℕ) (n : Note) (out₀ starts₀ ends₀ : List ℕ) {v : Verd
       told : t ≡ ltb 0 (head_chars (head_bytes n) n)
       told = head ∙ sym (head-told n sound (whole-behind n sound) (codes_of n.normalized) (codes-chars n.normalized))
 
-      pub head-refused : t ≡ true → Called (Refusing Exhausted) out₀ starts₀ ends₀
+      pub head-refused : t ≡ true → Called (Err Exhausted) out₀ starts₀ ends₀
       head-refused e =
           inputs-accepted most n inputs refl (lowercase_edit n) out₀ starts₀ ends₀ accepted refl refl
           (refused-rewritten (starving most n.normalized (lowercase_edit n) (least (length out₀) (length starts₀) (length ends₀)) makes.lies (makes.exhausts ∙ sym told ∙ e)))
@@ -92,7 +89,7 @@ module _ (most : ℕ) (n : Note) (out₀ starts₀ ends₀ : List ℕ) {v : Verd
         unfolding transformed lowercased
         result = ap (λ (x : Note). length x.normalized) (makes.leaves unheaded) ∙ size
 
-        pub lower-large : room < length n.normalized + d → Called (Refusing NoRoom) out₀ starts₀ ends₀
+        pub lower-large : room < length n.normalized + d → Called (Err NoRoom) out₀ starts₀ ends₀
         lower-large h =
             inputs-accepted most n inputs refl (lowercase_edit n) out₀ starts₀ ends₀ accepted refl refl
             (refused-rewritten (too_large most n.normalized (lowercase_edit n) (least (length out₀) (length starts₀) (length ends₀)) makes.lies (makes.exhausts ∙ unheaded) (omega (arith, result, lowest, r))))
@@ -119,7 +116,7 @@ module _ (most : ℕ) (n : Note) (out₀ starts₀ ends₀ : List ℕ) {v : Verd
               is ∙ ap (λ (l : List ℕ). overlay l buffer) (grown-carried n.normalized xs one steady (normalized-formed n sound))
 
           pub lower-made : {out starts ends : List ℕ} → out ≡ overlay (lowered_bytes n.normalized) out₀ → starts ≡ overlay (grown n.normalized n.starts) starts₀
-              → ends ≡ overlay (grown n.normalized n.ends) ends₀ → Called (Edited (length n.normalized + d)) out starts ends
+              → ends ≡ overlay (grown n.normalized n.ends) ends₀ → Called (Ok (length n.normalized + d)) out starts ends
           unfolding transformed lowercased
           lower-made o s e =
               let leaves = sym (makes.leaves unheaded) in

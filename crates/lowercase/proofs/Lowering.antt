@@ -7,14 +7,13 @@ use native.Mathlib.Omega.{arith}
 use lib.Dec.{ltb, eqb}
 use lib.ListN.{length, get_or, drop, replicate, length-append, drop_of_length-le}
 use borrow.Author.Tests.{ltb-false, ne_eqb}
+use Rattle.std.specs.Prelude.{Result, Ok, Err}
 use Rattle.buffers.proofs.Cases.{true-or-false}
 use Rattle.utf8.specs.Formed.{announced, well_formed, boundary, char_range}
 use Rattle.utf8.specs.Scalar.{scalar, encoded, bytes_of, len_utf8}
 use Rattle.utf8.proofs.Boundaries.{char-at}
 use Rattle.note.specs.Notes.{Note, before_end, Sound}
 use Rattle.note.proofs.Sound.{length-starts, length-ends, normalized-formed, shared_at}
-use Rattle.convert.specs.declared.Converted.{Converted}
-use Rattle.convert.specs.declared.Converted.TheVariants.{Found, Refused}
 use Rattle.convert.specs.Converting.{as_normalized}
 use Rattle.script.specs.declared.Command.{Command}
 use Rattle.code_point_blocks.specs.Codes.{text_of}
@@ -37,6 +36,8 @@ use Rattle.lowercase.specs.Lowering.{lower_commands, lowercase_edit, all_images,
 use Rattle.lowercase.proofs.Images.{images-one, images-dotted, images-length, text-one, one-wide, dotted-text}
 use Rattle.lowercase.proofs.Bytes.{by-chars}
 use Rattle.lowercase.proofs.Grown.{value}
+use Rattle.convert.specs.declared.Range.{Range}
+use Rattle.note.specs.declared.Refusal.{Refusal}
 
 -- a character's commands
 lower-one : (c : ℕ) (cs : List ℕ) → eqb c dotted_i ≡ false → lower_commands (c ∷ cs) ≡ replacing 0 (lower_image c) ∷ lower_commands cs
@@ -58,14 +59,14 @@ starved-alike s b (c ∷ cs) p =
 
 -- edits of one range whose commands starve alike
 module _ (s : List ℕ) (cs ds : List Command) (alike : (b p : ℕ) → starved s b p cs ≡ starved s b p ds) where
-  range-starved : (x : Converted) → starved s (edit_of x 0 cs).to (first_position s (edit_of x 0 cs)) (edit_of x 0 cs).commands ≡ starved s (edit_of x 0 ds).to (first_position s (edit_of x 0 ds)) (edit_of x 0 ds).commands
+  range-starved : (x : Result Range Refusal) → starved s (edit_of x 0 cs).to (first_position s (edit_of x 0 cs)) (edit_of x 0 cs).commands ≡ starved s (edit_of x 0 ds).to (first_position s (edit_of x 0 ds)) (edit_of x 0 ds).commands
   unfolding first_position
-  range-starved (Found r) = alike _ _
-  range-starved (Refused k) = refl
+  range-starved (Ok r) = alike _ _
+  range-starved (Err k) = refl
 
-  range-placed : (x : Converted) → char_range s (edit_of x 0 cs).from (edit_of x 0 cs).to ≡ char_range s (edit_of x 0 ds).from (edit_of x 0 ds).to
-  range-placed (Found r) = refl
-  range-placed (Refused k) = refl
+  range-placed : (x : Result Range Refusal) → char_range s (edit_of x 0 cs).from (edit_of x 0 cs).to ≡ char_range s (edit_of x 0 ds).from (edit_of x 0 ds).to
+  range-placed (Ok r) = refl
+  range-placed (Err k) = refl
 
 -- what the commands give, to the text
 lower-text : (s : List ℕ) (b : ℕ) (cs : List ℕ) (p : ℕ) → produced characters s b p (lower_commands cs) ≡ text_of (all_images cs)
@@ -205,7 +206,7 @@ pub lowercased-closed : LowercasedClosed
 unfolding lowercase_edit map_edit
 lowercased-closed n sound =
     let codes : List ℕ = codes_of n.normalized in
-    let x : Converted = as_normalized n.starts n.ends (whole_range n) in
+    let x : Result Range Refusal = as_normalized n.starts n.ends (whole_range n) in
     let alike : (b p : ℕ) → starved n.normalized b p (lower_commands codes) ≡ starved n.normalized b p (all_replacing codes) = λ b p. starved-alike n.normalized b codes p in
     let m = mapped-closed n codes sound (codes-chars n.normalized) in
     record {

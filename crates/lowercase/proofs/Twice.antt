@@ -16,8 +16,7 @@ use Rattle.utf8.proofs.Boundaries.{CharAt, char-at, boundary-zero, boundary-begi
 use Rattle.utf8.proofs.Scalar.{scalar-distinct}
 use Rattle.utf8.proofs.LenUtf8.{size-some, bytes-formed}
 use Rattle.note.specs.declared.Refusal.{Refusal}
-use Rattle.note.specs.declared.Verdict.TheVariants.{Accepted}
-use Rattle.note.specs.Refusals.{none, also, verdict}
+use Rattle.note.specs.Refusals.{none, also, verdict, Accepted}
 use Rattle.note.specs.Notes.{Note, fits, Sound}
 use Rattle.note.specs.Faults.{note_faults}
 use Rattle.note.proofs.FirstMet.{accepted-first, accepted-second, both-accepted}

@@ -1,14 +1,12 @@
 -- RULES 8.8: `lowercase` by the commands that the Rust builds, and in plain words beside it (Rust: `lowercase`).
-use Rattle.std.specs.Prelude.{ℕ, ◌+◌, ◌≡◌, Bool, cond, List, [], ◌∷◌, ◌++◌, ltb, eqb, length, replicate}
+use Rattle.std.specs.Prelude.{ℕ, ◌+◌, ◌≡◌, Bool, cond, List, [], ◌∷◌, ◌++◌, ltb, eqb, length, replicate, Result}
 use Rattle.note.specs.declared.Refusal.{Refusal}
-use Rattle.note.specs.declared.Verdict.TheVariants.{Accepted}
-use Rattle.note.specs.Refusals.{none, verdict, OnThree}
+use Rattle.note.specs.Refusals.{none, verdict, OnThree, Accepted}
 use Rattle.note.specs.Notes.{Note, lent, Sound}
 use Rattle.script.specs.declared.Command.{Command}
 use Rattle.code_point_blocks.specs.Codes.{text_of}
 use Rattle.map_columns.specs.Spreading.{of_chars}
 use Rattle.edit_steps.specs.Edits.{Edit, transformed}
-use Rattle.transform.specs.declared.Editing.{Editing}
 use Rattle.transform.specs.Transforming.{range_edit, call_faults, NoteCall}
 use Rattle.edits.specs.Characters.{codes_of}
 use Rattle.edits.specs.Whole.{whole_range, replacing_first, map_edit}
@@ -29,7 +27,7 @@ abbrev pub lowercase_faults : ℕ → Note → ℕ → Refusal → Bool
 lowercase_faults most n = call_faults most n none (lowercase_edit n)
 
 -- THE CALL
-abbrev pub LowercaseCall : Note → OnThree Editing
+abbrev pub LowercaseCall : Note → OnThree (Result ℕ Refusal)
 LowercaseCall n = NoteCall n none (lowercase_edit n)
 
 -- in plain words: the code points in the place of all characters, one character after the other

@@ -3,7 +3,7 @@ ghost use Rattle.std.specs.Prelude.{◌≡◌, ◌≤◌, length};
 ghost use Rattle.buffers.specs.Splice.{overlay};
 ghost use Rattle.lowercase.specs.Laying.{ColumnRoom, dotted_at, dotted_pairs, dotted_sum, grown};
 
-use buffers::{Offset, copy_offsets, fill_offsets};
+use buffers::{Offset, copy, fill};
 
 // Whether the two bytes are those of U+0130, as a number.
 fn dotted_at(a: u8, b: u8) -> u8
@@ -19,10 +19,8 @@ fn block_dotted(a: &[u8], b: &[u8]) -> u8
     ensures { result ≡ dotted_sum a.now b.now }
 {
     let mut n: u8 = 0;
-    let mut i = 0;
-    while i < a.len() {
-        n += dotted_at(a[i], b[i]);
-        i += 1;
+    for (i, byte) in a.iter().enumerate() {
+        n += dotted_at(*byte, b[i]);
     }
     n
 }
@@ -35,11 +33,12 @@ pub fn count_dotted(text: &[u8]) -> usize
         return 0;
     }
     let mut n: usize = 0;
-    let mut i = 0;
-    while i + 128 < text.len() {
+    let blocks = (text.len() - 1) / 128;
+    for block in 0..blocks {
+        let i = block * 128;
         n += block_dotted(&text[i..i + 128], &text[i + 1..i + 129]) as usize;
-        i += 128;
     }
+    let i = blocks * 128;
     n + (block_dotted(&text[i..text.len() - 1], &text[i + 1..]) as usize)
 }
 
@@ -50,17 +49,15 @@ pub fn lay_column(text: &[u8], column: &[Offset], size: usize, out: &mut [Offset
     ensures { out.new ≡ overlay (grown text.now column.now) out.old }
 {
     if size == text.len() {
-        copy_offsets(column, out, 0);
+        copy(column, out, 0);
         return;
     }
     let mut before: u8 = 0;
     let mut at = 0;
-    let mut i = 0;
-    while i < text.len() {
-        let count = 1 + dotted_at(before, text[i]) as usize;
-        fill_offsets(column[i], count, out, at);
+    for (i, byte) in text.iter().enumerate() {
+        let count = 1 + dotted_at(before, *byte) as usize;
+        fill(column[i], count, out, at);
         at += count;
-        before = text[i];
-        i += 1;
+        before = *byte;
     }
 }

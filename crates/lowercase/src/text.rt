@@ -13,11 +13,9 @@ fn lay_block(block: &[u8], out: &mut [u8], at: usize)
     requires { at + length block.now ≤ length out.old }
     ensures { out.new ≡ splice out.old at (lowered_each block.now) }
 {
-    let mut i = 0;
-    while i < block.len() {
-        let b = block[i];
+    for (i, byte) in block.iter().enumerate() {
+        let b = *byte;
         out[at + i] = b + ((0x41 <= b) & (b <= 0x5A)) as u8 * 32;
-        i += 1;
     }
 }
 
@@ -56,10 +54,8 @@ fn none_latin(block: &[u8]) -> bool
     ensures { result ≡ none_latin block.now }
 {
     let mut none = true;
-    let mut i = 0;
-    while i < block.len() {
-        none = none & !((0xC2 <= block[i]) & (block[i] <= 0xC5));
-        i += 1;
+    for byte in block {
+        none = none & !((0xC2 <= *byte) & (*byte <= 0xC5));
     }
     none
 }
@@ -71,11 +67,9 @@ fn latin_places(block: &[u8], places: &mut [u8]) -> usize
     ensures { PlacesFound block.now places.old result places.new }
 {
     let mut n = 0;
-    let mut i = 0;
-    while i < block.len() {
+    for (i, byte) in block.iter().enumerate() {
         places[n] = i as u8;
-        n += ((0xC2 <= block[i]) & (block[i] <= 0xC5)) as usize;
-        i += 1;
+        n += ((0xC2 <= *byte) & (*byte <= 0xC5)) as usize;
     }
     n
 }
@@ -99,12 +93,10 @@ fn lay_pairs(
     let count = latin_places(&text[from..to], &mut places);
     let mut i = from;
     let mut at = start;
-    let mut q = 0;
-    while q < count {
+    for q in 0..count {
         let j = from + places[q] as usize;
         at = lay_pair(text, j, to, table, out, at + (j - i));
         i = j + 2;
-        q += 1;
     }
     if i < to {
         return Reached {

@@ -20,7 +20,7 @@ use Rattle.utf8.proofs.Chars.{lead-one, lead_zero, leads-drop}
 use Rattle.utf8.specs.Scalar.{len_utf8}
 use Rattle.utf8.proofs.LenUtf8.{size_most, bool-most}
 use Rattle.code_point_blocks.specs.Codes.{text_of, all_scalar}
-use Rattle.code_point_blocks.proofs.Parts.{Parts, no_part, parts-size, one-part, all-parts}
+use Rattle.code_point_blocks.proofs.Parts.{Parts, parts-size, one-part, all-parts}
 use Rattle.map_columns.specs.Spreading.{of_chars, spread}
 use Rattle.map_columns.specs.Laying.{Steady, SpreadRoom, CharsRoom, CharsLaid}
 use Rattle.map_columns.proofs.Bytes.{Character, character}
@@ -112,9 +112,6 @@ pub record Spreading (s starts ends : List ℕ) (p : ℕ) (cs starts₀ ends₀ 
   pub counted : leads (drop p s) ≡ i + leads (drop q s)
   pub starts_carried : Carried s starts p cs starts₀ from until starts₁ q at i
   pub ends_carried : Carried s ends p cs ends₀ from until ends₁ q at i
-
-pub none-spread : {s starts ends : List ℕ} {p : ℕ} {cs starts₀ ends₀ : List ℕ} {from until : ℕ} → p ≤ length s → Spreading s starts ends p cs starts₀ ends₀ from until starts₀ ends₀ p from 0
-none-spread h = record { most = omega arith; inside = h; counted = omega arith; starts_carried = record { parts = no_part }; ends_carried = record { parts = no_part } }
 
 module _ {s starts ends : List ℕ} {p : ℕ} {cs starts₀ ends₀ : List ℕ} {from until : ℕ} (r : CharsRoom s starts ends p cs starts₀ ends₀ from until) {starts₁ ends₁ : List ℕ} {q at i : ℕ} (k : Spreading s starts ends p cs starts₀ ends₀ from until starts₁ ends₁ q at i) where
   pub more-text : i < length cs → q < length s

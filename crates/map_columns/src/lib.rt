@@ -7,8 +7,8 @@ ghost use Rattle.std.specs.Prelude.{◌≡◌, ◌+◌, ◌≤◌, length, repli
 ghost use Rattle.buffers.specs.Over.{Over};
 ghost use Rattle.map_columns.specs.Laying.{CodesLaid, CodesRoom, CharsLaid, CharsRoom, same_leads};
 
-use buffers::lanes::select_or_zero_usize;
-use buffers::{Offset, copy_offsets, fill_offsets};
+use buffers::lanes::select;
+use buffers::{Offset, copy, fill};
 use code_points::lay_text;
 use note::NormalizedByte;
 use utf8::continues;
@@ -27,10 +27,8 @@ fn same_leads(a: &[u8], b: &[u8]) -> bool
     ensures { result ≡ same_leads a.now b.now }
 {
     let mut ok = true;
-    let mut i = 0;
-    while i < a.len() {
-        ok = ok & (continues(a[i]) == continues(b[i]));
-        i += 1;
+    for (i, byte) in a.iter().enumerate() {
+        ok = ok & (continues(*byte) == continues(b[i]));
     }
     ok
 }
@@ -41,10 +39,10 @@ fn fill_char(value: Offset, count: usize, dst: &mut [Offset], at: usize, until: 
     ensures { Over (replicate count value) dst.old at until dst.new }
 {
     if at + 4 <= until {
-        fill_offsets(value, 4, dst, at);
+        fill(value, 4, dst, at);
         return;
     }
-    fill_offsets(value, count, dst, at);
+    fill(value, count, dst, at);
 }
 
 // What the columns have for each character from `position` on, for each code point in its place, laid from `from` on;
@@ -71,7 +69,7 @@ fn lay_chars(
     let mut i = 0;
     while i < codes.len() {
         let lead = !continues(text[q]);
-        let size = select_or_zero_usize(lead, len_utf8(codes[i]));
+        let size = select(lead, len_utf8(codes[i]), 0);
         fill_char(starts[q], size, out_starts, at, until);
         fill_char(ends[q], size, out_ends, at, until);
         at += size;
@@ -107,8 +105,8 @@ pub fn lay_codes(
     if size <= text.len() - first {
         let end = first + size;
         if same_leads(&text[first..end], &out[from..written]) {
-            copy_offsets(&starts[first..end], out_starts, from);
-            copy_offsets(&ends[first..end], out_ends, from);
+            copy(&starts[first..end], out_starts, from);
+            copy(&ends[first..end], out_ends, from);
             return Reached {
                 position: end,
                 written,

@@ -6,14 +6,14 @@ use native.Mathlib.Omega.{arith}
 use lib.ListN.{length, drop, length-append, drop_of_length-le}
 use Rattle.buffers.specs.Splice.{part}
 use Rattle.buffers.proofs.Splice.{length_part}
-use Rattle.name_lines.specs.declared.Line.{Line}
-use Rattle.name_lines.specs.declared.Line.TheVariants.{Good, Faulty}
+use Rattle.std.proofs.Common.{Result, Ok, Err, is_ok}
+use Rattle.std.specs.Bool.{⊤}
 use Rattle.name_lines.specs.declared.LineFault.{LineFault}
+use Rattle.name_lines.specs.declared.BadLine.{BadLine}
 use Rattle.name_lines.specs.declared.Names.{Names}
-use Rattle.name_lines.specs.declared.Names.TheVariants.{Read, Bad}
 use Rattle.name_lines.specs.Lines.{lines_of}
 use Rattle.name_lines.specs.Names.{literal_of, filler_of, line_judged, pairs_in, names_of, words_in, sizes_in, unless_faulty, first_bad, names_answer}
-use Rattle.name_lines.specs.Reading.{end_len, line_len, is_good, Judged}
+use Rattle.name_lines.specs.Reading.{end_len, line_len, Judged}
 use Rattle.name_lines.proofs.Lines.{line-inside, line_at, lines-nil}
 use Rattle.name_lines.proofs.Tabs.{good-tab, length_both}
 
@@ -34,14 +34,15 @@ pub no-sizes : sizes_in (pairs_in []) ≡ []
 unfolding sizes_in pairs_in
 no-sizes = refl
 
-bad-line : (l : List ℕ) (ls : List (List ℕ)) (n : ℕ) (others : Names) → first_bad (l ∷ ls) n others ≡ unless_faulty (line_judged l) n (first_bad ls (n + 1) others)
+bad-line : (l : List ℕ) (ls : List (List ℕ)) (n : ℕ) (others : Result Names BadLine) → first_bad (l ∷ ls) n others ≡ unless_faulty (line_judged l) n (first_bad ls (n + 1) others)
 unfolding first_bad
 bad-line l ls n others = refl
 
 -- what is said from some lines on, after so many bytes and so many lines
-unfoldable pub rest_answer : List (List ℕ) → ℕ → ℕ → Names
+unfoldable pub rest_answer : List (List ℕ) → ℕ → ℕ → Result Names BadLine
 rest_answer ls bytes lines =
-    first_bad ls (lines + 1) (Read (bytes + length (words_in (pairs_in ls))) (2 * lines + length (sizes_in (pairs_in ls))))
+    first_bad ls (lines + 1)
+    (Ok (record { bytes = bytes + length (words_in (pairs_in ls)); sizes = 2 * lines + length (sizes_in (pairs_in ls)) }))
 
 pub record Judging (text : List ℕ) (start bytes lines : ℕ) : Type 0 where
   pub most : start ≤ length text
@@ -56,20 +57,20 @@ none-judged text =
     let k : 0 + length (sizes_in (pairs_in (lines_of text))) ≡ length (sizes_in (pairs_in (lines_of text))) = omega arith in
     record { most = omega arith; short = omega arith; few = omega arith; so_far = rw (m, k) }
 
-rest-good : (l : List ℕ) (ls : List (List ℕ)) (bytes lines : ℕ) → line_judged l ≡ Good → rest_answer (l ∷ ls) bytes lines ≡ rest_answer ls (bytes + (length l - 1)) (lines + 1)
+rest-good : (l : List ℕ) (ls : List (List ℕ)) (bytes lines : ℕ) → line_judged l ≡ Ok tt → rest_answer (l ∷ ls) bytes lines ≡ rest_answer ls (bytes + (length l - 1)) (lines + 1)
 unfolding rest_answer
 rest-good l ls bytes lines good =
-    let tab = good-tab l (ap is_good good) in
+    let tab = good-tab l (ap is_ok good) in
     let m : bytes + length (words_in (pairs_in (l ∷ ls))) ≡ bytes + (length l - 1) + length (words_in (pairs_in ls)) =
     rw (words-line l ls, length-append (literal_of l ++ filler_of l) (words_in (pairs_in ls)), length_both l tab.1) (omega arith) in
     let k : 2 * lines + length (sizes_in (pairs_in (l ∷ ls))) ≡ 2 * (lines + 1) + length (sizes_in (pairs_in ls)) = rw (sizes-line l ls) (omega arith) in
     bad-line l ls (lines + 1) _ ∙ rw (good, m, k)
 
-rest-faulty : (l : List ℕ) (ls : List (List ℕ)) (bytes lines : ℕ) {k : LineFault} → line_judged l ≡ Faulty k → rest_answer (l ∷ ls) bytes lines ≡ Bad (lines + 1) k
+rest-faulty : (l : List ℕ) (ls : List (List ℕ)) (bytes lines : ℕ) {k : LineFault} → line_judged l ≡ Err k → rest_answer (l ∷ ls) bytes lines ≡ Err (record { number = lines + 1; fault = k })
 unfolding rest_answer
 rest-faulty l ls bytes lines bad = bad-line l ls (lines + 1) _ ∙ rw bad
 
-rest-none : (bytes lines : ℕ) → rest_answer [] bytes lines ≡ Read bytes (2 * lines)
+rest-none : (bytes lines : ℕ) → rest_answer [] bytes lines ≡ Ok (record { bytes = bytes; sizes = 2 * lines })
 unfolding rest_answer first_bad
 rest-none bytes lines =
     let m : bytes + 0 ≡ bytes = omega arith in
@@ -80,14 +81,14 @@ module _ {text : List ℕ} {start bytes lines : ℕ} (j : Judging text start byt
   pub judging-inside : {end : ℕ} → end ≡ start + line_len (drop start text) → (start ≤ end) × (end ≤ length text)
   judging-inside is = line-inside text start is j.most
 
-  module _ (h : start < length text) {end : ℕ} (is : end ≡ start + line_len (drop start text)) {r : Line} (told : r ≡ line_judged (part text start end)) where
-    pub good-long : r ≡ Good → 2 ≤ end - start
+  module _ (h : start < length text) {end : ℕ} (is : end ≡ start + line_len (drop start text)) {r : Result ⊤ LineFault} (told : r ≡ line_judged (part text start end)) where
+    pub good-long : r ≡ Ok tt → 2 ≤ end - start
     good-long good =
         let at = line_at text start is h refl in
-        let tab = good-tab (part text start end) (ap is_good (sym told ∙ good)) in
+        let tab = good-tab (part text start end) (ap is_ok (sym told ∙ good)) in
         omega (arith, tab, length_part text start end (omega (arith, at.inside, at.most)))
 
-    pub good-judged : {e : ℕ} → r ≡ Good → e ≡ end_len text end → Judging text (end + e) (bytes + (end - start - 1)) (lines + 1)
+    pub good-judged : {e : ℕ} → r ≡ Ok tt → e ≡ end_len text end → Judging text (end + e) (bytes + (end - start - 1)) (lines + 1)
     good-judged {e} good ends =
         let at = line_at text start is h ends in
         let long = good-long good in
@@ -103,7 +104,7 @@ module _ {text : List ℕ} {start bytes lines : ℕ} (j : Judging text start byt
               ∙ j.so_far;
         }
 
-    pub bad-judged : {k : LineFault} → r ≡ Faulty k → Judged text (Bad (lines + 1) k)
+    pub bad-judged : {k : LineFault} → r ≡ Err k → Judged text (Err (record { number = lines + 1; fault = k }))
     bad-judged {k} bad =
         let at = line_at text start is h refl in
         record {
@@ -114,7 +115,7 @@ module _ {text : List ℕ} {start bytes lines : ℕ} (j : Judging text start byt
           few = tt;
         }
 
-  pub all-judged : length text ≤ start → Judged text (Read bytes (2 * lines))
+  pub all-judged : length text ≤ start → Judged text (Ok (record { bytes = bytes; sizes = 2 * lines }))
   all-judged h =
       record {
         answer =

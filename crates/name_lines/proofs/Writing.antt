@@ -5,13 +5,14 @@ use mathlib.Core.Bool.{true}
 use mathlib.Core.List.{List, [], ◌∷◌, ◌++◌}
 use mathlib.Mathlib.Data.Bool.Basic.{and_elim_left, and_elim_right}
 use native.Mathlib.Omega.{arith}
+use Rattle.std.proofs.Common.{is_ok}
 use lib.ListN.{length, take, drop, set, length-append, drop_of_length-le}
 use lib.Seq.{length-take-le}
 use Rattle.buffers.specs.Splice.{part, splice, overlay}
 use Rattle.buffers.proofs.Splice.{length_part, part_end, length-splice, splice-splice, store-one, store-after, Laying, none-laid, piece-laid, all_laid}
 use Rattle.name_lines.specs.Lines.{lines_of}
 use Rattle.name_lines.specs.Names.{tab_at, literal_of, filler_of, line_judged, pairs_in, names_of, words_in, sizes_in}
-use Rattle.name_lines.specs.Reading.{end_len, line_len, is_good, all_good, LineRoom, LinePut, Writable}
+use Rattle.name_lines.specs.Reading.{end_len, line_len, all_good, LineRoom, LinePut, Writable}
 use Rattle.name_lines.proofs.Lines.{LineAt, line-inside, line_at, lines-nil}
 use Rattle.name_lines.proofs.Tabs.{good-tab, length-literal, length-filler, length_both}
 use Rattle.name_lines.proofs.Judging.{words-line, sizes-line, no_words, no-sizes}
@@ -57,9 +58,9 @@ module _ {line words : List ℕ} {at : ℕ} {sizes : List ℕ} {k : ℕ} (room :
         }
 
 -- lines that are good
-good-cons : (l : List ℕ) (ls : List (List ℕ)) → all_good (l ∷ ls) ≡ true → (is_good (line_judged l) ≡ true) × (all_good ls ≡ true)
+good-cons : (l : List ℕ) (ls : List (List ℕ)) → all_good (l ∷ ls) ≡ true → (is_ok (line_judged l) ≡ true) × (all_good ls ≡ true)
 unfolding all_good
-good-cons l ls h = (and_elim_left (is_good (line_judged l)) _ h, and_elim_right (is_good (line_judged l)) _ h)
+good-cons l ls h = (and_elim_left (is_ok (line_judged l)) _ h, and_elim_right (is_ok (line_judged l)) _ h)
 
 -- the words of the lines before `start` are laid
 pub record Writing (text words₀ sizes₀ words sizes : List ℕ) (start at k : ℕ) : Type 0 where
@@ -89,7 +90,7 @@ module _ {text words₀ sizes₀ words sizes : List ℕ} {start at k : ℕ} (w :
       pub at-line : LineAt text start end (end + e)
       at-line = line_at text start is h ends
 
-      goods : (is_good (line_judged (part text start end)) ≡ true) × (all_good (lines_of (drop (end + e) text)) ≡ true)
+      goods : (is_ok (line_judged (part text start end)) ≡ true) × (all_good (lines_of (drop (end + e) text)) ≡ true)
       goods = good-cons (part text start end) (lines_of (drop (end + e) text)) (rw at-line.lines_are at w.good)
 
       words-from : Laying (words_in (names_of text)) (literal_of (part text start end) ++ filler_of (part text start end) ++ words_in (pairs_in (lines_of (drop (end + e) text)))) words₀ at words

@@ -1,10 +1,8 @@
 -- What the contracts of the inner functions of reading names are said with.
-use Rattle.std.specs.Prelude.{ℕ, suc, ◌+◌, ◌≤◌, ◌<◌, ◌≡◌, Bool, true, false, cond, ◌&&◌, List, [], ◌∷◌, ◌++◌, eqb, length, get_or}
+use Rattle.std.specs.Prelude.{ℕ, suc, ◌+◌, ◌≤◌, ◌<◌, ◌≡◌, Bool, true, cond, ◌&&◌, List, [], ◌∷◌, ◌++◌, eqb, length, get_or, is_ok, IfOk, Result}
 use Rattle.buffers.specs.Splice.{splice, Laid}
-use Rattle.name_lines.specs.declared.Line.{Line}
-use Rattle.name_lines.specs.declared.Line.TheVariants.{Good, Faulty}
+use Rattle.name_lines.specs.declared.BadLine.{BadLine}
 use Rattle.name_lines.specs.declared.Names.{Names}
-use Rattle.name_lines.specs.declared.Names.TheVariants.{Read, Bad}
 use Rattle.name_lines.specs.Lines.{lines_of}
 use Rattle.name_lines.specs.Names.{tab_at, literal_of, filler_of, line_judged, names_of, words_in, sizes_in, names_answer}
 
@@ -18,22 +16,14 @@ line_len [] = 0
 line_len (b ∷ s) = cond (eqb (end_len (b ∷ s) 0) 0) (suc (line_len s)) 0
 
 -- no line is bad
-abbrev pub is_good : Line → Bool
-is_good Good = true
-is_good (Faulty k) = false
-
 unfoldable pub all_good : List (List ℕ) → Bool
 all_good [] = true
-all_good (l ∷ ls) = is_good (line_judged l) && all_good ls
+all_good (l ∷ ls) = is_ok (line_judged l) && all_good ls
 
 -- there are no more bytes and no more sizes than the file has bytes
-abbrev pub Bounded : ℕ → Names → Type 0
-Bounded most (Read bytes sizes) = (bytes ≤ most) × (sizes ≤ most)
-Bounded most (Bad n k) = Unit {0}
-
-pub record Judged (text : List ℕ) (r : Names) : Type 0 where
+pub record Judged (text : List ℕ) (r : Result Names BadLine) : Type 0 where
   pub answer : r ≡ names_answer text
-  pub few : Bounded (length text) r
+  pub few : IfOk r (λ n. (n.bytes ≤ length text) × (n.sizes ≤ length text))
 
 -- a line with a tab, room for its words and for their sizes
 pub record LineRoom (line words : List ℕ) (at : ℕ) (sizes : List ℕ) (k : ℕ) : Type 0 where

@@ -7,7 +7,8 @@ ghost use Rattle.buffers.specs.Splice.{overlay};
 ghost use Rattle.name_lines.specs.Names.{line_judged, names_of, NamesRead, sizes_in, tab_at, words_in};
 ghost use Rattle.name_lines.specs.Reading.{end_len, Judged, line_len, LinePut, LineRoom, Writable};
 
-use buffers::copy_bytes;
+use buffers::copy;
+use std::fmt;
 use validity::well_formed;
 
 // What is wrong with a line.
@@ -19,19 +20,37 @@ pub enum LineFault {
     NoLiteral,
 }
 
-// What is said of a line.
-#[derive(Clone, Copy)]
-enum Line {
-    Good,
-    Faulty(LineFault),
+impl fmt::Display for LineFault {
+    fn fmt<W: fmt::Write>(&self, f: &mut fmt::Formatter<W>) -> fmt::Result {
+        match self {
+            LineFault::NotUtf8 => write!(f, "it is not UTF-8; save the names file as UTF-8"),
+            LineFault::NoTab => write!(f, "it has no tab between a literal and a filler"),
+            LineFault::TwoTabs => write!(f, "it has more than one tab"),
+            LineFault::NoLiteral => write!(f, "it has no literal before the tab"),
+        }
+    }
 }
 
-// What is said of a names file: how many bytes of words and how many sizes were written; or the number of the first bad
-// line, counted from 1, and what is wrong with it.
+// A bad line: its number, counted from 1, and what is wrong with it.
 #[derive(Clone, Copy)]
-pub enum Names {
-    Read(usize, usize),
-    Bad(usize, LineFault),
+pub struct BadLine {
+    pub number: usize,
+    pub fault: LineFault,
+}
+
+impl fmt::Display for BadLine {
+    fn fmt<W: fmt::Write>(&self, f: &mut fmt::Formatter<W>) -> fmt::Result {
+        let number = self.number;
+        let fault = self.fault;
+        write!(f, "line {number}: {fault}")
+    }
+}
+
+// How many bytes of words a names file has, and how many sizes.
+#[derive(Clone, Copy)]
+pub struct Names {
+    pub bytes: usize,
+    pub sizes: usize,
 }
 
 // How many bytes end a line at `i`: an LF, a CR and an LF, or none.
@@ -59,53 +78,44 @@ fn line_end(text: &[u8], start: usize) -> usize
     requires { start ≤ length text.now }
     ensures { result ≡ start + line_len (drop start text.now) }
 {
-    let mut i = start;
-    while i < text.len() {
+    for i in start..text.len() {
         if end_len(text, i) != 0 {
             return i;
         }
-        i += 1;
     }
-    i
+    text.len()
 }
 
 // Where the first tab is; the line's length where there is none.
 fn tab_at(line: &[u8]) -> usize
     ensures { result ≡ tab_at line.now }
 {
-    let mut i = 0;
-    while i < line.len() {
-        if line[i] == b'\t' {
-            return i;
-        }
-        i += 1;
-    }
-    i
+    line.iter().position(|b| *b == b'\t').unwrap_or(line.len())
 }
 
-// Whether a line has a literal, one tab and a filler.
-fn judge_line(line: &[u8]) -> Line
+// Whether a line has a literal, one tab and a filler, or what is wrong with it.
+fn judge_line(line: &[u8]) -> Result<(), LineFault>
     ensures { result ≡ line_judged line.now }
 {
     if !well_formed(line) {
-        return Line::Faulty(LineFault::NotUtf8);
+        return Err(LineFault::NotUtf8);
     }
     let tab = tab_at(line);
     if line.len() <= tab {
-        return Line::Faulty(LineFault::NoTab);
+        return Err(LineFault::NoTab);
     }
     let filler = tab + 1;
     if tab_at(&line[filler..]) < line.len() - filler {
-        return Line::Faulty(LineFault::TwoTabs);
+        return Err(LineFault::TwoTabs);
     }
     if tab == 0 {
-        return Line::Faulty(LineFault::NoLiteral);
+        return Err(LineFault::NoLiteral);
     }
-    Line::Good
+    Ok(())
 }
 
-// What is said of a names file. Nothing is written.
-fn judge_names(text: &[u8]) -> Names
+// What a names file has, or its first bad line. Nothing is written.
+fn judge_names(text: &[u8]) -> Result<Names, BadLine>
     ensures { Judged text.now result }
 {
     let mut start = 0;
@@ -113,15 +123,20 @@ fn judge_names(text: &[u8]) -> Names
     let mut lines = 0;
     while start < text.len() {
         let end = line_end(text, start);
-        let line = judge_line(&text[start..end]);
-        if let Line::Faulty(fault) = line {
-            return Names::Bad(lines + 1, fault);
+        lines += 1;
+        if let Err(fault) = judge_line(&text[start..end]) {
+            return Err(BadLine {
+                number: lines,
+                fault,
+            });
         }
         bytes += end - start - 1;
-        lines += 1;
         start = end + end_len(text, end);
     }
-    Names::Read(bytes, 2 * lines)
+    Ok(Names {
+        bytes,
+        sizes: 2 * lines,
+    })
 }
 
 // The literal and the filler of a line, in `words` from `at` on, and their sizes, in `sizes` from `k` on. The answer is
@@ -133,8 +148,8 @@ fn put_line(line: &[u8], words: &mut [u8], at: usize, sizes: &mut [u32], k: usiz
 {
     let tab = tab_at(line);
     let filler = tab + 1;
-    copy_bytes(&line[..tab], words, at);
-    copy_bytes(&line[filler..], words, at + tab);
+    copy(&line[..tab], words, at);
+    copy(&line[filler..], words, at + tab);
     sizes[k] = tab as u32;
     sizes[k + 1] = (line.len() - filler) as u32;
     at + line.len() - 1
@@ -160,15 +175,13 @@ fn write_names(text: &[u8], words: &mut [u8], sizes: &mut [u32])
 // The pairs of a names file: all words in front of `words`, and their sizes in front of `sizes`. A file with a bad line
 // leaves both as they were.
 // An inner function: its caller has found each buffer as long as the file, which has fewer than 2^32 bytes.
-pub fn read_names(text: &[u8], words: &mut [u8], sizes: &mut [u32]) -> Names
+pub fn read_names(text: &[u8], words: &mut [u8], sizes: &mut [u32]) -> Result<Names, BadLine>
     requires { (length text.now ≤ length words.old) × (length text.now ≤ length sizes.old)
         × (length text.now < 0x100000000) }
     ensures { NamesRead text.now words.old sizes.old result
         words.new sizes.new }
 {
-    let names = judge_names(text);
-    if let Names::Read(_, _) = names {
-        write_names(text, words, sizes);
-    }
-    names
+    let names = judge_names(text)?;
+    write_names(text, words, sizes);
+    Ok(names)
 }

@@ -7,10 +7,10 @@ use mathlib.Core.List.{List}
 use lib.Dec.{leb}
 use lib.ListN.{length}
 use borrow.Author.Tests.{leb-true, not-false, le-leb, lt-leb}
+use Rattle.std.specs.Prelude.{Err}
 use Rattle.utf8.specs.Formed.{well_formed}
 use Rattle.note.specs.declared.Refusal.TheVariants.{IllFormed, TooLong, LengthMismatch, Misaligned, NoRoom}
-use Rattle.note.specs.declared.Verdict.TheVariants.{Accepted, Refused}
-use Rattle.note.specs.Refusals.{verdict}
+use Rattle.note.specs.Refusals.{verdict, Accepted}
 use Rattle.note.specs.Notes.{Note, fits, paired, texts_formed, aligned, Sound}
 use Rattle.note.specs.Faults.{note_faults, text_faults, string_faults, room_faults, AcceptedSound}
 use Rattle.note.proofs.FirstMet.{accepted-meets}
@@ -49,7 +49,7 @@ pub room-enough : (size room : ℕ) → verdict (room_faults size room) ≡ Acce
 room-enough size room e = leb-true size room (not-false (leb size room) (accepted-meets (room_faults size room) e NoRoom))
 
 -- a room that is too small, and one that is not
-pub no_room : {size room : ℕ} → room < size → Refused NoRoom ≡ verdict (room_faults size room)
+pub no_room : {size room : ℕ} → room < size → Err NoRoom ≡ verdict (room_faults size room)
 unfolding verdict
 no_room {size} {room} h = simp (lt-leb size room h)
 

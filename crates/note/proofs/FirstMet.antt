@@ -1,6 +1,6 @@
 -- Laws of `verdict`: what it says of the conditions, and how the conditions of two inputs are judged together, one after the other or
 -- both at once. Nothing above goes by cases over all refusals.
-use Prim.Native.Nat.{ℕ, suc, ◌≤◌, ◌<◌}
+use Prim.Native.Nat.{ℕ, suc}
 use mathlib.Core.Path.{◌≡◌, ◌∙◌, ap, refl, sym}
 use mathlib.Core.Bool.{Bool, true, false, cond, ◌&&◌, ◌||◌, not, or-false, or-true}
 use mathlib.Core.List.Memᴰ
@@ -11,12 +11,11 @@ use native.Mathlib.Omega.{arith}
 use lib.Dec.{eqb, ltb}
 use lib.ListN.{take, drop, take-append-drop}
 use borrow.Author.Tests.{eqb-true, eq-eqb, not-true, lt-ltb, le-ltb, ltb-true, ltb-false}
+use Rattle.std.specs.Prelude.{Ok, Err}
 use Rattle.buffers.proofs.Cases.{clash, true-or-false}
 use Rattle.note.specs.declared.Refusal.{Refusal}
 use Rattle.note.specs.declared.Refusal.TheVariants.{IllFormed, TooLong, LengthMismatch, Misaligned, NotBoundary, BadScript, Exhausted, BadMatches, NoRoom, Missing, CountMismatch}
-use Rattle.note.specs.declared.Verdict.{Verdict}
-use Rattle.note.specs.declared.Verdict.TheVariants.{Accepted, Refused}
-use Rattle.note.specs.Refusals.{number_of, order, first_met, verdict, also}
+use Rattle.note.specs.Refusals.{number_of, order, first_met, verdict, also, Verdict, Accepted}
 use Rattle.note.specs.Rank.{rank_in, rank, says, earlier}
 
 -- every refusal has its turn, and its own number
@@ -55,7 +54,7 @@ same_number : (j k : Refusal) → eqb (number_of j) (number_of k) ≡ true → j
 same_number j k e = sym (of_number_lem j) ∙ ap of_number (eqb-true (number_of j) (number_of k) e) ∙ of_number_lem k
 
 -- an accepted input meets no condition, and one that meets none is accepted
-not-met : (t : Bool) (k : Refusal) (v : Verdict) → cond t (Refused k) v ≡ Accepted → (t ≡ false) × (v ≡ Accepted)
+not-met : (t : Bool) (k : Refusal) (v : Verdict) → cond t (Err k) v ≡ Accepted → (t ≡ false) × (v ≡ Accepted)
 not-met true k v e = let z : ◌≡◌ {A = ℕ} 0 1 = cc in absurd (omega arith)
 not-met false k v e = (refl, e)
 
@@ -93,8 +92,8 @@ module _ (f g : Refusal → Bool) (e : verdict (also f g) ≡ Accepted) where
 
 -- ONE AFTER THE OTHER: the second input is judged where the first is accepted
 abbrev pub then : Verdict → Verdict → Verdict
-then Accepted w = w
-then (Refused k) w = Refused k
+then (Ok tt) w = w
+then (Err k) w = Err k
 
 -- none of these conditions is met; it computes for the conditions that a call names
 abbrev pub unmet : List Refusal → (Refusal → Bool) → Bool
@@ -119,8 +118,8 @@ met-second [] f g u = refl
 met-second (k ∷ ks) f g u = rw (not-true (f k) (and_elim_left (not (f k)) (unmet ks f) u), met-second ks f g (and_elim_right (not (f k)) _ u))
 
 pub then-accepted : (v : Verdict) → then v Accepted ≡ v
-then-accepted Accepted = refl
-then-accepted (Refused k) = refl
+then-accepted (Ok tt) = refl
+then-accepted (Err k) = refl
 
 -- the first input meets none but the first r conditions of the order, the second none of these
 module _ (r : ℕ) (f g : Refusal → Bool) (low : unmet (drop r order) f ≡ true) (high : unmet (take r order) g ≡ true) where
@@ -135,7 +134,7 @@ module _ (r : ℕ) (f g : Refusal → Bool) (low : unmet (drop r order) f ≡ tr
       (sym (rw (cut-verdict f, cut-verdict g, met-unmet (drop r order) f low, met-unmet (take r order) g high, then-accepted (first_met (take r order) f))))
 
   -- as an entry point meets it: the first verdict refuses, or it accepts and the second one is given
-  pub refused-then : {v : Verdict} {k : Refusal} → v ≡ verdict f → v ≡ Refused k → Refused k ≡ verdict (also f g)
+  pub refused-then : {v : Verdict} {k : Refusal} → v ≡ verdict f → v ≡ Err k → Err k ≡ verdict (also f g)
   refused-then e is = sym (verdict-then ∙ rw (← e, is))
 
   pub accepted-then : {v w : Verdict} → v ≡ verdict f → v ≡ Accepted → w ≡ verdict g → w ≡ verdict (also f g)
@@ -143,8 +142,8 @@ module _ (r : ℕ) (f g : Refusal → Bool) (low : unmet (drop r order) f ≡ tr
 
 -- one more condition of the last refusal, which the first input may meet as well
 then-then : (u v w : Verdict) → then (then u v) w ≡ then u (then v w)
-then-then Accepted v w = refl
-then-then (Refused k) v w = refl
+then-then (Ok tt) v w = refl
+then-then (Err k) v w = refl
 
 pub last_then : (f g : Refusal → Bool) → unmet (take (rank NoRoom) order) g ≡ true → verdict (also f g) ≡ then (verdict f) (verdict g)
 unfolding verdict
@@ -186,20 +185,20 @@ next-turn : (j k : Refusal) (ks : List Refusal) → eqb (number_of j) (number_of
 next-turn j k ks u m =
     ⊎_elim (λ is. clash (eqb (number_of j) (number_of k)) (eq-eqb _ _ (ap number_of is)) u) (λ more. more) (Memᴰ.cases_cons m)
 
-met-one : (ks : List Refusal) (k : Refusal) → Memᴰ k ks → first_met ks (says (Refused k)) ≡ Refused k
+met-one : (ks : List Refusal) (k : Refusal) → Memᴰ k ks → first_met ks (says (Err k)) ≡ Err k
 met-one [] k m = absurd (Memᴰ.not-nil m)
 met-one (j ∷ ks) k m =
     true-or-false (eqb (number_of k) (number_of j))
-    (λ t. rw t (ap Refused (sym (same_number k j t))))
+    (λ t. rw t (ap Err (sym (same_number k j t))))
     (λ u. rw u (met-one ks k (next-turn k j ks u m)))
 
-met-two : (ks : List Refusal) (j k : Refusal) → Memᴰ j ks → first_met ks (also (says (Refused j)) (says (Refused k))) ≡ cond (ltb (rank_in ks k) (rank_in ks j)) (Refused k) (Refused j)
+met-two : (ks : List Refusal) (j k : Refusal) → Memᴰ j ks → first_met ks (also (says (Err j)) (says (Err k))) ≡ Err (cond (ltb (rank_in ks k) (rank_in ks j)) k j)
 met-two [] j k m = absurd (Memᴰ.not-nil m)
 met-two (i ∷ ks) j k m =
     true-or-false (eqb (number_of j) (number_of i))
-    (λ t. rw (t, le-ltb (rank_in (i ∷ ks) k) 0 (omega arith)) (ap Refused (sym (same_number j i t))))
+    (λ t. rw (t, le-ltb (rank_in (i ∷ ks) k) 0 (omega arith)) (ap Err (sym (same_number j i t))))
     (λ u. true-or-false (eqb (number_of k) (number_of i))
-    (λ t. rw (u, t, lt-ltb 0 (suc (rank_in ks j)) (omega arith)) (ap Refused (sym (same_number k i t))))
+    (λ t. rw (u, t, lt-ltb 0 (suc (rank_in ks j)) (omega arith)) (ap Err (sym (same_number k i t))))
     (λ w. rw (u, w, ltb-suc (rank_in ks k) (rank_in ks j)) (met-two ks j k (next-turn j i ks u m))))
   where
     ltb-suc : (a b : ℕ) → ltb (suc a) (suc b) ≡ ltb a b
@@ -207,30 +206,23 @@ met-two (i ∷ ks) j k m =
 
 -- the cases of the code
 said-alone : (v : Verdict) → first_met order (says v) ≡ v
-said-alone Accepted = refl
-said-alone (Refused k) = met-one order k (within-order k)
+said-alone (Ok tt) = refl
+said-alone (Err k) = met-one order k (within-order k)
 
 pub earlier-first : {v w : Verdict} → v ≡ Accepted → w ≡ earlier v w
 unfolding verdict earlier
 earlier-first {v} {w} e = sym (rw e (said-alone w))
 
-pub earlier-second : {v w : Verdict} {j : Refusal} → v ≡ Refused j → w ≡ Accepted → Refused j ≡ earlier v w
+pub earlier-second : {v w : Verdict} {j : Refusal} → v ≡ Err j → w ≡ Accepted → Err j ≡ earlier v w
 unfolding verdict earlier
-earlier-second {v} {w} {j} e d = sym (rw (e, d) (met-first order (says (Refused j)) (says Accepted) refl ∙ said-alone (Refused j)))
+earlier-second {v} {w} {j} e d = sym (rw (e, d) (met-first order (says (Err j)) (says Accepted) refl ∙ said-alone (Err j)))
 
-module _ {v w : Verdict} {j k : Refusal} (e : v ≡ Refused j) (d : w ≡ Refused k) {a b : ℕ} (first : a ≡ rank k) (second : b ≡ rank j) where
-  two : cond (ltb a b) (Refused k) (Refused j) ≡ earlier v w
-  unfolding verdict earlier
-  two = sym (rw (e, d, first, second) (met-two order j k (within-order j)))
-
-  pub earlier-less : a < b → Refused k ≡ earlier v w
-  earlier-less h = rw (lt-ltb a b h) at two
-
-  pub earlier-most : b ≤ a → Refused j ≡ earlier v w
-  earlier-most h = rw (le-ltb a b h) at two
+pub earlier-both : {v w : Verdict} {i j k : Refusal} → v ≡ Err j → w ≡ Err k → i ≡ cond (ltb (rank k) (rank j)) k j → Err i ≡ earlier v w
+unfolding verdict earlier
+earlier-both {j = j} {k = k} e d is = ap Err is ∙ sym (rw (e, d) (met-two order j k (within-order j)))
 
 -- the verdict of one condition
-pub refused-when : {met : Bool} {k : Refusal} → met ≡ true → Refused k ≡ cond met (Refused k) Accepted
+pub refused-when : {met : Bool} {k : Refusal} → met ≡ true → Err k ≡ cond met (Err k) Accepted
 refused-when e = rw e
 
 -- two inputs that are accepted are accepted together

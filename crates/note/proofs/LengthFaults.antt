@@ -6,20 +6,19 @@ use mathlib.Core.List.{List}
 use lib.Dec.{eqb}
 use lib.ListN.{length}
 use borrow.Author.Tests.{eqb-true, not-false}
+use Rattle.std.specs.Prelude.{Err}
 use Rattle.note.specs.declared.Refusal.{Refusal}
 use Rattle.note.specs.declared.Refusal.TheVariants.{LengthMismatch}
-use Rattle.note.specs.declared.Verdict.{Verdict}
-use Rattle.note.specs.declared.Verdict.TheVariants.{Accepted, Refused}
-use Rattle.note.specs.Refusals.{also, verdict}
+use Rattle.note.specs.Refusals.{also, verdict, Verdict, Accepted}
 use Rattle.note.specs.Rank.{earlier}
 use Rattle.note.specs.Faults.{length_faults}
 use Rattle.note.proofs.FirstMet.{accepted-meets, accepted-first, accepted-second, earlier-of}
 
-list-verdict : (starts ends : List ℕ) → cond (not (eqb (length starts) (length ends))) (Refused LengthMismatch) Accepted ≡ verdict (length_faults starts ends)
+list-verdict : (starts ends : List ℕ) → cond (not (eqb (length starts) (length ends))) (Err LengthMismatch) Accepted ≡ verdict (length_faults starts ends)
 unfolding verdict
 list-verdict starts ends = refl
 
-module _ (f : Refusal → Bool) (starts ends : List ℕ) {v w u : Verdict} (p : v ≡ verdict f) (q : w ≡ cond (not (eqb (length starts) (length ends))) (Refused LengthMismatch) Accepted) (both : u ≡ earlier v w) where
+module _ (f : Refusal → Bool) (starts ends : List ℕ) {v w u : Verdict} (p : v ≡ verdict f) (q : w ≡ cond (not (eqb (length starts) (length ends))) (Err LengthMismatch) Accepted) (both : u ≡ earlier v w) where
   pub beside-list : u ≡ verdict (also f (length_faults starts ends))
   beside-list = earlier-of f (length_faults starts ends) p (q ∙ list-verdict starts ends) both
 

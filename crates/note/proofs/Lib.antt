@@ -7,3 +7,4 @@ pub mod Starting
 pub mod Stretch
 pub mod Numbers
 pub mod LengthFaults
+pub mod Order

@@ -4,8 +4,7 @@ use Rattle.std.specs.Prelude.{ℕ, ◌≡◌, Bool, true, not, List, leb, eqb, l
 use Rattle.utf8.specs.Formed.{well_formed}
 use Rattle.note.specs.declared.Refusal.{Refusal}
 use Rattle.note.specs.declared.Refusal.TheVariants.{IllFormed, TooLong, LengthMismatch, Misaligned, NoRoom}
-use Rattle.note.specs.declared.Verdict.TheVariants.{Accepted}
-use Rattle.note.specs.Refusals.{none, meets, verdict}
+use Rattle.note.specs.Refusals.{none, meets, verdict, Accepted}
 use Rattle.note.specs.Notes.{Note, fits, paired, texts_formed, aligned, Sound}
 
 -- a note: too long, uneven, not UTF-8, not aligned

@@ -1,6 +1,7 @@
 -- RULES 1: the note, its limits, and when it is sound.
 use Rattle.std.specs.Prelude.{ℕ, zero, suc, ◌+◌, ◌-◌, ◌≡◌, Bool, true, cond, ◌&&◌, ◌||◌, not, List, leb, eqb, length, get_or}
 use Rattle.buffers.specs.Every.{every_below}
+use Rattle.note.specs.declared.NormalizedString.{NormalizedString}
 use Rattle.utf8.specs.Formed.{well_formed, continues, boundary}
 
 -- transcript, cleaned text, one alignment (start, end) for each cleaned byte in two columns, shift; the Rust's names
@@ -15,6 +16,10 @@ pub record Note : Type 0 where
 abbrev pub lent : List ℕ → List ℕ → List ℕ → List ℕ → ℕ → Note
 lent original normalized starts ends shift =
     record { original = original; normalized = normalized; starts = starts; ends = ends; original_shift = shift }
+
+-- the note that is passed to a call
+abbrev pub passed : NormalizedString → Note
+passed n = lent n.original.now n.normalized.now n.starts.now n.ends.now n.original_shift
 
 -- the most bytes that a text has, and that a shift and a transcript have together; `LIMIT` in the code
 abbrev pub limit : ℕ

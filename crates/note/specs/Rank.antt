@@ -1,9 +1,7 @@
 -- The earlier of two verdicts, for inputs that are judged apart and answered together.
-use Rattle.std.specs.Prelude.{ℕ, suc, Bool, false, cond, List, [], ◌∷◌, eqb}
+use Rattle.std.specs.Prelude.{ℕ, suc, Bool, false, cond, List, [], ◌∷◌, eqb, Ok, Err}
 use Rattle.note.specs.declared.Refusal.{Refusal}
-use Rattle.note.specs.declared.Verdict.{Verdict}
-use Rattle.note.specs.declared.Verdict.TheVariants.{Accepted, Refused}
-use Rattle.note.specs.Refusals.{number_of, order, verdict, also}
+use Rattle.note.specs.Refusals.{number_of, order, verdict, also, Verdict}
 
 -- how many refusals are judged before this one
 abbrev pub rank_in : List Refusal → Refusal → ℕ
@@ -19,8 +17,8 @@ up_to k = suc (rank k)
 
 -- the one condition that a verdict tells of
 abbrev pub says : Verdict → Refusal → Bool
-says Accepted k = false
-says (Refused j) k = eqb (number_of j) (number_of k)
+says (Ok tt) k = false
+says (Err j) k = eqb (number_of j) (number_of k)
 
 unfoldable pub earlier : Verdict → Verdict → Verdict
 earlier v w = verdict (also (says v) (says w))

@@ -1,6 +1,6 @@
 -- RULES 2: the refusals, the order in which they are judged, and what a refusal leaves. Every call's answer is said
 -- with `verdict`.
-use Rattle.std.specs.Prelude.{ℕ, min, Bool, false, cond, ◌||◌, List, [], ◌∷◌, eqb}
+use Rattle.std.specs.Prelude.{ℕ, min, Bool, false, cond, ◌||◌, List, [], ◌∷◌, eqb, Result, Ok, Err}
 use Rattle.buffers.specs.Splice.{overlay}
 use Rattle.note.specs.declared.Refusal.{Refusal}
 use Rattle.note.specs.declared.Refusal.TheVariants.{
@@ -16,8 +16,6 @@ use Rattle.note.specs.declared.Refusal.TheVariants.{
   Missing,
   CountMismatch,
 }
-use Rattle.note.specs.declared.Verdict.{Verdict}
-use Rattle.note.specs.declared.Verdict.TheVariants.{Accepted, Refused}
 
 -- a refusal's number
 abbrev pub number_of : Refusal → ℕ
@@ -33,10 +31,17 @@ number_of NoRoom = 9
 number_of Missing = 10
 number_of CountMismatch = 11
 
+-- what is said of an input: it is accepted, or why it is refused
+abbrev pub Verdict : Type 0
+Verdict = Result (Unit {0}) Refusal
+
+abbrev pub Accepted : Verdict
+Accepted = Ok tt
+
 -- a verdict as one number: 0 is accepted
 abbrev pub answer_of : Verdict → ℕ
-answer_of Accepted = 0
-answer_of (Refused k) = number_of k
+answer_of (Ok tt) = 0
+answer_of (Err k) = number_of k
 
 -- the order in which conditions are judged
 abbrev pub order : List Refusal
@@ -47,7 +52,7 @@ order =
 
 abbrev pub first_met : List Refusal → (Refusal → Bool) → Verdict
 first_met [] conditions = Accepted
-first_met (k ∷ ks) conditions = cond (conditions k) (Refused k) (first_met ks conditions)
+first_met (k ∷ ks) conditions = cond (conditions k) (Err k) (first_met ks conditions)
 
 -- what is said of an input, from which refusal conditions it meets: the first met, in that order
 unfoldable pub verdict : (Refusal → Bool) → Verdict
@@ -67,8 +72,8 @@ also f g k = f k || g k
 
 -- a call's answer: what it has, or how it tells a refusal
 abbrev pub unless_refused : {A : Type 0} → (Refusal → A) → Verdict → A → A
-unless_refused refused Accepted answer = answer
-unless_refused refused (Refused k) answer = refused k
+unless_refused refused (Ok tt) answer = answer
+unless_refused refused (Err k) answer = refused k
 
 -- a contract on three buffers: what they hold before, the answer, and what they hold after
 abbrev pub OnThree : Type 0 → Type 1
@@ -80,5 +85,5 @@ least a b c = min a (min b c)
 
 -- a buffer after the call: a refusal leaves it, and beyond the result it keeps its contents
 abbrev pub after : Verdict → List ℕ → List ℕ → List ℕ
-after Accepted result before = overlay result before
-after (Refused k) result before = before
+after (Ok tt) result before = overlay result before
+after (Err k) result before = before

@@ -3,8 +3,7 @@ use Rattle.std.specs.Prelude.{ℕ, ◌≤◌, ◌≡◌, true, List, length}
 use Rattle.buffers.specs.Columns.{column}
 use Rattle.utf8.specs.Formed.{well_formed}
 use Rattle.utf8.specs.CharRanges.{char_start, char_end}
-use Rattle.note.specs.declared.Verdict.TheVariants.{Accepted}
-use Rattle.note.specs.Refusals.{verdict}
+use Rattle.note.specs.Refusals.{verdict, Accepted}
 use Rattle.note.specs.Notes.{Note, lent, Sound}
 use Rattle.note.specs.Faults.{note_faults}
 

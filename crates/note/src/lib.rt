@@ -21,27 +21,32 @@ pub struct NormalizedByte(pub u32);
 #[derive(Clone, Copy)]
 pub struct CharIndex(pub u32);
 
-// Why a call is refused, with its number and the word that the programs print (RULES 2).
-#[derive(Clone, Copy)]
+// Why a call is refused, with its number and the word that the programs print (RULES 2). The variants stand in the order
+// in which they are judged, and so they compare: the first judged is the least.
+#[derive(Clone, Copy, Debug, PartialEq, Eq, PartialOrd, Ord)]
 pub enum Refusal {
-    IllFormed, // 1 torn
     TooLong, // 2 overlong
     LengthMismatch, // 3 uneven
+    IllFormed, // 1 torn
     Misaligned, // 4 stray
-    NotBoundary, // 5 off place
     BadScript, // 6 bad script
-    Exhausted, // 7 nothing left
     BadMatches, // 8 broken list
-    NoRoom, // 9 no room
-    Missing, // 10 nothing there
     CountMismatch, // 11 miscounted
+    NotBoundary, // 5 off place
+    Missing, // 10 nothing there
+    Exhausted, // 7 nothing left
+    NoRoom, // 9 no room
 }
 
-// What a call that answers no value says.
+// A note as a call is given it (Rust: `NormalizedString`): the transcript, the cleaned text, a start and an end for each
+// byte of the cleaned text, and how far the transcript is shifted. Any such values may be passed: `check_note` judges.
 #[derive(Clone, Copy)]
-pub enum Verdict {
-    Accepted,
-    Refused(Refusal),
+pub struct NormalizedString<'a> {
+    pub original: &'a [u8],
+    pub normalized: &'a [u8],
+    pub starts: &'a [Offset],
+    pub ends: &'a [Offset],
+    pub original_shift: u32,
 }
 
 // The most bytes that a text has, and that a shift and a transcript have together.

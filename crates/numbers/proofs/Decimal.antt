@@ -70,9 +70,6 @@ pub record CountedDigits (n after count : ℕ) : Type 0 where
   pub rest : count + length (decimal after) ≡ length (decimal n) + 1
   pub most : count + after ≤ n + 1
 
-pub none-counted : {n : ℕ} → CountedDigits n n 1
-none-counted = record { rest = omega arith; most = omega arith }
-
 pub one-counted : {n after count : ℕ} → CountedDigits n after count → 10 ≤ after → CountedDigits n (after / 10) (count + 1)
 one-counted {after = after} c big =
     record { rest = omega (arith, c.rest, length_more after big); most = omega (arith, c.most) }

@@ -2,14 +2,14 @@
 use Prim.Native.Nat.{ℕ, zero, suc, ◌+◌, ◌*◌, ◌-◌, ◌/◌, ◌%◌, ◌^◌, ◌≤◌, ◌<◌}
 use mathlib.Core.Path.{◌≡◌, ap, refl}
 use mathlib.Core.List.{List, [], ◌∷◌}
-use native.Mathlib.Nat.{pow-suc, add-zero}
+use native.Mathlib.Nat.{pow-suc}
 use native.Mathlib.Numerals.{add-one}
 use native.Mathlib.Omega.{arith}
-use lib.ListN.{length, get_or, set, drop_of_length-le, get_or-eq_default}
+use lib.ListN.{length, get_or, drop_of_length-le, get_or-eq_default}
 use lib.Seq.{take-nil, drop-cons}
-use Rattle.buffers.specs.Splice.{part, splice}
+use Rattle.std.specs.Int.{w16, w32, from_le_bytes, to_le_bytes}
+use Rattle.buffers.specs.Splice.{part}
 use Rattle.buffers.proofs.Cases.{le-or-lt}
-use Rattle.buffers.proofs.Splice.{splice-nil, store-after}
 use Rattle.numbers.specs.LittleEndian.{little_endian, value_of, NumberReadBack, BytesWrittenBack}
 
 pub number-read-back : NumberReadBack
@@ -54,15 +54,23 @@ value-at bs at =
     let none : at + 1 + 1 + 0 - (at + 1 + 1) ≡ 0 = omega arith in
     omega (arith, value-part 1 bs at, rw none at (value-part 0 bs (at + 1)))
 
-pub value-at-4 : (bs : List ℕ) (at : ℕ) {low high : ℕ} → low ≡ value_of (part bs at (at + 2)) → high ≡ value_of (part bs (at + 2) (at + 2 + 2)) → low + high * 256 * 256 ≡ value_of (part bs at (at + 4))
-value-at-4 bs at l h =
-    let second : at + 1 + 1 ≡ at + 2 = omega arith in
-    omega (arith, value-at bs at, value-part 3 bs at, rw second at (value-part 2 bs (at + 1)))
+-- as std says it: the number of two bytes, and of four, and the two bytes of a number
+pub value-two : (bs : List ℕ) → length bs ≡ 2 → from_le_bytes w16 bs ≡ value_of bs
+unfolding value_of
+value-two [] h = absurd (omega arith)
+value-two (a ∷ []) h = absurd (omega arith)
+value-two (a ∷ b ∷ []) h = omega arith
+value-two (a ∷ b ∷ c ∷ bs) h = absurd (omega arith)
 
--- the two bytes of a number, stored
-pub value-stored : (d : List ℕ) (n at : ℕ) → n < 256 ^ 2 → at + 2 ≤ length d → set (set d at (n % 256)) (at + 1) (n / 256) ≡ splice d at (little_endian 2 n)
+pub value-four : (bs : List ℕ) → length bs ≡ 4 → from_le_bytes w32 bs ≡ value_of bs
+unfolding value_of
+value-four [] h = absurd (omega arith)
+value-four (a ∷ []) h = absurd (omega arith)
+value-four (a ∷ b ∷ []) h = absurd (omega arith)
+value-four (a ∷ b ∷ c ∷ []) h = absurd (omega arith)
+value-four (a ∷ b ∷ c ∷ d ∷ []) h = omega arith
+value-four (a ∷ b ∷ c ∷ d ∷ e ∷ bs) h = absurd (omega arith)
+
+pub bytes-two : (n : ℕ) → to_le_bytes w16 n ≡ little_endian 2 n
 unfolding little_endian
-value-stored d n at fits h =
-    let high : (n / 256) % 256 ≡ n / 256 = omega arith in
-    let first = rw (splice-nil d at, add-zero at) at (store-after d [] at (n % 256) (omega arith)) in
-    rw (first, high) (store-after d ((n % 256) ∷ []) at (n / 256) (omega arith))
+bytes-two n = refl

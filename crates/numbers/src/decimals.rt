@@ -24,9 +24,7 @@ pub fn write_decimal(number: usize, out: &mut [u8], at: usize) -> usize
 {
     let count = count_digits(number);
     let mut left = number;
-    let mut i = count;
-    while 0 < i {
-        i -= 1;
+    for i in (0..count).rev() {
         out[at + i] = b'0' + (left % 10) as u8;
         left = left / 10;
     }

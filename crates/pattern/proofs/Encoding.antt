@@ -11,6 +11,7 @@ use lib.ListN.{length, get_or, set, take, drop, length-append}
 use lib.Seq.{take-suc, set_at, length-take-le}
 use native.Mathlib.Numerals.{add-one}
 use borrow.Author.Tests.{le-leb, ltb-true}
+use Rattle.std.specs.Prelude.{Some}
 use Rattle.buffers.specs.Splice.{splice, Laid}
 use Rattle.buffers.proofs.Cases.{true-or-false}
 use Rattle.buffers.proofs.Splice.{length-splice, splice-splice}
@@ -18,7 +19,6 @@ use Rattle.numbers.specs.Entries.{read_from}
 use Rattle.numbers.specs.LittleEndian.{little_endian, value_of}
 use Rattle.numbers.proofs.LittleEndian.{number-read-back, length-little_endian}
 use Rattle.pattern.specs.declared.Place.{Place}
-use Rattle.pattern.specs.declared.Entry.TheVariants.{At}
 use Rattle.pattern.specs.Entries.{position_at, place_at, entry_at, places_of, whole_list}
 use Rattle.pattern.specs.Encoding.{place_bytes, encoded_places, writable, all_writable, room_for, ReadBack, RoomEnough}
 use Rattle.pattern.proofs.Entries.{Stepped, entry-step}
@@ -36,7 +36,7 @@ unfolding writable
 writable-end p e = ltb-true p.end.0 (256 ^ 2) (and_elim_right (ltb p.start.0 (256 ^ 2)) _ e)
 
 -- the entry of five bytes, and of a place that was written
-entry-built : (c a b d e : ℕ) (rest : List ℕ) (s t : ℕ) (m : Bool) → (eqb c 11 || eqb c 12) ≡ true → eqb c 12 ≡ m → value_of (a ∷ b ∷ []) ≡ s → value_of (d ∷ e ∷ []) ≡ t → entry_at (c ∷ a ∷ b ∷ d ∷ e ∷ rest) 0 ≡ At (record { start = record { 0 = s }; end = record { 0 = t }; matched = m }) 5
+entry-built : (c a b d e : ℕ) (rest : List ℕ) (s t : ℕ) (m : Bool) → (eqb c 11 || eqb c 12) ≡ true → eqb c 12 ≡ m → value_of (a ∷ b ∷ []) ≡ s → value_of (d ∷ e ∷ []) ≡ t → entry_at (c ∷ a ∷ b ∷ d ∷ e ∷ rest) 0 ≡ Some (record { start = record { 0 = s }; end = record { 0 = t }; matched = m }, 5)
 unfolding entry_at place_at position_at
 entry-built c a b d e rest s t m known is from to = rw (known, is, from, to, le-leb 5 (length (c ∷ a ∷ b ∷ d ∷ e ∷ rest)) (omega arith))
 
@@ -48,7 +48,7 @@ command-matched : (m : Bool) → eqb (cond m 12 11) 12 ≡ m
 command-matched true = refl
 command-matched false = refl
 
-entry-written : (p : Place) (rest : List ℕ) → writable p ≡ true → entry_at (place_bytes p ++ rest) 0 ≡ At p 5
+entry-written : (p : Place) (rest : List ℕ) → writable p ≡ true → entry_at (place_bytes p ++ rest) 0 ≡ Some (p, 5)
 unfolding place_bytes little_endian
 entry-written p rest e =
     entry-built _ _ _ _ _ rest p.start.0 p.end.0 p.matched (command-known p.matched) (command-matched p.matched)

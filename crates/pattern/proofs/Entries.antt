@@ -9,14 +9,13 @@ use lib.Dec.{leb, eqb}
 use lib.ListN.{length, get_or, drop, length-drop}
 use lib.Seq.{drop-drop, get_or-drop}
 use borrow.Author.Tests.{le-leb, lt-leb, leb-true, eq-eqb, ne_eqb}
-use Rattle.buffers.proofs.Cases.{le-or-lt, true-or-false, clash}
+use Rattle.std.specs.Prelude.{Option, Some, None}
+use Rattle.buffers.proofs.Cases.{none-some, some-parts, le-or-lt, true-or-false, clash}
 use Rattle.buffers.proofs.Booleans.{and_false_r}
 use Rattle.numbers.specs.Entries.{read_from}
 use Rattle.numbers.proofs.Entries.{read_step, read-end}
 use Rattle.note.specs.declared.NormalizedByte.{NormalizedByte}
 use Rattle.pattern.specs.declared.Place.{Place}
-use Rattle.pattern.specs.declared.Entry.{Entry}
-use Rattle.pattern.specs.declared.Entry.TheVariants.{At, Broken}
 use Rattle.pattern.specs.Entries.{position_at, place_at, entry_at, of_entry, entry_size, places_of, whole_list, most_places, MostPlaces}
 
 -- whether an entry is a place: its command is known, and its operands are not cut
@@ -25,11 +24,11 @@ test l i = (eqb (get_or l i 0) 11 || eqb (get_or l i 0) 12) && leb (i + 5) (leng
 
 -- by what the code tests
 module _ (l : List ℕ) (i : ℕ) where
-  pub entry-cut : length l < i + 5 → Broken ≡ entry_at l i
+  pub entry-cut : length l < i + 5 → None ≡ entry_at l i
   unfolding entry_at
   entry-cut h = rw (and_false_r (eqb (get_or l i 0) 11 || eqb (get_or l i 0) 12) _ (lt-leb (i + 5) (length l) h))
 
-  pub entry-unknown : (get_or l i 0 ≡ 11 → ⊥) → (get_or l i 0 ≡ 12 → ⊥) → Broken ≡ entry_at l i
+  pub entry-unknown : (get_or l i 0 ≡ 11 → ⊥) → (get_or l i 0 ≡ 12 → ⊥) → None ≡ entry_at l i
   unfolding entry_at
   entry-unknown not-11 not-12 = rw (ne_eqb (get_or l i 0) 11 not-11, ne_eqb (get_or l i 0) 12 not-12)
 
@@ -39,27 +38,27 @@ module _ (l : List ℕ) (i : ℕ) where
       (λ k. rw (eq-eqb (get_or l i 0) 11 (omega arith)))
       (λ k. rw (eq-eqb (get_or l i 0) 12 (omega arith)) (or-true (eqb (get_or l i 0) 11)))
 
-  pub entry_known : i + 5 ≤ length l → (eqb (get_or l i 0) 11 || eqb (get_or l i 0) 12) ≡ true → entry_at l i ≡ At (place_at l i) (i + 5)
+  pub entry_known : i + 5 ≤ length l → (eqb (get_or l i 0) 11 || eqb (get_or l i 0) 12) ≡ true → entry_at l i ≡ Some (place_at l i, i + 5)
   unfolding entry_at
   entry_known h t = rw (t, le-leb (i + 5) (length l) h)
 
-  pub entry_place : {start end : NormalizedByte} → i + 5 ≤ length l → 11 ≤ get_or l i 0 → get_or l i 0 ≤ 12 → start ≡ position_at l (i + 1) → end ≡ position_at l (i + 3) → At (record { start = start; end = end; matched = eqb (get_or l i 0) 12 }) (i + 5) ≡ entry_at l i
+  pub entry_place : {start end : NormalizedByte} → i + 5 ≤ length l → 11 ≤ get_or l i 0 → get_or l i 0 ≤ 12 → start ≡ position_at l (i + 1) → end ≡ position_at l (i + 3) → Some (record { start = start; end = end; matched = eqb (get_or l i 0) 12 }, i + 5) ≡ entry_at l i
   unfolding place_at
   entry_place h low high s e = rw (entry_known h (known low high), s, e)
 
   -- and what an entry tells
-  pub told : {p : Place} {next : ℕ} → entry_at l i ≡ At p next → (test l i ≡ true) × ((place_at l i ≡ p) × (i + 5 ≡ next))
+  pub told : {p : Place} {next : ℕ} → entry_at l i ≡ Some (p, next) → (test l i ≡ true) × ((place_at l i ≡ p) × (i + 5 ≡ next))
   unfolding entry_at
   told {p} {next} e =
       true-or-false (test l i)
-      (λ t. let z : At (place_at l i) (i + 5) ≡ At p next = rw t at e in (t, (cc, cc)))
-      (λ f. let z : Broken ≡ At p next = rw f at e in let y : ◌≡◌ {A = ℕ} 0 1 = cc in absurd (omega arith))
+      (λ t. let z : Some (place_at l i, i + 5) ≡ Some (p, next) = rw t at e in (t, some-parts z))
+      (λ f. none-some (rw f at e))
 
-  told-broken : entry_at l i ≡ Broken → test l i ≡ false
+  told-broken : entry_at l i ≡ None → test l i ≡ false
   unfolding entry_at
   told-broken e =
       true-or-false (test l i)
-      (λ t. let z : At (place_at l i) (i + 5) ≡ Broken = rw t at e in let y : ◌≡◌ {A = ℕ} 0 1 = cc in absurd (omega arith))
+      (λ t. let z : Some (place_at l i, i + 5) ≡ None = rw t at e in let y : ◌≡◌ {A = ℕ} 0 1 = cc in absurd (omega arith))
       (λ f. f)
 
 -- the entry at i is the first one of what is from i on
@@ -69,7 +68,7 @@ position-drop l i k =
     let two : k + 2 - k ≡ i + k + 2 - (i + k) = omega arith in
     rw (drop-drop k i l, two)
 
-entry-drop : (l : List ℕ) (i : ℕ) → i < length l → entry_at (drop i l) 0 ≡ cond (test l i) (At (place_at l i) 5) Broken
+entry-drop : (l : List ℕ) (i : ℕ) → i < length l → entry_at (drop i l) 0 ≡ cond (test l i) (Some (place_at l i, 5)) None
 unfolding entry_at place_at
 entry-drop l i h =
     let z : i + 0 ≡ i = omega arith in
@@ -100,12 +99,12 @@ pub record Stepped (l : List ℕ) (i : ℕ) (p : Place) (next : ℕ) : Type 0 wh
   pub places : places_of (drop i l) ≡ p ∷ places_of (drop next l)
   pub wholes : whole_list (drop i l) ≡ whole_list (drop next l)
 
-pub entry-step : (l : List ℕ) {i : ℕ} {e : Entry} {p : Place} {next : ℕ} → e ≡ entry_at l i → e ≡ At p next → Stepped l i p next
+pub entry-step : (l : List ℕ) {i : ℕ} {e : Option (Place × ℕ)} {p : Place} {next : ℕ} → e ≡ entry_at l i → e ≡ Some (p, next) → Stepped l i p next
 unfolding places_of whole_list
 entry-step l {i} {e} {p} {next} is at =
     let known = told l i (sym is ∙ at) in
     let room : i + 5 ≤ length l = leb-true _ _ (and_elim_right (eqb (get_or l i 0) 11 || eqb (get_or l i 0) 12) _ known.0) in
-    let first : entry_at (drop i l) 0 ≡ At p 5 = entry-drop l i (omega arith) ∙ rw (known.0, known.1.0) in
+    let first : entry_at (drop i l) 0 ≡ Some (p, 5) = entry-drop l i (omega arith) ∙ rw (known.0, known.1.0) in
     let long : entry_size (drop i l) ≡ 5 = rw first in
     let ends : next ≡ i + 5 = omega (arith, known.1.1) in
     record {
@@ -116,10 +115,10 @@ entry-step l {i} {e} {p} {next} is at =
     }
 
 -- an entry that is no place
-pub entry-broken : (l : List ℕ) {i : ℕ} {e : Entry} → i < length l → e ≡ entry_at l i → e ≡ Broken → (places_of (drop i l) ≡ []) × (whole_list (drop i l) ≡ false)
+pub entry-broken : (l : List ℕ) {i : ℕ} {e : Option (Place × ℕ)} → i < length l → e ≡ entry_at l i → e ≡ None → (places_of (drop i l) ≡ []) × (whole_list (drop i l) ≡ false)
 unfolding places_of whole_list
 entry-broken l {i} h is at =
-    let first : entry_at (drop i l) 0 ≡ Broken = entry-drop l i h ∙ rw (told-broken l i (sym is ∙ at)) in
+    let first : entry_at (drop i l) 0 ≡ None = entry-drop l i h ∙ rw (told-broken l i (sym is ∙ at)) in
     let one : entry_size (drop i l) ≡ 1 = rw first in
     (read_step entry_size before [] l h one (omega arith) refl ∙ rw first, read_step entry_size too true l h one (omega arith) refl ∙ rw first)
 
@@ -165,7 +164,7 @@ places-exact l is w = omega (arith, whole-count l w)
 pub most-places : MostPlaces
 most-places l = (places-most l refl, places-exact l refl)
 
-broken-at : (l : List ℕ) (i : ℕ) → test l i ≡ false → entry_at l i ≡ Broken
+broken-at : (l : List ℕ) (i : ℕ) → test l i ≡ false → entry_at l i ≡ None
 unfolding entry_at
 broken-at l i f = rw f
 

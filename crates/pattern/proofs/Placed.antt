@@ -8,6 +8,7 @@ use native.Mathlib.Omega.{arith}
 use lib.Dec.{leb, ltb, eqb}
 use lib.ListN.{length, get_or}
 use borrow.Author.Tests.{le-leb, lt-leb, lt-ltb, le-ltb, eq-eqb, ne_eqb, eqb-true, leb-true, not-true, not-false}
+use Rattle.std.specs.Prelude.{Option, Some, None}
 use Rattle.buffers.specs.Every.{every_below}
 use Rattle.buffers.proofs.Booleans.{and-false-l, and_false_r}
 use Rattle.buffers.proofs.Cases.{le-or-lt, true-or-false}
@@ -17,8 +18,6 @@ use Rattle.buffers.specs.Splice.{part}
 use Rattle.numbers.specs.LittleEndian.{value_of}
 use Rattle.numbers.proofs.LittleEndian.{value-at}
 use Rattle.pattern.specs.declared.Place.{Place}
-use Rattle.pattern.specs.declared.Entry.{Entry}
-use Rattle.pattern.specs.declared.Entry.TheVariants.{At, Broken}
 use Rattle.pattern.specs.declared.blocks.Judged.{Judged}
 use Rattle.pattern.specs.Entries.{position_at, place_at, entry_at}
 use Rattle.pattern.specs.Places.{fits_at}
@@ -124,7 +123,7 @@ module _ {text l : List ℕ} {i : ℕ} (f : Fits text l i) where
     next_place : Covering text l (position_at l (i + 5 * k - 2)).0 (i + 5 * k) → Covering text l (position_at l (i + 5 * suc k - 2)).0 (i + 5 * suc k)
     unfolding place_at
     next_place j =
-        let known : entry_at l (i + 5 * k) ≡ At (place_at l (i + 5 * k)) (i + 5 * k + 5) = entry_known l (i + 5 * k) (omega (arith, f.inside)) place-known in
+        let known : entry_at l (i + 5 * k) ≡ Some (place_at l (i + 5 * k), i + 5 * k + 5) = entry_known l (i + 5 * k) (omega (arith, f.inside)) place-known in
         let here : i + 5 * suc k ≡ i + 5 * k + 5 = omega arith in
         let end : i + 5 * k + 5 - 2 ≡ i + 5 * k + 3 = omega arith in
         rw (here, end) (next-covered j refl known place-fits refl)
@@ -143,9 +142,6 @@ every-none f = refl
 
 pub every_more : (f : ℕ → Bool) {j : ℕ} {ok t : Bool} → ok ≡ every_below j f → t ≡ f j → (ok && t) ≡ every_below (j + 1) f
 every_more f {j} e is = rw (e, is) (sym (every-suc j f))
-
-pub every-end : (n : ℕ) (f : ℕ → Bool) {j : ℕ} {ok : Bool} → j ≡ n → ok ≡ every_below j f → ok ≡ every_below n f
-every-end n f is e = rw is at e
 
 pub stands_by : (text l : List ℕ) (i k : ℕ) {end : ℕ} {t : Bool} → end ≡ value_of (part l (i + 5 * k + 3) (i + 5 * k + 3 + 2)) → t ≡ boundary text end → t ≡ end_stands text l i k
 unfolding end_stands position_at
@@ -169,7 +165,7 @@ blocks-cover text l (suc n) i low j =
     rw t (blocks-cover text l n (i + 80) (omega arith) (block-covered block j)))
     (λ f. rw f j)
 
-first-cover : (text l : List ℕ) {p : Place} {next : ℕ} → entry_at l 0 ≡ At p next → fits_at text 0 p ≡ true → (5 ≤ next) × Covering text l (position_at l (next - 2)).0 next
+first-cover : (text l : List ℕ) {p : Place} {next : ℕ} → entry_at l 0 ≡ Some (p, next) → fits_at text 0 p ≡ true → (5 ≤ next) × Covering text l (position_at l (next - 2)).0 next
 unfolding place_at
 first-cover text l {p} {next} there fit =
     let known = told l 0 there in
@@ -177,13 +173,13 @@ first-cover text l {p} {next} there fit =
     let far : next - 2 ≡ 3 = omega (arith, known.1.1) in
     (omega (arith, known.1.1), rw (far, ← end) (next-covered (none-covered text l) refl there (sym fit) refl))
 
-after-cover : (text l : List ℕ) (e : Entry) → entry_at l 0 ≡ e → Covering text l (judged_after text l e).at (judged_after text l e).next
+after-cover : (text l : List ℕ) (e : Option (Place × ℕ)) → entry_at l 0 ≡ e → Covering text l (judged_after text l e).at (judged_after text l e).next
 unfolding judged_after judged_to
-after-cover text l (At p next) is =
+after-cover text l (Some (p, next)) is =
     true-or-false (fits_at text 0 p)
     (λ t. let first = first-cover text l is t in rw t (blocks-cover text l (length l) next first.0 first.1))
     (λ f. rw f (none-covered text l))
-after-cover text l Broken is = none-covered text l
+after-cover text l None is = none-covered text l
 
 pub judged-cover : JudgedCover
 unfolding judged_blocks
@@ -200,12 +196,12 @@ pub record Going (text l : List ℕ) (second i : ℕ) : Type 0 where
   pub enough : length l ≤ i + left
   pub so_far : blocks_end text l (length l) second ≡ blocks_end text l left i
 
-module _ (text l : List ℕ) {e : Entry} (is : e ≡ entry_at l 0) where
-  pub broken-first : e ≡ Broken → record { at = 0; next = 0 } ≡ judged_blocks text l
+module _ (text l : List ℕ) {e : Option (Place × ℕ)} (is : e ≡ entry_at l 0) where
+  pub broken-first : e ≡ None → record { at = 0; next = 0 } ≡ judged_blocks text l
   unfolding judged_blocks judged_after
   broken-first b = rw (sym is ∙ b)
 
-  module _ {p : Place} {next : ℕ} {t : Bool} (there : e ≡ At p next) (fit : t ≡ fits_at text 0 p) where
+  module _ {p : Place} {next : ℕ} {t : Bool} (there : e ≡ Some (p, next)) (fit : t ≡ fits_at text 0 p) where
     pub unfit-first : not t ≡ true → record { at = 0; next = 0 } ≡ judged_blocks text l
     unfolding judged_blocks judged_after
     unfit-first bad = rw (sym is ∙ there, ← fit, not-true t bad)

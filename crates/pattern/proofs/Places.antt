@@ -8,12 +8,11 @@ use native.Mathlib.Omega.{arith}
 use lib.Dec.{leb, eqb}
 use lib.ListN.{length, drop}
 use borrow.Author.Tests.{le-leb, lt-leb, eq-eqb, ne_eqb, leb-true, eqb-true, not-true, not-false}
+use Rattle.std.specs.Prelude.{Option, Some, None}
 use Rattle.buffers.proofs.Booleans.{and-false-l, and_false_r}
 use Rattle.utf8.specs.Formed.{boundary}
 use Rattle.utf8.proofs.Boundaries.{boundary-most}
 use Rattle.pattern.specs.declared.Place.{Place}
-use Rattle.pattern.specs.declared.Entry.{Entry}
-use Rattle.pattern.specs.declared.Entry.TheVariants.{At, Broken}
 use Rattle.pattern.specs.Entries.{entry_at, places_of, whole_list}
 use Rattle.pattern.specs.Places.{fits_at, covers_from, covers}
 use Rattle.pattern.specs.Placed.{Covering}
@@ -90,7 +89,7 @@ unfolding covers
 none-covered text l = record { same = refl; most = omega arith }
 
 module _ {text l : List ℕ} {at i : ℕ} (j : Covering text l at i) where
-  module _ {entry : Entry} {p : Place} {next : ℕ} {t : Bool} (is : entry ≡ entry_at l i) (there : entry ≡ At p next) (fit : t ≡ fits_at text at p) where
+  module _ {entry : Option (Place × ℕ)} {p : Place} {next : ℕ} {t : Bool} (is : entry ≡ entry_at l i) (there : entry ≡ Some (p, next)) (fit : t ≡ fits_at text at p) where
     step : covers text l ≡ (whole_list (drop next l) && (t && covers_from text p.end.0 (places_of (drop next l))))
     unfolding covers_from
     step = let s : Stepped l i p next = entry-step l is there in j.same ∙ rw (s.places, s.wholes, ← fit)
@@ -101,7 +100,7 @@ module _ {text l : List ℕ} {at i : ℕ} (j : Covering text l at i) where
     pub not_covered : not t ≡ true → false ≡ covers text l
     not_covered e = sym (step ∙ and_false_r (whole_list (drop next l)) _ (and-false-l t _ (not-true t e)))
 
-  pub broken-covered : {entry : Entry} → i < length l → entry ≡ entry_at l i → entry ≡ Broken → false ≡ covers text l
+  pub broken-covered : {entry : Option (Place × ℕ)} → i < length l → entry ≡ entry_at l i → entry ≡ None → false ≡ covers text l
   broken-covered h is e = sym (j.same ∙ and-false-l (whole_list (drop i l)) _ (entry-broken l h is e).1)
 
   pub all-covered : length l ≤ i → eqb at (length text) ≡ covers text l

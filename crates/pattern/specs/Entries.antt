@@ -1,13 +1,11 @@
 -- RULES 9: what is at a byte of a match list. A place is a command, 11 unmatched or 12 matched, and its start and its
 -- end in two little-endian bytes each.
-use Rattle.std.specs.Prelude.{ℕ, ◌+◌, ◌/◌, ◌≤◌, ◌≡◌, Bool, true, false, cond, ◌&&◌, ◌||◌, List, [], ◌∷◌, leb, eqb, length, get_or}
+use Rattle.std.specs.Prelude.{ℕ, ◌+◌, ◌/◌, ◌≤◌, ◌≡◌, Bool, true, false, cond, ◌&&◌, ◌||◌, List, [], ◌∷◌, leb, eqb, length, get_or, Option, Some, None}
 use Rattle.buffers.specs.Splice.{part}
 use Rattle.numbers.specs.Entries.{read_from}
 use Rattle.numbers.specs.LittleEndian.{value_of}
 use Rattle.note.specs.declared.NormalizedByte.{NormalizedByte}
 use Rattle.pattern.specs.declared.Place.{Place}
-use Rattle.pattern.specs.declared.Entry.{Entry}
-use Rattle.pattern.specs.declared.Entry.TheVariants.{At, Broken}
 
 unfoldable pub position_at : List ℕ → ℕ → NormalizedByte
 position_at l i = record { 0 = value_of (part l i (i + 2)) }
@@ -17,14 +15,14 @@ place_at l i =
     record { start = position_at l (i + 1); end = position_at l (i + 3); matched = eqb (get_or l i 0) 12 }
 
 -- a place, and where the next one begins; or an unknown command or a cut operand
-unfoldable pub entry_at : List ℕ → ℕ → Entry
+unfoldable pub entry_at : List ℕ → ℕ → Option (Place × ℕ)
 entry_at l i =
-    cond ((eqb (get_or l i 0) 11 || eqb (get_or l i 0) 12) && leb (i + 5) (length l)) (At (place_at l i) (i + 5)) Broken
+    cond ((eqb (get_or l i 0) 11 || eqb (get_or l i 0) 12) && leb (i + 5) (length l)) (Some (place_at l i, i + 5)) None
 
 -- what is said of an entry: of a place and where the next one begins, or of none
-abbrev pub of_entry : {A : Type 0} → A → (Place → ℕ → A) → Entry → A
-of_entry none some (At p next) = some p next
-of_entry none some Broken = none
+abbrev pub of_entry : {A : Type 0} → A → (Place → ℕ → A) → Option (Place × ℕ) → A
+of_entry none some (Some (p, next)) = some p next
+of_entry none some None = none
 
 -- how many bytes the entry at the front of a list has; after one that is no place nothing is read
 abbrev pub entry_size : List ℕ → ℕ

@@ -1,12 +1,11 @@
 -- The working form of `covers`: the bytes of 16 places, each judged with those beside it.
-use Rattle.std.specs.Prelude.{ℕ, zero, suc, ◌+◌, ◌-◌, ◌*◌, ◌%◌, ◌≤◌, ◌≡◌, Bool, cond, ◌&&◌, ◌||◌, not, List, leb, eqb, length, get_or, drop}
+use Rattle.std.specs.Prelude.{ℕ, zero, suc, ◌+◌, ◌-◌, ◌*◌, ◌%◌, ◌≤◌, ◌≡◌, Bool, cond, ◌&&◌, ◌||◌, not, List, leb, eqb, length, get_or, drop, Option, Some, None}
 use Rattle.buffers.specs.Every.{every_below}
 use Rattle.utf8.specs.Formed.{boundary}
-use Rattle.pattern.specs.declared.Entry.{Entry}
-use Rattle.pattern.specs.declared.Entry.TheVariants.{At, Broken}
 use Rattle.pattern.specs.declared.blocks.Judged.{Judged}
 use Rattle.pattern.specs.Entries.{entry_at, places_of, position_at, whole_list}
 use Rattle.pattern.specs.Places.{fits_at, covers_from, covers}
+use Rattle.pattern.specs.declared.Place.{Place}
 
 -- the byte `a` at j of a block, three bytes after `before` and followed by b, c, d: a known command; a byte of a
 -- start that is the one of the end before it; a start a b that is not above its end c d
@@ -40,10 +39,10 @@ unfoldable pub judged_to : List ℕ → ℕ → Judged
 judged_to l i = record { at = (position_at l (i - 2)).0; next = i }
 
 -- what is judged after the first entry: none where it does not fit
-unfoldable pub judged_after : List ℕ → List ℕ → Entry → Judged
-judged_after text l (At p next) =
+unfoldable pub judged_after : List ℕ → List ℕ → Option (Place × ℕ) → Judged
+judged_after text l (Some (p, next)) =
     cond (fits_at text 0 p) (judged_to l (blocks_end text l (length l) next)) (record { at = 0; next = 0 })
-judged_after text l Broken = record { at = 0; next = 0 }
+judged_after text l None = record { at = 0; next = 0 }
 
 -- the first place and the blocks after it, as far as all of it fits
 unfoldable pub judged_blocks : List ℕ → List ℕ → Judged

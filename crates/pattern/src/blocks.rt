@@ -3,11 +3,12 @@ ghost use Rattle.std.specs.Prelude.{◌≡◌, ◌+◌, ◌≤◌, length};
 ghost use Rattle.buffers.specs.Every.{every_below};
 ghost use Rattle.pattern.specs.Placed.{block_fits, end_stands, judged_blocks, judged_to, placed_at, placed_byte};
 
-use crate::{Entry, entry_at, fits_at};
+use crate::{entry_at, fits_at};
 use numbers::little_endian::get_u16_le;
 use utf8::is_char_boundary;
 
-// Where the judged places of a list end, in the text and in the list.
+// Where the judged places of a list end, in the text and in the list: 0 and 0 where none is judged, so that a list is
+// then judged from its start.
 #[derive(Clone, Copy)]
 pub struct Judged {
     pub at: usize,
@@ -32,8 +33,7 @@ fn all_placed(list: &[u8], i: usize) -> bool
 {
     let before = i - 3;
     let mut ok = true;
-    let mut j = 0;
-    while j < 80 {
+    for j in 0..80 {
         let at = before + j;
         ok = ok
             & placed_at(
@@ -44,7 +44,6 @@ fn all_placed(list: &[u8], i: usize) -> bool
                 list[at + 5],
                 list[at + 6],
             );
-        j += 1;
     }
     ok
 }
@@ -55,11 +54,9 @@ fn all_stand(text: &[u8], list: &[u8], i: usize) -> bool
     ensures { result ≡ every_below 16 (end_stands text.now list.now i) }
 {
     let mut ok = true;
-    let mut k = 0;
-    while k < 16 {
+    for k in 0..16 {
         let end = get_u16_le(list, i + 5 * k + 3);
         ok = ok & is_char_boundary(text, end as usize);
-        k += 1;
     }
     ok
 }
@@ -92,18 +89,18 @@ pub fn judge_blocks(text: &[u8], list: &[u8]) -> Judged
     ensures { result ≡ judged_blocks text.now list.now }
 {
     let none = Judged { at: 0, next: 0 };
-    let Entry::At(first, second) = entry_at(list, 0) else {
+    let Some((first, second)) = entry_at(list, 0) else {
         return none;
     };
     if !fits_at(text, 0, first) {
         return none;
     }
-    let mut i = second;
-    while i + 83 <= list.len() {
+    let blocks = list.len().saturating_sub(second + 3) / 80;
+    for k in 0..blocks {
+        let i = second + 80 * k;
         if !block_fits(text, list, i) {
             return judged_to(list, i);
         }
-        i += 80;
     }
-    judged_to(list, i)
+    judged_to(list, second + 80 * blocks)
 }

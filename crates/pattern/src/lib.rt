@@ -14,19 +14,13 @@ use note::NormalizedByte;
 use numbers::little_endian::get_u16_le;
 use utf8::is_char_boundary;
 
-// A place of the cleaned text, and whether the pattern matched there (Rust: `(Offsets, bool)`).
+// A place of the cleaned text, and whether the pattern matched there (Rust: `(Offsets, bool)`). The flag is a fact of
+// the place, and says of no field that it is missing.
 #[derive(Clone, Copy)]
 pub struct Place {
     pub start: NormalizedByte,
     pub end: NormalizedByte,
     pub matched: bool,
-}
-
-// What is at a byte of a list: a place, and where the next one begins; or an unknown command or a cut operand.
-#[derive(Clone, Copy)]
-pub enum Entry {
-    At(Place, usize),
-    Broken,
 }
 
 // The most bytes that a place has in a list.
@@ -41,33 +35,33 @@ fn position_at(list: &[u8], i: usize) -> NormalizedByte
 }
 
 // What is at byte `i` of the list.
-pub fn entry_at(list: &[u8], i: usize) -> Entry
+pub fn entry_at(list: &[u8], i: usize) -> Option<(Place, usize)>
     ensures { result ≡ entry_at list.now i }
 {
     if list.len() < 5 {
-        return Entry::Broken;
+        return None;
     }
     if list.len() - 5 < i {
-        return Entry::Broken;
+        return None;
     }
     let command = list[i];
     if command < 11 {
-        return Entry::Broken;
+        return None;
     }
     if 12 < command {
-        return Entry::Broken;
+        return None;
     }
     let start = position_at(list, i + 1);
     let end = position_at(list, i + 3);
     let matched = command == 12;
-    Entry::At(
+    Some((
         Place {
             start,
             end,
             matched,
         },
         i + 5,
-    )
+    ))
 }
 
 // As many places as a list can have at most, and has where no entry is broken.
@@ -116,17 +110,15 @@ pub fn covers(text: &[u8], list: &[u8]) -> bool
     let mut at = judged.at;
     let mut i = judged.next;
     while i < list.len() {
-        match entry_at(list, i) {
-            Entry::At(place, next) => {
-                if !fits_at(text, at, place) {
-                    return false;
-                }
-                let end = place.end;
-                at = end.0 as usize;
-                i = next;
-            }
-            Entry::Broken => return false,
+        let Some((place, next)) = entry_at(list, i) else {
+            return false;
+        };
+        if !fits_at(text, at, place) {
+            return false;
         }
+        let end = place.end;
+        at = end.0 as usize;
+        i = next;
     }
     at == text.len()
 }

@@ -4,11 +4,10 @@ use mathlib.Core.Path.{◌≡◌, refl}
 use mathlib.Core.List.{List}
 use native.Mathlib.Omega.{arith}
 use lib.ListN.{length}
+use Rattle.std.specs.Prelude.{Ok, Err}
 use Rattle.buffers.proofs.Cases.{true-or-false}
 use Rattle.note.specs.declared.Refusal.TheVariants.{BadScript}
-use Rattle.note.specs.declared.Verdict.{Verdict}
-use Rattle.note.specs.declared.Verdict.TheVariants.{Accepted, Refused}
-use Rattle.note.specs.Refusals.{unless_refused}
+use Rattle.note.specs.Refusals.{unless_refused, Verdict, Accepted}
 use Rattle.find.proofs.FoundPlaces.{found-read}
 use Rattle.behaviors.specs.declared.SplitDelimiterBehavior.{SplitDelimiterBehavior}
 use Rattle.behaviors.specs.declared.EmptyPieces.TheVariants.{Kept}
@@ -19,8 +18,8 @@ use Rattle.piece_lines.proofs.Judging.{found-cuttable}
 use Rattle.piece_lines.proofs.Cuts.{pieces-bounded}
 
 said-bounded : (v : Verdict) (text : List ℕ) → (v ≡ Accepted → length text ≤ most) → length (unless_refused refusal v text) ≤ most
-said-bounded Accepted text h = h refl
-said-bounded (Refused k) text h = omega (arith, refusal-bounded k)
+said-bounded (Ok tt) text h = h refl
+said-bounded (Err k) text h = omega (arith, refusal-bounded k)
 
 told-bounded : (literal : List ℕ) (behavior : SplitDelimiterBehavior) (note : List ℕ) → length (told literal behavior note) ≤ most
 unfolding told

@@ -5,13 +5,13 @@ use mathlib.Core.Bool.{true}
 use mathlib.Core.List.{List, [], ◌∷◌}
 use native.Mathlib.Omega.{arith}
 use lib.ListN.{length, length-take, length-drop, length-map}
+use Rattle.std.specs.Prelude.{Ok}
 use Rattle.buffers.specs.Splice.{part}
 use Rattle.utf8.specs.Formed.{well_formed, boundary}
 use Rattle.utf8.proofs.Boundaries.{boundary-most, between-char-range}
 use Rattle.note.specs.Notes.{limit}
 use Rattle.note.specs.Starting.{starting}
 use Rattle.note.proofs.Starting.{starting-accepted}
-use Rattle.convert.specs.declared.Converted.TheVariants.{Found}
 use Rattle.convert.specs.Converting.{in_original, in_normalized, convert_offsets}
 use Rattle.convert.proofs.Answered.{answered-accepted, converted-missing}
 use Rattle.convert.proofs.Itself.{converted-itself}
@@ -26,7 +26,7 @@ use Rattle.piece_lines.proofs.Fitting.{AllLie}
 
 -- a piece between boundaries of a fresh text
 module _ (s : List ℕ) (p : well_formed s ≡ true) (short : length s ≤ limit) (a b : ℕ) (at_a : boundary s a ≡ true) (at_b : boundary s b ≡ true) (on : a ≤ b) where
-  original-itself : as_original (starting s).starts (starting s).ends (in_normalized a b) ≡ Found (in_original a b)
+  original-itself : as_original (starting s).starts (starting s).ends (in_normalized a b) ≡ Ok (in_original a b)
   unfolding as_original convert_offsets
   original-itself =
       answered-accepted limit (starting s) _ refl (starting-accepted limit s p short) (converted-missing _ _ (in_normalized a b))

@@ -7,15 +7,14 @@ use native.Mathlib.Nat.{div-le_self}
 use native.Mathlib.Omega.{arith}
 use lib.ListN.{length, take}
 use borrow.Author.Tests.{le-leb}
+use Rattle.std.specs.Prelude.{Result, Ok, Err}
 use Rattle.buffers.specs.Splice.{overlay}
 use Rattle.buffers.proofs.Cases.{true-or-false}
 use Rattle.buffers.proofs.Splice.{take-overlay, overlay-long}
 use Rattle.utf8.specs.Formed.{well_formed}
 use Rattle.note.specs.declared.Refusal.{Refusal}
-use Rattle.note.specs.declared.Verdict.{Verdict}
-use Rattle.note.specs.declared.Verdict.TheVariants.{Accepted, Refused as Rejected}
 use Rattle.note.specs.Notes.{limit}
-use Rattle.note.specs.Refusals.{verdict, unless_refused}
+use Rattle.note.specs.Refusals.{verdict, unless_refused, Verdict, Accepted}
 use Rattle.note.specs.Faults.{text_faults}
 use Rattle.note.specs.Starting.{starting}
 use Rattle.note.proofs.Faults.{text_short, text_formed}
@@ -23,8 +22,6 @@ use Rattle.note.proofs.FirstMet.{accepted-first, accepted-second}
 use Rattle.pattern.specs.Entries.{places_of}
 use Rattle.pattern.specs.Encoding.{room_for}
 use Rattle.pattern.proofs.Encoding.{room-enough}
-use Rattle.find.specs.declared.Matches.{Matches}
-use Rattle.find.specs.declared.Matches.TheVariants.{Written, Refused}
 use Rattle.find.specs.Matching.{found_places}
 use Rattle.find.specs.Finding.{found_bytes, find_faults, Finding}
 use Rattle.find.proofs.FoundPlaces.{found-cases, found-covers, found-read, count-longest}
@@ -35,13 +32,13 @@ use Rattle.piece_lines.specs.Input.{longest, lines_verdict}
 use Rattle.piece_lines.specs.Spans.{Cuttable}
 use Rattle.piece_lines.specs.Printing.{refusal, told, pieces_text}
 
-matches-refused : (v : Verdict) (n : ℕ) (k : Refusal) → Refused k ≡ unless_refused Refused v (Written n) → v ≡ Rejected k
-matches-refused Accepted n k e = let z : ◌≡◌ {A = ℕ} 0 1 = cc in absurd (omega arith)
-matches-refused (Rejected j) n k e = cc
+matches-refused : (v : Verdict) (n : ℕ) (k : Refusal) → Err k ≡ unless_refused Err v (Ok n) → v ≡ Err k
+matches-refused (Ok tt) n k e = let z : ◌≡◌ {A = ℕ} 0 1 = cc in absurd (omega arith)
+matches-refused (Err j) n k e = cc
 
-matches-written : (v : Verdict) (n m : ℕ) → Written m ≡ unless_refused Refused v (Written n) → (v ≡ Accepted) × (m ≡ n)
-matches-written Accepted n m e = (refl, cc)
-matches-written (Rejected j) n m e = let z : ◌≡◌ {A = ℕ} 0 1 = cc in absurd (omega arith)
+matches-written : (v : Verdict) (n m : ℕ) → Ok m ≡ unless_refused Err v (Ok n) → (v ≡ Accepted) × (m ≡ n)
+matches-written (Ok tt) n m e = (refl, cc)
+matches-written (Err j) n m e = let z : ◌≡◌ {A = ℕ} 0 1 = cc in absurd (omega arith)
 
 -- how many places there are, and bytes of their list
 pub places-few : (text literal : List ℕ) → length (found_places text literal) ≤ 2 * length text + 1
@@ -65,7 +62,7 @@ found-cuttable literal note e =
       few = rw read (omega (arith, places-few note literal));
     }
 
-module _ {literal text list₀ : List ℕ} {r : Matches} {list : List ℕ} (f : Finding limit text literal list₀ r list) (short : length literal ≤ longest) (brief : length text ≤ longest) (room : room_for (2 * longest + 1) ≡ length list₀) where
+module _ {literal text list₀ : List ℕ} {r : Result ℕ Refusal} {list : List ℕ} (f : Finding limit text literal list₀ r list) (short : length literal ≤ longest) (brief : length text ≤ longest) (room : room_for (2 * longest + 1) ≡ length list₀) where
   list-fits : length (found_bytes text literal) ≤ length list₀
   unfolding found_bytes
   list-fits = rw (← room) (room-enough (found_places text literal) (2 * longest + 1) (omega (arith, places-few text literal)))
@@ -78,12 +75,12 @@ module _ {literal text list₀ : List ℕ} {r : Matches} {list : List ℕ} (f : 
       (λ t. true-or-false (well_formed literal) (λ u. rw (t, u)) (λ u. rw (t, u)))
       (λ t. true-or-false (well_formed literal) (λ u. rw (t, u)) (λ u. rw (t, u))))
 
-  pub refusal-told : (behavior : SplitDelimiterBehavior) {k : Refusal} → r ≡ Refused k → told literal behavior text ≡ refusal k
+  pub refusal-told : (behavior : SplitDelimiterBehavior) {k : Refusal} → r ≡ Err k → told literal behavior text ≡ refusal k
   unfolding told
   refusal-told behavior {k} is =
-      let v : lines_verdict literal text ≡ Rejected k = sym same-verdict ∙ matches-refused _ _ k (sym is ∙ f.answer) in rw v
+      let v : lines_verdict literal text ≡ Err k = sym same-verdict ∙ matches-refused _ _ k (sym is ∙ f.answer) in rw v
 
-  module _ {size : ℕ} (is : r ≡ Written size) where
+  module _ {size : ℕ} (is : r ≡ Ok size) where
     says : (verdict (find_faults limit text literal (length list₀)) ≡ Accepted) × (size ≡ length (found_bytes text literal))
     says = matches-written _ _ size (sym is ∙ f.answer)
 

@@ -1,7 +1,6 @@
 -- RULES 14.4: the input of `pieces`, three lines, and when it is refused.
 use Rattle.std.specs.Prelude.{ℕ, ◌≡◌, Bool, cond, ◌&&◌, List, [], ◌∷◌, ◌++◌, leb, eqb, length, get_or}
-use Rattle.note.specs.declared.Verdict.{Verdict}
-use Rattle.note.specs.Refusals.{also, verdict}
+use Rattle.note.specs.Refusals.{also, verdict, Verdict}
 use Rattle.note.specs.Faults.{text_faults}
 
 -- a byte in front of the first of some runs

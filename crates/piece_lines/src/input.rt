@@ -6,7 +6,7 @@ ghost use Rattle.piece_lines.specs.Scanning.{counted, scanned, seen_after};
 pub const LONGEST: usize = 8192;
 
 // What was seen of the input so far: the lines' lengths, counted up to one more than the longest, and the behaviour's
-// digit.
+// digit. It is kept as the byte that was read, since the clauses of `Seen` (`seen_after`, `Keeps`) have it so.
 #[derive(Clone, Copy)]
 pub enum Seen {
     Literal(usize), // some bytes of the first line
@@ -20,10 +20,7 @@ pub enum Seen {
 fn one_more(n: usize) -> usize
     ensures { result ≡ counted (n + 1) }
 {
-    if LONGEST < n {
-        return LONGEST + 1;
-    }
-    n + 1
+    n.min(LONGEST) + 1
 }
 
 // One more byte.
@@ -37,15 +34,10 @@ fn step(seen: Seen, byte: u8) -> Seen
             }
             Seen::Literal(one_more(n))
         }
-        Seen::Behavior(n) => {
-            if byte < b'1' {
-                return Seen::Shapeless;
-            }
-            if b'5' < byte {
-                return Seen::Shapeless;
-            }
-            Seen::Chosen(n, byte)
-        }
+        Seen::Behavior(n) => match byte {
+            b'1'..=b'5' => Seen::Chosen(n, byte),
+            _ => Seen::Shapeless,
+        },
         Seen::Chosen(n, digit) => {
             if byte == b'\n' {
                 return Seen::Note(n, digit, 0);
@@ -58,8 +50,7 @@ fn step(seen: Seen, byte: u8) -> Seen
             }
             Seen::Note(n, digit, one_more(m))
         }
-        Seen::Whole(_, _, _) => Seen::Shapeless,
-        Seen::Shapeless => Seen::Shapeless,
+        Seen::Whole(_, _, _) | Seen::Shapeless => Seen::Shapeless,
     }
 }
 
@@ -68,10 +59,8 @@ pub fn scan(seen: Seen, bytes: &[u8]) -> Seen
     ensures { result ≡ scanned seen bytes.now }
 {
     let mut so_far = seen;
-    let mut i = 0;
-    while i < bytes.len() {
-        so_far = step(so_far, bytes[i]);
-        i += 1;
+    for byte in bytes {
+        so_far = step(so_far, *byte);
     }
     so_far
 }

@@ -18,11 +18,10 @@ ghost use Rattle.piece_lines.specs.Spans.{Cuttable, spans_text, LineSpans};
 
 use behaviors::{EmptyPieces, SplitDelimiterBehavior};
 use buffers::Offset;
-use find::{Matches, find_matches};
+use find::find_matches;
 use input::{LONGEST, Seen, scan};
 use lines::{write_headline, write_lines};
 use note::Refusal;
-use note::verdicts::number;
 use pattern::MAX_PLACE_LEN;
 use spans::write_spans;
 
@@ -35,6 +34,7 @@ const SPANS: usize = 2 * LONGEST + 1;
 // The most bytes that are printed.
 const PRINTED: usize = 13 + 13 * SPANS + LONGEST;
 
+// The four buffers are of four lengths or types, and each contract names its own: no generic function is plainer.
 // Room for any answer.
 pub fn out_buffer() -> [u8; PRINTED]
     ensures { most ≡ length result }
@@ -81,7 +81,7 @@ fn write_refusal(k: Refusal, out: &mut [u8]) -> usize
     requires { most ≤ length out.old }
     ensures { Laid (refusal k) out.old 0 result out.new }
 {
-    write_headline(b"refused ", number(k) as usize, out)
+    write_headline(b"refused ", u32::from(k) as usize, out)
 }
 
 // What is printed of pieces.
@@ -123,8 +123,8 @@ fn cut(literal: &[u8], behavior: SplitDelimiterBehavior, text: &[u8], out: &mut 
 {
     let mut list = list_buffer();
     match find_matches(text, literal, &mut list) {
-        Matches::Refused(k) => write_refusal(k, out),
-        Matches::Written(size) => write_cut(&list[..size], behavior, text, out),
+        Err(k) => write_refusal(k, out),
+        Ok(size) => write_cut(&list[..size], behavior, text, out),
     }
 }
 

@@ -4,7 +4,7 @@ ghost use Rattle.buffers.specs.Splice.{Laid};
 ghost use Rattle.numbers.specs.Decimal.{field};
 ghost use Rattle.piece_lines.specs.Spans.{line, span_lines, LineSpans};
 
-use buffers::{Offset, copy_bytes, fill_bytes};
+use buffers::{Offset, copy, fill};
 use numbers::decimals::write_field;
 
 // A word and a number, in front of `out`. Here and below: where the line ends.
@@ -12,7 +12,7 @@ pub fn write_headline(word: &[u8], number: usize, out: &mut [u8]) -> usize
     requires { length (word.now ++ field number 0x0A) ≤ length out.old }
     ensures { Laid (word.now ++ field number 0x0A) out.old 0 result out.new }
 {
-    copy_bytes(word, out, 0);
+    copy(word, out, 0);
     write_field(number, b'\n', out, word.len())
 }
 
@@ -23,9 +23,9 @@ fn write_line(start: usize, end: usize, bytes: &[u8], out: &mut [u8], at: usize)
 {
     let second = write_field(start, b' ', out, at);
     let third = write_field(end, b' ', out, second);
-    copy_bytes(bytes, out, third);
+    copy(bytes, out, third);
     let last = third + bytes.len();
-    fill_bytes(b'\n', 1, out, last);
+    fill(b'\n', 1, out, last);
     last + 1
 }
 
@@ -43,12 +43,11 @@ pub fn write_lines(
         out.old at result out.new }
 {
     let mut reach = at;
-    let mut i = 0;
-    while i < starts.len() {
+    // By index and not by `zip`: what is required of a span is said of the index.
+    for i in 0..starts.len() {
         let start = starts[i] as usize;
         let end = ends[i] as usize;
         reach = write_line(start, end, &text[start..end], out, reach);
-        i += 1;
     }
     reach
 }

@@ -1,5 +1,5 @@
 -- Laws of `Behind`: chunk after chunk, and what is kept of an input that was read so.
-use Prim.Native.Nat.{ℕ, ◌+◌, ◌≤◌, ◌<◌}
+use Prim.Native.Nat.{ℕ, ◌≤◌, ◌<◌}
 use mathlib.Core.Path.{◌≡◌, ◌∙◌, refl, sym}
 use mathlib.Core.List.{List, [], ◌++◌}
 use native.Mathlib.Omega.{arith}
@@ -10,9 +10,7 @@ use Rattle.piece_lines.specs.declared.input.Seen.TheVariants.{Literal}
 use Rattle.piece_lines.specs.Scanning.{scanned, head_size, Keeps}
 use Rattle.piece_lines.proofs.Scanning.{scanned-on}
 use Rattle.piece_lines.proofs.Answering.{kept_whole}
-use Rattle.pieces_main.specs.declared.Reading.{Reading}
-use Rattle.pieces_main.specs.declared.Reading.TheVariants.{More, Ended}
-use Rattle.pieces_main.specs.Reading.{Behind, ReadOn}
+use Rattle.pieces_main.specs.Reading.{Behind}
 
 pub nothing-behind : {s : Seen} → Behind s s
 unfolding scanned
@@ -21,15 +19,9 @@ nothing-behind = record { bytes = []; is = refl }
 pub chunk-behind : {s t : Seen} (bytes : List ℕ) → t ≡ scanned s bytes → Behind s t
 chunk-behind bytes e = record { bytes = bytes; is = e }
 
-behind-on : {s t u : Seen} → Behind s t → Behind t u → Behind s u
+pub behind-on : {s t u : Seen} → Behind s t → Behind t u → Behind s u
 behind-on {s} {t} {u} a b =
     record { bytes = a.bytes ++ b.bytes; is = b.is ∙ rw a.is (sym (scanned-on s a.bytes b.bytes)) }
-
-pub more-behind : {s t u : Seen} {r : Reading} → Behind s t → ReadOn t r → r ≡ More u → Behind s u
-more-behind {t = t} {u = u} a o e = let b : ReadOn t (More u) = rw e at o in behind-on a b
-
-pub last-behind : {s t u : Seen} {r : Reading} → Behind s t → ReadOn t r → r ≡ Ended u → Behind s u
-last-behind {t = t} {u = u} a o e = let b : ReadOn t (Ended u) = rw e at o in behind-on a b
 
 -- an input that ended before the buffer was full, and one that went on
 pub short-kept : (head : List ℕ) (n : ℕ) {seen : Seen} → n < head_size → seen ≡ scanned (Literal 0) (take n head) → Keeps (take n head) seen

@@ -1,15 +1,13 @@
 -- Reading on: what is seen then is what some more bytes of the input give.
-use Rattle.std.specs.Prelude.{◌≡◌, List, ℕ}
+use Rattle.std.specs.Prelude.{◌≡◌, ◌≤◌, List, ℕ, length, take}
 use Rattle.piece_lines.specs.declared.input.Seen.{Seen}
-use Rattle.piece_lines.specs.Scanning.{scanned}
-use Rattle.pieces_main.specs.declared.Reading.{Reading}
-use Rattle.pieces_main.specs.declared.Reading.TheVariants.{More, Ended, Unread}
+use Rattle.piece_lines.specs.Scanning.{scanned, Keeps}
 
 pub record Behind (before after : Seen) : Type 0 where
   pub bytes : List ℕ
   pub is : after ≡ scanned before bytes
 
-abbrev pub ReadOn : Seen → Reading → Type 0
-ReadOn before (More after) = Behind before after
-ReadOn before (Ended after) = Behind before after
-ReadOn before (Unread error) = Unit {0}
+-- so many bytes in front of a buffer are what is kept of an input
+pub record Kept (n : ℕ) (seen : Seen) (head : List ℕ) : Type 0 where
+  pub within : n ≤ length head
+  pub is_kept : Keeps (take n head) seen

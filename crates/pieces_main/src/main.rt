@@ -2,26 +2,15 @@
 // What is printed comes from `piece_lines`; here the input is read to its end, and that is written.
 #![tactic(auto)]
 
-ghost use Rattle.std.specs.Prelude.{◌≡◌, length};
+ghost use Rattle.std.specs.Prelude.{◌≡◌, IfOk, length};
 ghost use Rattle.piece_lines.specs.Scanning.{head_size, Keeps};
-ghost use Rattle.pieces_main.specs.Reading.{ReadOn};
+ghost use Rattle.pieces_main.specs.Reading.{Behind, Kept};
 
 use piece_lines::input::{Seen, scan};
 use piece_lines::{KEPT, answer, out_buffer};
-use standard_input::{Input, fill, large_buffer};
+use standard_input::{fill, large_buffer};
 use std::io;
 use std::io::Read;
-
-// How far the input was read: more may follow, or it has ended, or it cannot be read.
-#[derive(Clone, Copy)]
-enum Reading {
-    More(Seen),
-    Ended(Seen),
-    Unread(io::Error),
-}
-
-// Reading ends after so many chunks, which no input has.
-const CHUNKS: u64 = 18446744073709551615;
 
 // Room for what is kept of the input.
 fn head_buffer() -> [u8; KEPT]
@@ -30,36 +19,34 @@ fn head_buffer() -> [u8; KEPT]
     [0; KEPT]
 }
 
-// One chunk more.
-fn read_on<R: Read>(input: &mut R, seen: Seen) -> Reading
-    ensures { ReadOn seen result }
+// What is seen at the end of the input, which is read chunk by chunk. No input has more chunks than the loop takes.
+fn read_to_end<R: Read>(input: &mut R, seen: Seen) -> io::Result<Seen>
+    ensures { IfOk result (λ last. Behind seen last) }
 {
     let mut chunk = large_buffer();
-    match fill(input, &mut chunk) {
-        Input::Bytes(n) => {
-            let next = scan(seen, &chunk[..n]);
-            if n < chunk.len() {
-                return Reading::Ended(next);
-            }
-            Reading::More(next)
+    let mut so_far = seen;
+    for _ in 0..u64::MAX {
+        let n = fill(input, &mut chunk)?;
+        so_far = scan(so_far, &chunk[..n]);
+        if n < chunk.len() {
+            return Ok(so_far);
         }
-        Input::Unread(error) => Reading::Unread(error),
     }
+    Err(io::Error::from(io::ErrorKind::FileTooLarge))
 }
 
-// All chunks.
-fn read_to_end<R: Read>(input: &mut R, seen: Seen) -> Reading
-    ensures { ReadOn seen result }
+// What is kept of the input: how many of its first bytes are in front of `head`, and what is seen at its end.
+fn keep<R: Read>(input: &mut R, head: &mut [u8]) -> io::Result<(usize, Seen)>
+    requires { head_size ≡ length head.old }
+    ensures { IfOk result (λ kept. Kept kept.0 kept.1 head.new) }
 {
-    let mut so_far = seen;
-    for _ in 0..CHUNKS {
-        match read_on(input, so_far) {
-            Reading::More(next) => so_far = next,
-            Reading::Ended(last) => return Reading::Ended(last),
-            Reading::Unread(error) => return Reading::Unread(error),
-        }
+    let n = fill(input, head)?;
+    let seen = scan(Seen::Literal(0), &head[..n]);
+    if n < head.len() {
+        return Ok((n, seen));
     }
-    Reading::More(so_far)
+    let last = read_to_end(input, seen)?;
+    Ok((n, last))
 }
 
 fn say(rt: &impl Eprint, words: &str) {
@@ -92,22 +79,8 @@ fn print(rt: &(impl Print + Eprint), head: &[u8], seen: Seen)
 fn main(rt: HostRuntime) {
     let mut input = rt.stdin();
     let mut head = head_buffer();
-    match fill(&mut input, &mut head) {
-        Input::Bytes(n) => {
-            let seen = scan(Seen::Literal(0), &head[..n]);
-            if n < KEPT {
-                print(&rt, &head[..n], seen);
-                return;
-            }
-            match read_to_end(&mut input, seen) {
-                Reading::Ended(last) => print(&rt, &head[..n], last),
-                Reading::Unread(error) => fail(&rt, "pieces: standard input", error),
-                Reading::More(_) => {
-                    let endless = io::Error::from(io::ErrorKind::FileTooLarge);
-                    fail(&rt, "pieces: standard input", endless);
-                }
-            }
-        }
-        Input::Unread(error) => fail(&rt, "pieces: standard input", error),
+    match keep(&mut input, &mut head) {
+        Ok((n, seen)) => print(&rt, &head[..n], seen),
+        Err(error) => fail(&rt, "pieces: standard input", error),
     }
 }

@@ -6,13 +6,12 @@ use mathlib.Mathlib.Data.Bool.Basic.{and_elim_left, and_elim_right}
 use mathlib.Core.List.{List}
 use native.Mathlib.Omega.{arith}
 use lib.ListN.{length, length-replicate}
+use Rattle.std.specs.Prelude.{Ok, Err}
 use Rattle.buffers.specs.Same.{same}
 use Rattle.buffers.proofs.Cases.{clash}
 use Rattle.buffers.proofs.Same.{same_refl, same-equal}
 use Rattle.note.specs.declared.Refusal.{Refusal}
-use Rattle.note.specs.declared.Verdict.{Verdict}
-use Rattle.note.specs.declared.Verdict.TheVariants.{Accepted, Refused as Rejected}
-use Rattle.note.specs.Refusals.{verdict, unless_refused}
+use Rattle.note.specs.Refusals.{verdict, unless_refused, Verdict, Accepted}
 use Rattle.note.specs.Rank.{earlier}
 use Rattle.note.specs.Notes.{Note}
 use Rattle.note.proofs.FirstMet.{accepted-first, accepted-second, earlier-of}
@@ -21,7 +20,6 @@ use Rattle.replace.specs.Replacing.{PublishedNote, carried, replaced, replace_fa
 use Rattle.replace.specs.Blanking.{Equal}
 use Rattle.replace.proofs.Faults.{Taken, accepted-taken, taken-length}
 use Rattle.replace.proofs.Blanking.{agree-replaced, replaced-agree}
-use Rattle.published_alike.specs.declared.Comparison.TheVariants.{Compared, Refused}
 use Rattle.published_alike.specs.Walk.{text_alike, column_alike, all_alike, BothCovered}
 use Rattle.published_alike.specs.Alike.{same_published, compare_faults, alike_answer, PublishedAlike, Readings}
 use Rattle.published_alike.proofs.Walk.{every-same, text-each, column-each}
@@ -74,9 +72,9 @@ module _ (most : ℕ) (n m : Note) (list content : List ℕ) (ok : verdict (comp
     ),
   )
 
-compared-both : (v : Verdict) (t u : Bool) → unless_refused Refused v (Compared t) ≡ Compared u → (v ≡ Accepted) × (t ≡ u)
-compared-both (Rejected k) t u e = let z : ◌≡◌ {A = ℕ} 0 1 = cc in absurd (omega arith)
-compared-both Accepted t u e = (refl, cc)
+compared-both : (v : Verdict) (t u : Bool) → unless_refused Err v (Ok t) ≡ Ok u → (v ≡ Accepted) × (t ≡ u)
+compared-both (Err k) t u e = let z : ◌≡◌ {A = ℕ} 0 1 = cc in absurd (omega arith)
+compared-both (Ok tt) t u e = (refl, cc)
 
 pub readings : Readings
 unfolding alike_answer
@@ -84,7 +82,7 @@ readings most n m list content r e =
     let a : PublishedNote = replaced (places_of list) content n in
     let b : PublishedNote = replaced (places_of list) content m in
     let v : Verdict = verdict (compare_faults most n m list content) in
-    let made : (u : Bool) → r ≡ Compared u → (v ≡ Accepted) × (same_published a b ≡ u) = λ u is. compared-both v (same_published a b) u (sym e ∙ is) in
+    let made : (u : Bool) → r ≡ Ok u → (v ≡ Accepted) × (same_published a b ≡ u) = λ u is. compared-both v (same_published a b) u (sym e ∙ is) in
     record {
       answer = e;
       alike = λ is.
@@ -104,15 +102,15 @@ module _ (most : ℕ) (n m : Note) (list content : List ℕ) {v w r : Verdict} (
   both : r ≡ verdict (compare_faults most n m list content)
   both = earlier-of (replace_faults most n list content most) (replace_faults most m list content most) one two first
 
-  pub refused : {k : Refusal} → r ≡ Rejected k → PublishedAlike most n m list content (Refused k)
+  pub refused : {k : Refusal} → r ≡ Err k → PublishedAlike most n m list content (Err k)
   unfolding alike_answer
-  refused {k} e = readings most n m list content (Refused k) (sym (rw (sym both ∙ e)))
+  refused {k} e = readings most n m list content (Err k) (sym (rw (sym both ∙ e)))
 
   pub covering : r ≡ Accepted → BothCovered n.normalized m.normalized list × (BothCovered n.starts m.starts list × BothCovered n.ends m.ends list)
   covering e = coverings most n m list content (sym both ∙ e)
 
-  pub compared : r ≡ Accepted → {t : Bool} → t ≡ all_alike n.normalized n.starts n.ends m.normalized m.starts m.ends (length content) (places_of list) → PublishedAlike most n m list content (Compared t)
+  pub compared : r ≡ Accepted → {t : Bool} → t ≡ all_alike n.normalized n.starts n.ends m.normalized m.starts m.ends (length content) (places_of list) → PublishedAlike most n m list content (Ok t)
   unfolding alike_answer
   compared e {t} l =
-      readings most n m list content (Compared t)
-      (ap Compared (l ∙ walk_same most n m list content (sym both ∙ e)) ∙ sym (rw (sym both ∙ e)))
+      readings most n m list content (Ok t)
+      (ap Ok (l ∙ walk_same most n m list content (sym both ∙ e)) ∙ sym (rw (sym both ∙ e)))

@@ -7,14 +7,13 @@ use native.Mathlib.Omega.{arith}
 use lib.Dec.{eqb}
 use lib.ListN.{length, drop}
 use borrow.Author.Tests.{ne_eqb, not-true, not-false}
+use Rattle.std.specs.Prelude.{Option, Some, None}
 use Rattle.buffers.specs.Same.{same}
 use Rattle.buffers.proofs.Cases.{true-or-false}
 use Rattle.buffers.proofs.Booleans.{and-false-l, and_false_r}
 use Rattle.buffers.proofs.Same.{same_refl, same-append, same-replicate}
 use Rattle.note.specs.Notes.{before_end}
 use Rattle.pattern.specs.declared.Place.{Place}
-use Rattle.pattern.specs.declared.Entry.{Entry}
-use Rattle.pattern.specs.declared.Entry.TheVariants.{At, Broken}
 use Rattle.pattern.specs.Entries.{entry_at, places_of}
 use Rattle.pattern.specs.Places.{fits_at, covers_from}
 use Rattle.pattern.proofs.Entries.{Stepped, entry-step, entry-broken, entries-end}
@@ -76,7 +75,7 @@ none-walked f c =
     record { so_far = refl; text = c.text; from = 0; covered = c.covered; one = c.one; other = c.other; most = omega arith }
 
 module _ {f : Place → Bool} {xs ys list : List ℕ} {i : ℕ} (w : WalkedTo f xs ys list i) where
-  module _ {entry : Entry} {p : Place} {next : ℕ} (is : entry ≡ entry_at list i) (there : entry ≡ At p next) where
+  module _ {entry : Option (Place × ℕ)} {p : Place} {next : ℕ} (is : entry ≡ entry_at list i) (there : entry ≡ Some (p, next)) where
     step : Stepped list i p next
     step = entry-step list is there
 
@@ -111,7 +110,7 @@ module _ {f : Place → Bool} {xs ys list : List ℕ} {i : ℕ} (w : WalkedTo f 
   unfolding every_place
   none_left none = sym (w.so_far ∙ rw none)
 
-  pub broken-walked : {entry : Entry} → i < length list → entry ≡ entry_at list i → entry ≡ Broken → true ≡ every_place f (places_of list)
+  pub broken-walked : {entry : Option (Place × ℕ)} → i < length list → entry ≡ entry_at list i → entry ≡ None → true ≡ every_place f (places_of list)
   broken-walked h is e = none_left (entry-broken list h is e).0
 
   pub all-walked : length list ≤ i → true ≡ every_place f (places_of list)
@@ -135,7 +134,7 @@ module _ (t xs ys u vs ws : List ℕ) (content_len : ℕ) (ps : List Place) wher
 module _ (text xs ys : List ℕ) (f g : ℕ → List ℕ) (content_len : ℕ) (t : Place → Bool) (lx : length xs ≡ length text) (ly : length ys ≡ length text)
     (wf : (e : ℕ) → length (f e) ≡ content_len) (wg : (e : ℕ) → length (g e) ≡ content_len) (each : (p : Place) → t p ≡ same (piece f p xs) (piece g p ys)) where
   pub every-same : (at : ℕ) (ps : List Place) → covers_from text at ps ≡ true → every_place t ps ≡ same (laid f ps xs) (laid g ps ys)
-  unfolding every_place laid same
+  unfolding every_place laid
   every-same at [] c = refl
   every-same at (p ∷ ps) c =
       let h : fits_at text at p ≡ true = covers-first text at p ps c in

@@ -3,26 +3,19 @@
 #![tactic(auto)]
 
 ghost use Rattle.std.specs.Prelude.{◌≡◌, ℕ};
-ghost use Rattle.note.specs.Notes.{lent, limit};
-ghost use Rattle.note.specs.declared.Verdict.{Verdict};
+ghost use Rattle.note.specs.Notes.{limit, passed};
+ghost use Rattle.note.specs.Refusals.{Verdict};
 ghost use Rattle.pattern.specs.Entries.{places_of};
 ghost use Rattle.replace.specs.Replacing.{publication};
 ghost use Rattle.published_alike.specs.Alike.{PublishedAlike};
 ghost use Rattle.published_alike.specs.Walk.{BothCovered, Lying, all_alike, column_alike, every_place, text_alike};
 
 use buffers::Offset;
-use buffers::equality::{same_bytes, same_offsets};
+use buffers::equality::same;
 use note::verdicts::earlier;
-use note::{LIMIT, Refusal, Verdict, before_end};
-use pattern::{Entry, Place, entry_at};
-use replace::{Publication, check_replace};
-
-// What the comparison answers.
-#[derive(Clone, Copy)]
-pub enum Comparison {
-    Compared(bool),
-    Refused(Refusal),
-}
+use note::{LIMIT, NormalizedString, Refusal, before_end};
+use pattern::{Place, entry_at};
+use replace::check_replace;
 
 // Whether a place of a judged list gives the same of two texts.
 fn text_alike(a: &[u8], b: &[u8], place: Place) -> bool
@@ -36,7 +29,7 @@ fn text_alike(a: &[u8], b: &[u8], place: Place) -> bool
     if place.matched {
         return true;
     }
-    same_bytes(&a[from..to], &b[from..to])
+    same(&a[from..to], &b[from..to])
 }
 
 // And of two columns of alignments, beside a content of `content_len` bytes.
@@ -54,7 +47,7 @@ fn column_alike(a: &[Offset], b: &[Offset], content_len: usize, place: Place) ->
         }
         return before_end(a, to) == before_end(b, to);
     }
-    same_offsets(&a[from..to], &b[from..to])
+    same(&a[from..to], &b[from..to])
 }
 
 fn texts_alike(a: &[u8], b: &[u8], list: &[u8]) -> bool
@@ -63,15 +56,13 @@ fn texts_alike(a: &[u8], b: &[u8], list: &[u8]) -> bool
 {
     let mut i = 0;
     while i < list.len() {
-        match entry_at(list, i) {
-            Entry::At(place, next) => {
-                if !text_alike(a, b, place) {
-                    return false;
-                }
-                i = next;
-            }
-            Entry::Broken => return true,
+        let Some((place, next)) = entry_at(list, i) else {
+            return true;
+        };
+        if !text_alike(a, b, place) {
+            return false;
         }
+        i = next;
     }
     true
 }
@@ -83,15 +74,13 @@ fn columns_alike(a: &[Offset], b: &[Offset], list: &[u8], content_len: usize) ->
 {
     let mut i = 0;
     while i < list.len() {
-        match entry_at(list, i) {
-            Entry::At(place, next) => {
-                if !column_alike(a, b, content_len, place) {
-                    return false;
-                }
-                i = next;
-            }
-            Entry::Broken => return true,
+        let Some((place, next)) = entry_at(list, i) else {
+            return true;
+        };
+        if !column_alike(a, b, content_len, place) {
+            return false;
         }
+        i = next;
     }
     true
 }
@@ -124,67 +113,35 @@ fn all_alike(
 }
 
 // What an answer says, without its size.
-fn said(answer: Publication) -> Verdict
+fn said(answer: Result<usize, Refusal>) -> Result<(), Refusal>
     ensures { (v : Verdict) (size : ℕ) → answer ≡ publication v size → result ≡ v }
 {
-    match answer {
-        Publication::Published(_) => Verdict::Accepted,
-        Publication::Refused(k) => Verdict::Refused(k),
-    }
+    answer?;
+    Ok(())
 }
 
 // Whether the two notes that `replace` makes of these with this list and content are equal, text and alignments.
 pub fn published_alike(
-    original: &[u8],
-    normalized: &[u8],
-    starts: &[Offset],
-    ends: &[Offset],
-    original_shift: u32,
-    other_original: &[u8],
-    other: &[u8],
-    other_starts: &[Offset],
-    other_ends: &[Offset],
-    other_shift: u32,
+    note: &NormalizedString,
+    other: &NormalizedString,
     list: &[u8],
     content: &[u8],
-) -> Comparison
+) -> Result<bool, Refusal>
     ensures { PublishedAlike limit
-        (lent original.now normalized.now
-        starts.now ends.now original_shift)
-        (lent other_original.now other.now
-        other_starts.now other_ends.now other_shift)
+        (passed note.now)
+        (passed other.now)
         list.now content.now result }
 {
-    let one = said(check_replace(
-        original,
-        normalized,
-        starts,
-        ends,
-        original_shift,
-        list,
-        content,
-        LIMIT,
-    ));
-    let two = said(check_replace(
-        other_original,
-        other,
-        other_starts,
-        other_ends,
-        other_shift,
-        list,
-        content,
-        LIMIT,
-    ));
-    if let Verdict::Refused(k) = earlier(one, two) {
-        return Comparison::Refused(k);
-    }
-    Comparison::Compared(all_alike(
-        normalized,
-        starts,
-        ends,
-        other,
-        other_starts,
-        other_ends,
+    let one = said(check_replace(note, list, content, LIMIT));
+    let two = said(check_replace(other, list, content, LIMIT));
+    earlier(one, two)?;
+    Ok(all_alike(
+        note.normalized,
+        note.starts,
+        note.ends,
+        other.normalized,
+        other.starts,
+        other.ends,
         list,
         content.len(),
     ))

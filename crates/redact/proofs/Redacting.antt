@@ -7,12 +7,11 @@ use native.Mathlib.Omega.{arith}
 use lib.Dec.{leb}
 use lib.ListN.{length}
 use borrow.Author.Tests.{not-true, not-false}
+use Rattle.std.specs.Prelude.{Ok, Err}
 use Rattle.utf8.specs.Formed.{well_formed}
 use Rattle.note.specs.declared.Refusal.{Refusal}
 use Rattle.note.specs.declared.Refusal.TheVariants.{NoRoom, IllFormed}
-use Rattle.note.specs.declared.Verdict.{Verdict}
-use Rattle.note.specs.declared.Verdict.TheVariants.{Accepted, Refused as Rejected}
-use Rattle.note.specs.Refusals.{none, meets, also, least, verdict, after}
+use Rattle.note.specs.Refusals.{none, meets, also, least, verdict, after, Verdict, Accepted}
 use Rattle.note.specs.Rank.{earlier}
 use Rattle.note.specs.Notes.{limit}
 use Rattle.note.specs.Faults.{note_faults, text_faults, string_faults, room_faults}
@@ -29,11 +28,9 @@ use Rattle.find.specs.Matching.{found_places}
 use Rattle.find.specs.Finding.{found_bytes}
 use Rattle.find.specs.Searching.{first_match}
 use Rattle.find.proofs.FoundPlaces.{found-read, found-covers}
-use Rattle.replace.specs.declared.Publication.TheVariants.{Published as Replaced}
 use Rattle.replace.specs.Replacing.{laid, replaced, replace_faults}
 use Rattle.replace.specs.Sizes.{places_size}
 use Rattle.replace.proofs.Sizes.{length-laid}
-use Rattle.redact_note.specs.declared.Redaction.TheVariants.{Published, Refused}
 use Rattle.redact_note.specs.Redacting.{match_count}
 use Rattle.redact_note.proofs.Redacting.{says-published}
 use Rattle.redact.specs.Redacting.{blanked, input_faults, redact_faults, Redacted}
@@ -70,7 +67,7 @@ inputs-formed text literal content e =
       content_formed = string-formed content (accepted-second (string_faults literal) (string_faults content) strings);
     }
 
-room-verdict : (x : Bool) → verdict (meets NoRoom (not x) none) ≡ cond x Accepted (Rejected NoRoom)
+room-verdict : (x : Bool) → verdict (meets NoRoom (not x) none) ≡ cond x Accepted (Err NoRoom)
 unfolding verdict
 room-verdict true = refl
 room-verdict false = refl
@@ -80,11 +77,11 @@ result_faults most text literal content room = room_faults (length (blanked text
 
 -- the inputs, then the room
 module _ (text literal content : List ℕ) (room : ℕ) {v : Verdict} (e : v ≡ verdict (input_faults limit text literal content)) where
-  pub inputs-refused : {k : Refusal} → v ≡ Rejected k → Rejected k ≡ verdict (redact_faults limit text literal content room)
+  pub inputs-refused : {k : Refusal} → v ≡ Err k → Err k ≡ verdict (redact_faults limit text literal content room)
   inputs-refused is = refused-then (up_to IllFormed) (input_faults limit text literal content) (result_faults limit text literal content room) refl refl e is
 
   module _ (is : v ≡ Accepted) {within : ℕ} {t : Bool} (least-is : within ≡ min limit room) (fits : t ≡ leb (places_size (length content) (found_places text literal)) within) where
-    room-said : verdict (result_faults limit text literal content room) ≡ cond t Accepted (Rejected NoRoom)
+    room-said : verdict (result_faults limit text literal content room) ≡ cond t Accepted (Err NoRoom)
     room-said =
         let g : Formed text literal content = inputs-formed text literal content (sym e ∙ is) in
         let size = blanked-length text literal g.text_formed g.literal_formed g.short content in
@@ -93,7 +90,7 @@ module _ (text literal content : List ℕ) (room : ℕ) {v : Verdict} (e : v ≡
     then-room : {w : Verdict} → w ≡ verdict (result_faults limit text literal content room) → w ≡ verdict (redact_faults limit text literal content room)
     then-room w = accepted-then (up_to IllFormed) (input_faults limit text literal content) (result_faults limit text literal content room) refl refl e is w
 
-    pub room-refused : not t ≡ true → Rejected NoRoom ≡ verdict (redact_faults limit text literal content room)
+    pub room-refused : not t ≡ true → Err NoRoom ≡ verdict (redact_faults limit text literal content room)
     room-refused short = then-room (sym (room-said ∙ rw (not-true t short)))
 
     pub all-accepted : not t ≡ false → verdict (redact_faults limit text literal content room) ≡ Accepted
@@ -127,9 +124,9 @@ module _ (text literal content : List ℕ) (room : ℕ) (ok : verdict (redact_fa
 
 module _ (text literal content out₀ starts₀ ends₀ : List ℕ) {room : ℕ} (rooms : room ≡ least (length out₀) (length starts₀) (length ends₀)) where
   -- a refusal leaves every buffer
-  pub refused_all : {k : Refusal} → Rejected k ≡ verdict (redact_faults limit text literal content room) → Redacted limit text literal content out₀ starts₀ ends₀ (Refused k) out₀ starts₀ ends₀
+  pub refused_all : {k : Refusal} → Err k ≡ verdict (redact_faults limit text literal content room) → Redacted limit text literal content out₀ starts₀ ends₀ (Err k) out₀ starts₀ ends₀
   refused_all {k} is =
-      record { says = Rejected k; says_is = is ∙ rw rooms; answer = refl; text_is = refl; starts_are = refl; ends_are = refl }
+      record { says = Err k; says_is = is ∙ rw rooms; answer = refl; text_is = refl; starts_are = refl; ends_are = refl }
 
   -- past all checks: there is room, and what is laid is what is published
   module _ (ok : verdict (redact_faults limit text literal content room) ≡ Accepted) where
@@ -161,7 +158,7 @@ module _ (text literal content out₀ starts₀ ends₀ : List ℕ) {room : ℕ}
           size_is = l.reached ∙ ap (λ (ps : List Place). length (laid (λ end. content) ps text)) (sym read) ∙ blanked-length text literal g.text_formed g.literal_formed g.short content;
         }
 
-    pub all-blanked : {r count : ℕ} {out starts ends : List ℕ} → FoundLaid text literal content out₀ starts₀ ends₀ r out starts ends → count ≡ match_count (found_places text literal) → Redacted limit text literal content out₀ starts₀ ends₀ (Published r count) out starts ends
+    pub all-blanked : {r count : ℕ} {out starts ends : List ℕ} → FoundLaid text literal content out₀ starts₀ ends₀ r out starts ends → count ≡ match_count (found_places text literal) → Redacted limit text literal content out₀ starts₀ ends₀ (Ok (r, count)) out starts ends
     unfolding replaced starting
     all-blanked {r} l counted =
         let read : places_of (found_bytes text literal) ≡ found_places text literal = found-read text literal (formed text literal content room ok).short in
@@ -169,7 +166,7 @@ module _ (text literal content out₀ starts₀ ends₀ : List ℕ) {room : ℕ}
         record {
           says = Accepted;
           says_is = sym ok ∙ rw rooms;
-          answer = λ i. Published (size i) (counted i);
+          answer = λ i. Ok (size i, counted i);
           text_is = l.text_is ∙ rw read;
           starts_are = l.starts_are ∙ rw read;
           ends_are = l.ends_are ∙ rw read;
@@ -183,7 +180,7 @@ published-call text literal content out₀ starts₀ ends₀ m count out starts 
     record {
       says = Accepted;
       says_is = sym (replace-accepts text literal content _ (sym call.says_is ∙ ok));
-      answer = ap Replaced said.1;
+      answer = ap Ok said.1;
       text_is = call.text_is ∙ ap (λ (v : Verdict). after v (blanked text literal content).text out₀) ok;
       starts_are = call.starts_are ∙ ap (λ (v : Verdict). after v (blanked text literal content).starts starts₀) ok;
       ends_are = call.ends_are ∙ ap (λ (v : Verdict). after v (blanked text literal content).ends ends₀) ok;

@@ -14,18 +14,18 @@ ghost use Rattle.redact_note.specs.Redacting.{match_count};
 ghost use Rattle.redact.specs.Redacting.{Redacted, input_faults};
 ghost use Rattle.redact.specs.Blanks.{Fitting, FoundLaid, Margin, Resized, WholeLaid, WholeRoom};
 
-use buffers::{Offset, copy_bytes};
+use buffers::{Offset, copy};
 use checks::{check_string, check_text, least_of_two, least_room};
 use find::search::{first_match, next_match};
 use from_text::columns::{write_ends, write_starts};
 use note::verdicts::earlier;
-use note::{LIMIT, Refusal, Verdict};
+use note::{LIMIT, Refusal};
 use redact_blocks::blank;
-use redact_note::{Redaction, count_matches};
+use redact_note::count_matches;
 use validity_blocks::extremes::largest;
 
 // Whether text, literal or content is refused.
-fn check_inputs(text: &[u8], literal: &[u8], content: &[u8]) -> Verdict
+fn check_inputs(text: &[u8], literal: &[u8], content: &[u8]) -> Result<(), Refusal>
     ensures { result ≡ verdict (input_faults limit
         text.now literal.now content.now) }
 {
@@ -127,7 +127,7 @@ fn lay_whole(text: &[u8], out: &mut [u8], out_starts: &mut [Offset], out_ends: &
         out.old out_starts.old out_ends.old
         out.new out_starts.new out_ends.new }
 {
-    copy_bytes(text, out, 0);
+    copy(text, out, 0);
     write_starts(text, out_starts);
     write_ends(text, out_ends);
 }
@@ -174,7 +174,7 @@ fn blank_found(
         );
     }
     let mut padded = [0u8; 16];
-    copy_bytes(content, &mut padded, 0);
+    copy(content, &mut padded, 0);
     blank(
         text, max, literal, content, &padded, margin, until, out, out_starts, out_ends,
     )
@@ -206,23 +206,21 @@ pub fn redact(
     out: &mut [u8],
     out_starts: &mut [Offset],
     out_ends: &mut [Offset],
-) -> Redaction
+) -> Result<(usize, usize), Refusal>
     ensures { Redacted limit text.now literal.now content.now
         out.old out_starts.old out_ends.old
         result out.new out_starts.new out_ends.new }
 {
-    if let Verdict::Refused(k) = check_inputs(text, literal, content) {
-        return Redaction::Refused(k);
-    }
+    check_inputs(text, literal, content)?;
     let first = first_match(text, literal);
     let room = least_of_two(
         LIMIT,
         least_room(out.len(), out_starts.len(), out_ends.len()),
     );
     if !result_fits(text, literal, first, content.len(), room) {
-        return Redaction::Refused(Refusal::NoRoom);
+        return Err(Refusal::NoRoom);
     }
     let size = blank_found(text, literal, content, first, out, out_starts, out_ends);
     let count = match_count(text, literal, first, content.len(), size);
-    Redaction::Published(size, count)
+    Ok((size, count))
 }

@@ -8,13 +8,12 @@ use native.Mathlib.Omega.{arith}
 use lib.Dec.{leb}
 use lib.ListN.{length, take, replicate, length-replicate}
 use borrow.Author.Tests.{leb-true, not-false}
+use Rattle.std.specs.Prelude.{Ok, Err}
 use Rattle.buffers.specs.Splice.{overlay}
 use Rattle.buffers.proofs.Splice.{take-overlay}
 use Rattle.utf8.specs.Formed.{well_formed}
 use Rattle.note.specs.declared.Refusal.TheVariants.{NoRoom}
-use Rattle.note.specs.declared.Verdict.{Verdict}
-use Rattle.note.specs.declared.Verdict.TheVariants.{Accepted, Refused as Rejected}
-use Rattle.note.specs.Refusals.{none, meets, least, verdict, after, unless_refused}
+use Rattle.note.specs.Refusals.{none, meets, least, verdict, after, unless_refused, Verdict, Accepted}
 use Rattle.note.specs.Notes.{Note, limit}
 use Rattle.note.specs.Faults.{note_faults}
 use Rattle.note.proofs.FirstMet.{accepted-meets, accepted-first, accepted-second}
@@ -26,7 +25,6 @@ use Rattle.replace.specs.Blanking.{published}
 use Rattle.redact_note.specs.Chain.{Pair, StepCall, Chain, left_by, step_of, steps_of}
 use Rattle.word_pairs.specs.Words.{words_of, in_pairs, pairs_of, all_formed}
 use Rattle.redact_all.specs.declared.Report.{Report}
-use Rattle.redact_all.specs.declared.Redactions.TheVariants.{Published, Refused}
 use Rattle.redact_all.specs.Steps.{published_by, steps_fit}
 use Rattle.redact_all.specs.RedactAll.{AllBuffers, AllRedacted, ChainedCall, all_input_faults, result_faults, all_faults, report_of}
 use Rattle.redact_all.specs.Stepping.{Checked}
@@ -96,16 +94,16 @@ all-chained d long (p ∷ ps) n noted formed fit =
     record { chain = (next, (step_call d long n p noted l c within, rest.chain)); accepted = rest.accepted; same_original = rest.same_original; same_shift = rest.same_shift }
 
 -- a call that has published
-pub says-report : (v : Verdict) (report told : Report) → Published report ≡ unless_refused Refused v (Published told) → (v ≡ Accepted) × (report ≡ told)
-says-report Accepted report told e = (refl, cc)
-says-report (Rejected j) report told e = let z : ◌≡◌ {A = ℕ} 0 1 = cc in absurd (omega arith)
+pub says-report : (v : Verdict) (report told : Report) → Ok report ≡ unless_refused Err v (Ok told) → (v ≡ Accepted) × (report ≡ told)
+says-report (Ok tt) report told e = (refl, cc)
+says-report (Err j) report told e = let z : ◌≡◌ {A = ℕ} 0 1 = cc in absurd (omega arith)
 
 -- the front of a buffer that a list was laid in
 front_of : (says : Verdict) (m : ℕ) (x d o : List ℕ) → says ≡ Accepted → m ≡ length x → o ≡ after says x d → take m o ≡ x
 front_of says m x d o ok size is = rw (is, ok, size) (take-overlay x d)
 
 -- its inputs were accepted, and so was each step
-module _ (n : Note) (bytes sizes : List ℕ) (b₀ : AllBuffers) (report : Report) (b : AllBuffers) (call : AllRedacted limit n bytes sizes b₀ (Published report) b) where
+module _ (n : Note) (bytes sizes : List ℕ) (b₀ : AllBuffers) (report : Report) (b : AllBuffers) (call : AllRedacted limit n bytes sizes b₀ (Ok report) b) where
   all-accepted : verdict (all_faults limit n bytes sizes b₀) ≡ Accepted
   all-accepted = sym call.says_is ∙ (says-report call.says report (report_of n (pairs_of bytes sizes)) call.answer).0
 

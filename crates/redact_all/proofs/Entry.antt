@@ -8,13 +8,12 @@ use lib.Dec.{leb}
 use lib.ListN.{length, take}
 use lib.Seq.{length-take-le}
 use borrow.Author.Tests.{leb-true, le-leb, lt-leb, not-false}
+use Rattle.std.specs.Prelude.{Ok, Err, Option, Some, None}
 use Rattle.buffers.specs.Splice.{splice, overlay}
 use Rattle.buffers.proofs.Splice.{splice-overlay, take-overlay, length-overlay, overlay-long}
 use Rattle.note.specs.declared.Refusal.{Refusal}
 use Rattle.note.specs.declared.Refusal.TheVariants.{TooLong, LengthMismatch, IllFormed, Misaligned, NoRoom}
-use Rattle.note.specs.declared.Verdict.{Verdict}
-use Rattle.note.specs.declared.Verdict.TheVariants.{Accepted, Refused as Rejected}
-use Rattle.note.specs.Refusals.{none, meets, also, least, verdict}
+use Rattle.note.specs.Refusals.{none, meets, also, least, verdict, Verdict, Accepted}
 use Rattle.note.specs.Rank.{up_to}
 use Rattle.note.specs.Notes.{Note, lent, limit}
 use Rattle.note.specs.Faults.{note_faults}
@@ -28,9 +27,6 @@ use Rattle.word_pairs.specs.Counts.{word_counts}
 use Rattle.word_pairs.specs.Words.{words_of, pairs_of, even_words, all_formed, word_faults}
 use Rattle.word_pairs.proofs.Words.{length_pairs}
 use Rattle.redact_all.specs.declared.Report.{Report}
-use Rattle.redact_all.specs.declared.Redactions.TheVariants.{Published, Refused}
-use Rattle.redact_all.specs.declared.Steps.{Steps}
-use Rattle.redact_all.specs.declared.Steps.TheVariants.{Left, Short}
 use Rattle.redact_all.specs.Steps.{published_by, steps_fit, blanked_counts}
 use Rattle.redact_all.specs.RedactAll.{AllBuffers, all_input_faults, result_faults, all_faults, AllRedacted}
 use Rattle.redact_all.specs.Stepping.{Checked, LimitLong, StepsReady, AllStepped, StepsTaken, Tellable, Told, reported}
@@ -92,17 +88,17 @@ module _ {original normalized starts ends : List ℕ} {shift : ℕ} {bytes sizes
         counts_room = omega (arith, k.few, long.counts_long);
       }
 
-  pub copied-taken : (r : Steps) (text₂ starts₂ ends₂ counts₂ : List ℕ) → StepsTaken (held original shift (length normalized) text starts₁ ends₁) original shift bytes sizes counts r text₂ starts₂ ends₂ counts₂
+  pub copied-taken : (r : Option ℕ) (text₂ starts₂ ends₂ counts₂ : List ℕ) → StepsTaken (held original shift (length normalized) text starts₁ ends₁) original shift bytes sizes counts r text₂ starts₂ ends₂ counts₂
       → StepsTaken (lent original normalized starts ends shift) original shift bytes sizes counts r text₂ starts₂ ends₂ counts₂
   copied-taken r text₂ starts₂ ends₂ counts₂ taken = rw copied-note at taken
 
 -- what the steps say
-module _ (n : Note) (original : List ℕ) (shift : ℕ) (bytes sizes counts₀ text starts ends counts : List ℕ) {r : Steps} (taken : StepsTaken n original shift bytes sizes counts₀ r text starts ends counts) where
-  pub steps-left : {size : ℕ} → r ≡ Left size → AllStepped n original shift size bytes sizes counts₀ text starts ends counts
+module _ (n : Note) (original : List ℕ) (shift : ℕ) (bytes sizes counts₀ text starts ends counts : List ℕ) {r : Option ℕ} (taken : StepsTaken n original shift bytes sizes counts₀ r text starts ends counts) where
+  pub steps-left : {size : ℕ} → r ≡ Some size → AllStepped n original shift size bytes sizes counts₀ text starts ends counts
   unfolding StepsTaken
   steps-left is = rw is at taken
 
-  pub steps-short : r ≡ Short → steps_fit limit (pairs_of bytes sizes) n ≡ false
+  pub steps-short : r ≡ None → steps_fit limit (pairs_of bytes sizes) n ≡ false
   unfolding StepsTaken
   steps-short is = rw is at taken
 
@@ -117,7 +113,7 @@ module _ {n : Note} {original : List ℕ} {shift size : ℕ} {bytes sizes counts
   counts-front : take (length sizes / 2) counts ≡ blanked_counts (pairs_of bytes sizes) n
   counts-front = ap (take (length sizes / 2)) left.counts_are ∙ rw (← counts-as-many) (take-overlay (blanked_counts (pairs_of bytes sizes) n) counts₀)
 
-results-said : (x y z : Bool) → verdict (also (meets NoRoom (not x) none) (also (meets NoRoom (not y) none) (meets NoRoom (not z) none))) ≡ cond (x && (y && z)) Accepted (Rejected NoRoom)
+results-said : (x y z : Bool) → verdict (also (meets NoRoom (not x) none) (also (meets NoRoom (not y) none) (meets NoRoom (not z) none))) ≡ cond (x && (y && z)) Accepted (Err NoRoom)
 unfolding verdict
 results-said true true true = refl
 results-said true true false = refl
@@ -132,10 +128,10 @@ module _ (n : Note) (bytes sizes : List ℕ) (b₀ : AllBuffers) {v : Verdict} (
   abbrev columns : ℕ
   columns = least (length b₀.blanked) (length b₀.left) (length b₀.fillers)
 
-  refused_all : {j : Refusal} → Rejected j ≡ verdict (all_faults limit n bytes sizes b₀) → AllRedacted limit n bytes sizes b₀ (Refused j) b₀
+  refused_all : {j : Refusal} → Err j ≡ verdict (all_faults limit n bytes sizes b₀) → AllRedacted limit n bytes sizes b₀ (Err j) b₀
   refused_all {j} is =
       record {
-        says = Rejected j;
+        says = Err j;
         says_is = is;
         answer = refl;
         text_is = refl;
@@ -146,7 +142,7 @@ module _ (n : Note) (bytes sizes : List ℕ) (b₀ : AllBuffers) {v : Verdict} (
         fillers_are = refl;
       }
 
-  pub refused-input : {j : Refusal} → v ≡ Rejected j → AllRedacted limit n bytes sizes b₀ (Refused j) b₀
+  pub refused-input : {j : Refusal} → v ≡ Err j → AllRedacted limit n bytes sizes b₀ (Err j) b₀
   refused-input is = refused_all (refused-then (up_to Misaligned) (all_input_faults limit n bytes sizes) (result_faults limit n (pairs_of bytes sizes) room columns) refl refl said is)
 
   module _ (is : v ≡ Accepted) where
@@ -154,21 +150,21 @@ module _ (n : Note) (bytes sizes : List ℕ) (b₀ : AllBuffers) {v : Verdict} (
     then-results w = accepted-then (up_to Misaligned) (all_input_faults limit n bytes sizes) (result_faults limit n (pairs_of bytes sizes) room columns) refl refl said is w
 
     results : verdict (result_faults limit n (pairs_of bytes sizes) room columns)
-        ≡ cond (steps_fit limit (pairs_of bytes sizes) n && (leb (length (published_by (pairs_of bytes sizes) n).normalized) room && leb (length (pairs_of bytes sizes)) columns)) Accepted (Rejected NoRoom)
+        ≡ cond (steps_fit limit (pairs_of bytes sizes) n && (leb (length (published_by (pairs_of bytes sizes) n).normalized) room && leb (length (pairs_of bytes sizes)) columns)) Accepted (Err NoRoom)
     results = results-said (steps_fit limit (pairs_of bytes sizes) n) (leb (length (published_by (pairs_of bytes sizes) n).normalized) room) (leb (length (pairs_of bytes sizes)) columns)
 
-    pub refused-steps : steps_fit limit (pairs_of bytes sizes) n ≡ false → AllRedacted limit n bytes sizes b₀ (Refused NoRoom) b₀
+    pub refused-steps : steps_fit limit (pairs_of bytes sizes) n ≡ false → AllRedacted limit n bytes sizes b₀ (Err NoRoom) b₀
     refused-steps short = refused_all (then-results (sym (results ∙ rw short)))
 
     module _ {original : List ℕ} {shift size : ℕ} {counts₀ text starts ends counts : List ℕ} (left : AllStepped n original shift size bytes sizes counts₀ text starts ends counts) where
       size_is : length (published_by (pairs_of bytes sizes) n).normalized ≡ size
       size_is = sym (ap (λ (m : Note). length m.normalized) left.left_is) ∙ length-take-le size text (omega (arith, left.is_held.size_most, left.is_held.text_long))
 
-      pub refused-text : room < size → AllRedacted limit n bytes sizes b₀ (Refused NoRoom) b₀
+      pub refused-text : room < size → AllRedacted limit n bytes sizes b₀ (Err NoRoom) b₀
       refused-text less = refused_all (then-results (sym (results ∙ rw (left.fit, lt-leb (length (published_by (pairs_of bytes sizes) n).normalized) room (omega (arith, size_is))))))
 
       module _ (fits : size ≤ room) where
-        pub refused-columns : columns < length sizes / 2 → AllRedacted limit n bytes sizes b₀ (Refused NoRoom) b₀
+        pub refused-columns : columns < length sizes / 2 → AllRedacted limit n bytes sizes b₀ (Err NoRoom) b₀
         refused-columns less =
             refused_all (then-results (sym (results ∙ rw (left.fit, le-leb (length (published_by (pairs_of bytes sizes) n).normalized) room (omega (arith, size_is)), lt-leb (length (pairs_of bytes sizes)) columns (omega (arith, length_pairs bytes sizes))))))
 
@@ -198,13 +194,13 @@ module _ (n : Note) (bytes sizes : List ℕ) (b₀ : AllBuffers) {v : Verdict} (
               }
 
           pub all-published : {report : Report} {b : AllBuffers} → Told n.normalized bytes sizes (take size text) (take size starts) (take size ends) (take (length sizes / 2) counts) b₀ report b
-              → AllRedacted limit n bytes sizes b₀ (Published report) b
+              → AllRedacted limit n bytes sizes b₀ (Ok report) b
           all-published {report} {b} told =
               let text_left : take size text ≡ (published_by (pairs_of bytes sizes) n).normalized = ap (λ (m : Note). m.normalized) left.left_is in
               record {
                 says = Accepted;
                 says_is = accepted;
-                answer = ap Published (told.reports ∙ ap (λ (x : List ℕ). reported n.normalized bytes sizes x (take (length sizes / 2) counts)) text_left ∙ ap (reported n.normalized bytes sizes (published_by (pairs_of bytes sizes) n).normalized) (counts-front left));
+                answer = ap Ok (told.reports ∙ ap (λ (x : List ℕ). reported n.normalized bytes sizes x (take (length sizes / 2) counts)) text_left ∙ ap (reported n.normalized bytes sizes (published_by (pairs_of bytes sizes) n).normalized) (counts-front left));
                 text_is = told.text_is ∙ ap (λ (x : List ℕ). overlay x b₀.out) text_left;
                 starts_are = told.starts_are ∙ ap (λ (m : Note). overlay m.starts b₀.starts) left.left_is;
                 ends_are = told.ends_are ∙ ap (λ (m : Note). overlay m.ends b₀.ends) left.left_is;

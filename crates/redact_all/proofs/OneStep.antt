@@ -8,11 +8,11 @@ use native.Mathlib.Omega.{arith}
 use lib.Dec.{leb}
 use lib.ListN.{length, take}
 use borrow.Author.Tests.{lt-leb}
+use Rattle.std.specs.Prelude.{Result, Ok, Err}
 use Rattle.buffers.proofs.Cases.{le-or-lt}
 use Rattle.utf8.specs.Formed.{well_formed}
 use Rattle.note.specs.declared.Refusal.{Refusal}
-use Rattle.note.specs.declared.Verdict.TheVariants.{Accepted, Refused as Rejected}
-use Rattle.note.specs.Refusals.{also, least, verdict}
+use Rattle.note.specs.Refusals.{also, least, verdict, Accepted}
 use Rattle.note.specs.Notes.{Note, limit}
 use Rattle.note.specs.Faults.{note_faults, string_faults, room_faults}
 use Rattle.note.proofs.FirstMet.{both-accepted}
@@ -24,8 +24,6 @@ use Rattle.find.specs.Finding.{found_bytes}
 use Rattle.find.proofs.FoundPlaces.{found-cases, count-longest}
 use Rattle.replace.specs.Replacing.{replace_faults}
 use Rattle.replace.proofs.Replaced.{replaced-sound}
-use Rattle.redact_note.specs.declared.Redaction.{Redaction}
-use Rattle.redact_note.specs.declared.Redaction.TheVariants.{Published, Refused}
 use Rattle.redact_note.specs.Redacting.{note_redact_faults, note_input_faults, rooms_faults, match_count}
 use Rattle.redact_note.specs.Chain.{Pair, left_by, step_of}
 use Rattle.redact_note.proofs.Redacting.{replaces}
@@ -36,7 +34,7 @@ string-accepted : (s : List ℕ) → well_formed s ≡ true → verdict (string_
 unfolding verdict
 string-accepted s f = rw f
 
-refusal-clash : {k : Refusal} {P : Type 0} → Accepted ≡ Rejected k → P
+refusal-clash : {k : Refusal} {P : Type 0} → Accepted ≡ Err k → P
 refusal-clash e = let z : ◌≡◌ {A = ℕ} 0 1 = cc in absurd (omega arith)
 
 -- a text within the limit has no more places than `room_for` is asked for
@@ -75,14 +73,14 @@ module _ (n : Note) (p : Pair) (noted : verdict (note_faults limit n) ≡ Accept
         sound-accepted limit next left.0 left.1
 
 -- a step in place
-module _ {original : List ℕ} {shift size : ℕ} {literal content text₀ starts₀ ends₀ : List ℕ} {r : Redaction} {text starts ends : List ℕ} (place : InPlace original shift size literal content text₀ starts₀ ends₀ r text starts ends) where
+module _ {original : List ℕ} {shift size : ℕ} {literal content text₀ starts₀ ends₀ : List ℕ} {r : Result (ℕ × ℕ) Refusal} {text starts ends : List ℕ} (place : InPlace original shift size literal content text₀ starts₀ ends₀ r text starts ends) where
   abbrev before : Note
   before = held original shift size text₀ starts₀ ends₀
 
   abbrev pair : Pair
   pair = record { literal = literal; content = content }
 
-  module _ {m count : ℕ} (is : r ≡ Published m count) where
+  module _ {m count : ℕ} (is : r ≡ Ok (m, count)) where
     pub place-left : held original shift m text starts ends ≡ left_by (step_of pair before) before
     place-left =
         let e = parts place.call is in
@@ -91,12 +89,12 @@ module _ {original : List ℕ} {shift size : ℕ} {literal content text₀ start
     pub place-counted : count ≡ match_count (found_places (take size text₀) literal)
     place-counted = counted place.call is
 
-  pub place_short : {k : Refusal} → r ≡ Refused k → verdict (note_faults limit before) ≡ Accepted → well_formed literal ≡ true → well_formed content ≡ true
+  pub place_short : {k : Refusal} → r ≡ Err k → verdict (note_faults limit before) ≡ Accepted → well_formed literal ≡ true → well_formed content ≡ true
       → length text₀ ≡ limit → length starts₀ ≡ limit → length ends₀ ≡ limit → leb (length (left_by (step_of pair before) before).normalized) limit ≡ false
   place_short {k} is noted l c t s e =
       le-or-lt (length (left_by (step_of pair before) before).normalized) limit
       (λ fit.
-      let told : place.call.says ≡ Rejected k = says-refused place.call.says _ _ (sym is ∙ place.call.answer) in
+      let told : place.call.says ≡ Err k = says-refused place.call.says _ _ (sym is ∙ place.call.answer) in
       let list = list-fits (take size text₀) literal (short before pair noted l c) in
       let ok : place.call.says ≡ Accepted = place.call.says_is ∙ sym (step-accepted before pair noted l c (length place.list₀) (least (length text₀) (length starts₀) (length ends₀)) (omega (arith, list, place.list_room)) (omega (arith, fit, t, s, e))) in
       refusal-clash (sym ok ∙ told))

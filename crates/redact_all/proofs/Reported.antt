@@ -5,10 +5,9 @@ use mathlib.Core.Bool.{true}
 use mathlib.Core.List.{List}
 use native.Mathlib.Omega.{arith}
 use lib.ListN.{length}
+use Rattle.std.specs.Prelude.{Result, Ok}
 use Rattle.buffers.proofs.Splice.{overlay-long}
-use Rattle.note.specs.declared.Verdict.{Verdict}
-use Rattle.note.specs.declared.Verdict.TheVariants.{Accepted}
-use Rattle.note.specs.Refusals.{after}
+use Rattle.note.specs.Refusals.{after, Verdict, Accepted}
 use Rattle.note.specs.Notes.{Note, limit}
 use Rattle.note.proofs.Sound.{length-starts, length-ends}
 use Rattle.note.proofs.Faults.{accepted-sound, normalized_short}
@@ -17,12 +16,11 @@ use Rattle.word_pairs.specs.Words.{pairs_of, even_words}
 use Rattle.word_pairs.proofs.Words.{length_pairs}
 use Rattle.word_pairs.proofs.Counts.{length-counts}
 use Rattle.redact_all.specs.declared.Report.{Report}
-use Rattle.redact_all.specs.declared.Redactions.{Redactions}
-use Rattle.redact_all.specs.declared.Redactions.TheVariants.{Published}
 use Rattle.redact_all.specs.Steps.{published_by, blanked_counts, left_counts, filler_counts}
 use Rattle.redact_all.specs.RedactAll.{AllBuffers, AllRedacted, report_of}
 use Rattle.redact_all.proofs.Stepping.{length-blanked}
 use Rattle.redact_all.proofs.Chained.{says-report, call-checked, call-chained}
+use Rattle.note.specs.declared.Refusal.{Refusal}
 
 pub record ReportFits (bytes sizes : List ℕ) (report : Report) (b : AllBuffers) : Type 0 where
   pub even : even_words bytes sizes ≡ true
@@ -39,9 +37,9 @@ over-long says m x d o ok size is =
     let there : o ≡ after Accepted x d = is ∙ ap (λ (v : Verdict). after v x d) ok in
     omega (arith, size, ap length there, overlay-long x d)
 
-pub report-fits : (n : Note) (bytes sizes : List ℕ) (b₀ : AllBuffers) {r : Redactions} {report : Report} {b : AllBuffers} → AllRedacted limit n bytes sizes b₀ r b → r ≡ Published report → ReportFits bytes sizes report b
+pub report-fits : (n : Note) (bytes sizes : List ℕ) (b₀ : AllBuffers) {r : Result Report Refusal} {report : Report} {b : AllBuffers} → AllRedacted limit n bytes sizes b₀ r b → r ≡ Ok report → ReportFits bytes sizes report b
 report-fits n bytes sizes b₀ {r} {report} {b} given is =
-    let call : AllRedacted limit n bytes sizes b₀ (Published report) b = rw is at given in
+    let call : AllRedacted limit n bytes sizes b₀ (Ok report) b = rw is at given in
     let said = says-report call.says report (report_of n (pairs_of bytes sizes)) call.answer in
     let left : Note = published_by (pairs_of bytes sizes) n in
     let sound = accepted-sound limit left (call-chained n bytes sizes b₀ report b call).accepted in

@@ -9,17 +9,15 @@ use lib.Dec.{leb}
 use lib.ListN.{length, take, drop, get_or, set}
 use lib.Seq.{length-take-le}
 use borrow.Author.Tests.{le-leb}
+use Rattle.std.specs.Prelude.{Result, Ok, Err, Some, None}
 use Rattle.buffers.specs.Splice.{part}
 use Rattle.buffers.proofs.Splice.{Laying, none-laid, piece-laid, all_laid, store-one}
 use Rattle.utf8.specs.Formed.{well_formed}
 use Rattle.note.specs.declared.Refusal.{Refusal}
-use Rattle.note.specs.declared.Verdict.TheVariants.{Accepted}
-use Rattle.note.specs.Refusals.{verdict}
+use Rattle.note.specs.Refusals.{verdict, Accepted}
 use Rattle.note.specs.Notes.{Note, limit}
 use Rattle.note.specs.Faults.{note_faults}
 use Rattle.find.specs.Matching.{found_places}
-use Rattle.redact_note.specs.declared.Redaction.{Redaction}
-use Rattle.redact_note.specs.declared.Redaction.TheVariants.{Published, Refused}
 use Rattle.redact_note.specs.Redacting.{match_count}
 use Rattle.redact_note.specs.Chain.{Pair, left_by, step_of}
 use Rattle.redact_note.proofs.MatchCount.{found-matched}
@@ -29,7 +27,6 @@ use Rattle.redact_in_place.proofs.Holding.{left-held}
 use Rattle.word_pairs.specs.Words.{words_of, pairs_of, pair_cut, all_formed}
 use Rattle.word_pairs.proofs.Judging.{formed-cons}
 use Rattle.word_pairs.proofs.Words.{At, even-at, next-at, pairs-at, pairs_end, words-at, both_read, length_pairs}
-use Rattle.redact_all.specs.declared.Steps.TheVariants.{Left, Short}
 use Rattle.redact_all.specs.Steps.{published_by, steps_fit, blanked_counts}
 use Rattle.redact_all.specs.Stepping.{StepsReady, StepsTaken}
 use Rattle.redact_all.proofs.OneStep.{next-accepted, place-left, place-counted, place_short}
@@ -140,8 +137,8 @@ module _ {n : Note} {original : List ℕ} {shift : ℕ} {bytes sizes counts₀ t
     pub counts_room : k < length counts
     counts_room = omega (arith, s.laid.room, ap length counts-first)
 
-    module _ {r : Redaction} {text₁ starts₁ ends₁ : List ℕ} (place : InPlace original shift size (part bytes at middle) (part bytes middle end) text starts ends r text₁ starts₁ ends₁) where
-      module _ {m count : ℕ} (is : r ≡ Published m count) where
+    module _ {r : Result (ℕ × ℕ) Refusal} {text₁ starts₁ ends₁ : List ℕ} (place : InPlace original shift size (part bytes at middle) (part bytes middle end) text starts ends r text₁ starts₁ ends₁) where
+      module _ {m count : ℕ} (is : r ≡ Ok (m, count)) where
         pub count_small : count ≤ limit
         count_small =
             let short = length-take-le size text (omega (arith, s.is_held.size_most, s.is_held.text_long)) in
@@ -170,13 +167,13 @@ module _ {n : Note} {original : List ℕ} {shift : ℕ} {bytes sizes counts₀ t
                   (k + 1) (set counts k count) refl (store-one counts k count counts_room);
             }
 
-      pub short-stepped : {j : Refusal} (text₂ starts₂ ends₂ counts₂ : List ℕ) → r ≡ Refused j → StepsTaken n original shift bytes sizes counts₀ Short text₂ starts₂ ends₂ counts₂
+      pub short-stepped : {j : Refusal} (text₂ starts₂ ends₂ counts₂ : List ℕ) → r ≡ Err j → StepsTaken n original shift bytes sizes counts₀ None text₂ starts₂ ends₂ counts₂
       unfolding StepsTaken
       short-stepped text₂ starts₂ ends₂ counts₂ is =
           sym s.fit ∙ ap (λ (ps : List Pair). steps_fit limit ps before) (pairs-at s.read h)
           ∙ short-cons here more before (place_short place is s.noted literal_formed content_formed s.is_held.text_long s.is_held.starts_long s.is_held.ends_long)
 
-  pub all-stepped : length sizes / 2 ≤ k → StepsTaken n original shift bytes sizes counts₀ (Left size) text starts ends counts
+  pub all-stepped : length sizes / 2 ≤ k → StepsTaken n original shift bytes sizes counts₀ (Some size) text starts ends counts
   unfolding StepsTaken
   all-stepped h =
       let done : pairs_of (drop at bytes) (drop (2 * k) sizes) ≡ [] = pairs_end s.read h in

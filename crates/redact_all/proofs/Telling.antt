@@ -1,11 +1,11 @@
 -- Laws of what is told in the end: laid in front of the passed buffers, and counted there.
-use Prim.Native.Nat.{ℕ, ◌+◌, ◌/◌, ◌≤◌, ◌<◌}
+use Prim.Native.Nat.{ℕ, ◌/◌, ◌≤◌}
 use mathlib.Core.Path.{◌≡◌, ◌∙◌, ap, sym}
 use mathlib.Core.List.{List}
 use native.Mathlib.Omega.{arith}
-use lib.ListN.{length, take, get_or, set}
+use lib.ListN.{length, take}
 use Rattle.buffers.specs.Splice.{splice, overlay}
-use Rattle.buffers.proofs.Splice.{Written, one_more, all-written, splice-overlay, take-overlay, overlay-long}
+use Rattle.buffers.proofs.Splice.{splice-overlay, take-overlay, overlay-long}
 use Rattle.word_pairs.specs.declared.Word.{Word}
 use Rattle.word_pairs.specs.declared.Word.TheVariants.{Literal, Filler}
 use Rattle.word_pairs.specs.Words.{pairs_of}
@@ -14,13 +14,6 @@ use Rattle.word_pairs.proofs.Words.{length_pairs}
 use Rattle.word_pairs.proofs.Counts.{length-counts}
 use Rattle.redact_all.specs.RedactAll.{AllBuffers}
 use Rattle.redact_all.specs.Stepping.{Told}
-
-module _ {s d₀ d : List ℕ} {j : ℕ} (w : Written s d₀ 0 d j) where
-  pub one-front : {x : ℕ} → length s ≤ length d₀ → j < length s → x ≡ get_or s j 0 → Written s d₀ 0 (set d j x) (j + 1)
-  one-front {x} room h is = let here : 0 + j ≡ j = omega arith in rw here at (one_more w (omega arith) h is)
-
-  pub all-front : length s ≤ j → d ≡ overlay s d₀
-  all-front h = all-written w h ∙ splice-overlay d₀ s
 
 -- a column of counts: as long as there are pairs, and the front of its buffer
 module _ (which : Word) (text bytes sizes column₀ : List ℕ) {column : List ℕ} (is : column ≡ overlay (word_counts which text (pairs_of bytes sizes)) column₀) {pairs : ℕ} (all : pairs ≡ length sizes / 2) where

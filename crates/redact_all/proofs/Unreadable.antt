@@ -9,8 +9,7 @@ use lib.ListN.{length, take}
 use borrow.Author.Tests.{eq-eqb, eqb-true}
 use Rattle.buffers.proofs.Splice.{take-overlay}
 use Rattle.buffers.proofs.Cases.{le-or-lt, true-or-false, clash}
-use Rattle.note.specs.declared.Verdict.{Verdict}
-use Rattle.note.specs.Refusals.{after}
+use Rattle.note.specs.Refusals.{after, Verdict}
 use Rattle.find.specs.Matching.{occurs_at, first_from, found_places, FirstMatch}
 use Rattle.find.specs.Searching.{first_match}
 use Rattle.find.proofs.Occurs.{occurs-inside}
@@ -21,7 +20,7 @@ use Rattle.redact_note.proofs.MatchCount.{none-counted, next-counted}
 use Rattle.word_pairs.specs.declared.Word.TheVariants.{Literal}
 use Rattle.word_pairs.specs.Words.{pairs_of}
 use Rattle.word_pairs.specs.Counts.{word_counts, zero_count, some_count}
-use Rattle.word_pairs.proofs.Counts.{counts-cons, counts-nil, zeros-few}
+use Rattle.word_pairs.proofs.Counts.{counts-cons, counts-nil, zeros-cons, zeros-few}
 use Rattle.redact_all.specs.declared.Report.{Report}
 use Rattle.redact_all.specs.Steps.{published_by, left_counts}
 use Rattle.redact_all.specs.RedactAll.{EachUnreadable, NothingLeft, report_of}
@@ -59,15 +58,15 @@ module _ (text literal : List ℕ) where
 -- all of them
 module _ (text : List ℕ) where
   some_first : (x : ℕ) (xs : List ℕ) → some_count (x ∷ xs) ≡ 0 → (x ≡ 0) × (some_count xs ≡ 0)
-  unfolding zero_count
   some_first x xs none =
       true-or-false (eqb x 0)
-      (λ t. (eqb-true x 0 t, let z = rw t at none in omega (arith, z, zeros-few xs)))
-      (λ f. let z = rw f at none in absurd (omega (arith, z, zeros-few xs)))
+      (λ t. let z : zero_count (x ∷ xs) ≡ 1 + zero_count xs = zeros-cons x xs ∙ rw t refl in (eqb-true x 0 t, omega (arith, none, z, zeros-few xs)))
+      (λ f. let z : zero_count (x ∷ xs) ≡ 0 + zero_count xs = zeros-cons x xs ∙ rw f refl in absurd (omega (arith, none, z, zeros-few xs)))
 
   some-none : (x : ℕ) (xs : List ℕ) → x ≡ 0 → some_count xs ≡ 0 → some_count (x ∷ xs) ≡ 0
-  unfolding zero_count
-  some-none x xs is none = rw (eq-eqb x 0 is) (omega (arith, none, zeros-few xs))
+  some-none x xs is none =
+      let z : zero_count (x ∷ xs) ≡ 1 + zero_count xs = zeros-cons x xs ∙ rw (eq-eqb x 0 is) refl in
+      omega (arith, none, z, zeros-few xs)
 
   each-unread : (ps : List Pair) → some_count (word_counts Literal text ps) ≡ 0 → EachUnreadable text ps
   unfolding EachUnreadable
@@ -77,7 +76,7 @@ module _ (text : List ℕ) where
       ((λ some i. none_read text p.literal some both.0 i), each-unread ps both.1)
 
   none_each : (ps : List Pair) → EachUnreadable text ps → some_count (word_counts Literal text ps) ≡ 0
-  unfolding EachUnreadable zero_count
+  unfolding EachUnreadable
   none_each [] unread = ap some_count (counts-nil Literal text)
   none_each (p ∷ ps) unread =
       ap some_count (counts-cons Literal text p ps) ∙ some-none (match_count (found_places text p.literal)) (word_counts Literal text ps) (unread-none text p.literal unread.0) (none_each ps unread.1)

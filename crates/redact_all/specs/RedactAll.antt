@@ -1,9 +1,8 @@
 -- RULES 15.10: blanking several literals in a note: when that is refused, and the call.
-use Rattle.std.specs.Prelude.{ℕ, ◌<◌, ◌≡◌, Bool, false, not, List, [], ◌∷◌, length, take}
+use Rattle.std.specs.Prelude.{ℕ, ◌<◌, ◌≡◌, Bool, false, not, List, [], ◌∷◌, length, take, Result, Ok, Err}
 use Rattle.note.specs.declared.Refusal.{Refusal}
 use Rattle.note.specs.declared.Refusal.TheVariants.{NoRoom}
-use Rattle.note.specs.declared.Verdict.{Verdict}
-use Rattle.note.specs.Refusals.{none, meets, also, least, verdict, after, unless_refused}
+use Rattle.note.specs.Refusals.{none, meets, also, least, verdict, after, unless_refused, Verdict}
 use Rattle.note.specs.Notes.{Note, limit}
 use Rattle.note.specs.Faults.{note_faults, room_faults}
 use Rattle.find.specs.Matching.{occurs_at}
@@ -13,8 +12,6 @@ use Rattle.redact_note.specs.Chain.{Pair, Chain, steps_of}
 use Rattle.word_pairs.specs.Words.{pairs_of, word_faults}
 use Rattle.word_pairs.specs.Counts.{zero_count, some_count}
 use Rattle.redact_all.specs.declared.Report.{Report}
-use Rattle.redact_all.specs.declared.Redactions.{Redactions}
-use Rattle.redact_all.specs.declared.Redactions.TheVariants.{Published, Refused}
 use Rattle.redact_all.specs.Steps.{published_by, steps_fit, blanked_counts, left_counts, filler_counts}
 
 -- the six passed buffers: what is published, and a column for each of the three counts
@@ -59,11 +56,11 @@ report_of n ps =
     }
 
 -- THE CALL: limit, note, words and sizes, the passed buffers before, the answer, the passed buffers after
-pub record AllRedacted (most : ℕ) (n : Note) (bytes sizes : List ℕ) (b₀ : AllBuffers) (r : Redactions) (b : AllBuffers)
+pub record AllRedacted (most : ℕ) (n : Note) (bytes sizes : List ℕ) (b₀ : AllBuffers) (r : Result Report Refusal) (b : AllBuffers)
     : Type 0 where
   pub says : Verdict
   pub says_is : says ≡ verdict (all_faults most n bytes sizes b₀)
-  pub answer : r ≡ unless_refused Refused says (Published (report_of n (pairs_of bytes sizes)))
+  pub answer : r ≡ unless_refused Err says (Ok (report_of n (pairs_of bytes sizes)))
   pub text_is : b.out ≡ after says (published_by (pairs_of bytes sizes) n).normalized b₀.out
   pub starts_are : b.starts ≡ after says (published_by (pairs_of bytes sizes) n).starts b₀.starts
   pub ends_are : b.ends ≡ after says (published_by (pairs_of bytes sizes) n).ends b₀.ends
@@ -84,7 +81,7 @@ EachUnreadable text (p ∷ ps) = Unreadable text p × EachUnreadable text ps
 abbrev pub NothingLeft : Type 0
 NothingLeft =
     (most : ℕ) (n : Note) (bytes sizes : List ℕ) (b₀ : AllBuffers) (report : Report) (b : AllBuffers)
-    → AllRedacted most n bytes sizes b₀ (Published report) b
+    → AllRedacted most n bytes sizes b₀ (Ok report) b
     → (report.left ≡ 0 → EachUnreadable (take report.len b.out) (pairs_of bytes sizes))
     × (EachUnreadable (take report.len b.out) (pairs_of bytes sizes) → report.left ≡ 0)
 
@@ -93,6 +90,6 @@ NothingLeft =
 abbrev pub ChainedCall : Type 0
 ChainedCall =
     (n : Note) (bytes sizes : List ℕ) (b₀ : AllBuffers) (report : Report) (b : AllBuffers)
-    → AllRedacted limit n bytes sizes b₀ (Published report) b
+    → AllRedacted limit n bytes sizes b₀ (Ok report) b
     → Chain limit n (steps_of (pairs_of bytes sizes) n)
     (resulting n (published report.len b.out b.starts b.ends))

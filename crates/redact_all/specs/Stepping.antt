@@ -1,8 +1,7 @@
 -- What the contracts of the inner functions are said with.
-use Rattle.std.specs.Prelude.{ℕ, ◌*◌, ◌/◌, ◌≤◌, ◌≡◌, true, false, List, length}
+use Rattle.std.specs.Prelude.{ℕ, ◌*◌, ◌/◌, ◌≤◌, ◌≡◌, true, false, List, length, Option, Some, None}
 use Rattle.buffers.specs.Splice.{overlay}
-use Rattle.note.specs.declared.Verdict.TheVariants.{Accepted}
-use Rattle.note.specs.Refusals.{verdict}
+use Rattle.note.specs.Refusals.{verdict, Accepted}
 use Rattle.note.specs.Notes.{Note, limit}
 use Rattle.note.specs.Faults.{note_faults}
 use Rattle.redact_in_place.specs.InPlace.{Held, held}
@@ -10,8 +9,6 @@ use Rattle.word_pairs.specs.declared.Word.TheVariants.{Literal, Filler}
 use Rattle.word_pairs.specs.Words.{words_of, pairs_of, even_words, all_formed}
 use Rattle.word_pairs.specs.Counts.{word_counts, zero_count, some_count}
 use Rattle.redact_all.specs.declared.Report.{Report}
-use Rattle.redact_all.specs.declared.Steps.{Steps}
-use Rattle.redact_all.specs.declared.Steps.TheVariants.{Left, Short}
 use Rattle.redact_all.specs.Steps.{published_by, steps_fit, blanked_counts}
 use Rattle.redact_all.specs.RedactAll.{AllBuffers}
 
@@ -47,10 +44,10 @@ pub record AllStepped (n : Note) (original : List ℕ) (shift size : ℕ) (bytes
 
 -- or one does not
 unfoldable pub StepsTaken : Note → List ℕ → ℕ → List ℕ → List ℕ → List ℕ
-    → Steps → List ℕ → List ℕ → List ℕ → List ℕ → Type 0
-StepsTaken n original shift bytes sizes counts₀ (Left size) text starts ends counts =
+    → Option ℕ → List ℕ → List ℕ → List ℕ → List ℕ → Type 0
+StepsTaken n original shift bytes sizes counts₀ (Some size) text starts ends counts =
     AllStepped n original shift size bytes sizes counts₀ text starts ends counts
-StepsTaken n original shift bytes sizes counts₀ Short text starts ends counts =
+StepsTaken n original shift bytes sizes counts₀ None text starts ends counts =
     steps_fit limit (pairs_of bytes sizes) n ≡ false
 
 -- what is left and counted, and room for it

@@ -3,20 +3,18 @@
 #![tactic(auto)]
 
 ghost use Rattle.std.specs.Prelude.{◌≡◌, ◌≤◌, length};
-ghost use Rattle.buffers.specs.Splice.{overlay};
-ghost use Rattle.note.specs.Notes.{lent, limit};
+ghost use Rattle.note.specs.Notes.{limit, passed};
 ghost use Rattle.note.specs.Refusals.{verdict};
 ghost use Rattle.redact_in_place.specs.InPlace.{held};
 ghost use Rattle.word_pairs.specs.Counts.{some_count};
 ghost use Rattle.redact_all.specs.RedactAll.{AllRedacted, all_input_faults, buffers};
 ghost use Rattle.redact_all.specs.Stepping.{Checked, LimitLong, StepsReady, StepsTaken, Tellable, Told};
 
-use buffers::{Offset, copy_bytes, copy_offsets};
+use buffers::{Offset, copy};
 use checks::{check_note, least_room};
 use note::verdicts::earlier;
-use note::{LIMIT, Refusal, Verdict};
+use note::{LIMIT, NormalizedString, Refusal};
 use redact_in_place::{column_buffer, redact_in_place, text_buffer};
-use redact_note::Redaction;
 use word_pairs::{Word, check_words, count_words, zeros};
 
 // How many bytes are published; how many literals were not found; how many can still be read in what is published; and
@@ -29,20 +27,6 @@ pub struct Report {
     pub fillers_found: usize,
 }
 
-// What is published, or why nothing is.
-#[derive(Clone, Copy)]
-pub enum Redactions {
-    Published(Report),
-    Refused(Refusal),
-}
-
-// What the steps leave: so many bytes; or one of them has no room.
-#[derive(Clone, Copy)]
-pub enum Steps {
-    Left(usize),
-    Short,
-}
-
 // Room for a count for each pair.
 pub fn counts_buffer() -> [u32; LIMIT]
     ensures { limit ≡ length result }
@@ -51,21 +35,12 @@ pub fn counts_buffer() -> [u32; LIMIT]
 }
 
 // Whether note or pairs are refused.
-fn check_inputs(
-    original: &[u8],
-    normalized: &[u8],
-    starts: &[Offset],
-    ends: &[Offset],
-    original_shift: u32,
-    words: &[u8],
-    sizes: &[u32],
-) -> Verdict
+fn check_inputs(note: &NormalizedString, words: &[u8], sizes: &[u32]) -> Result<(), Refusal>
     ensures { result ≡ verdict (all_input_faults limit
-        (lent original.now normalized.now
-        starts.now ends.now original_shift)
+        (passed note.now)
         words.now sizes.now) }
 {
-    let noted = check_note(original, normalized, starts, ends, original_shift);
+    let noted = check_note(note);
     earlier(noted, check_words(words, sizes))
 }
 
@@ -81,7 +56,7 @@ fn blank_pairs(
     starts: &mut [Offset],
     ends: &mut [Offset],
     counts: &mut [u32],
-) -> Steps
+) -> Option<usize>
     requires { StepsReady original.now original_shift size words.now sizes.now
         text.old starts.old ends.old counts.old }
     ensures { StepsTaken
@@ -92,11 +67,10 @@ fn blank_pairs(
 {
     let mut size = size;
     let mut at = 0;
-    let mut k = 0;
-    while k < sizes.len() / 2 {
+    for k in 0..sizes.len() / 2 {
         let middle = at + sizes[2 * k] as usize;
         let end = middle + sizes[2 * k + 1] as usize;
-        match redact_in_place(
+        let Ok((n, count)) = redact_in_place(
             original,
             original_shift,
             size,
@@ -105,45 +79,44 @@ fn blank_pairs(
             text,
             starts,
             ends,
-        ) {
-            Redaction::Published(n, count) => {
-                size = n;
-                counts[k] = count as u32;
-            }
-            Redaction::Refused(_) => return Steps::Short,
-        }
+        ) else {
+            return None;
+        };
+        size = n;
+        counts[k] = count as u32;
         at = end;
-        k += 1;
     }
-    Steps::Left(size)
+    Some(size)
 }
 
 // The same of a note that was judged, copied to buffers of the limit's length.
 fn take_steps(
-    original: &[u8],
-    normalized: &[u8],
-    starts: &[Offset],
-    ends: &[Offset],
-    original_shift: u32,
+    note: &NormalizedString,
     words: &[u8],
     sizes: &[u32],
     text: &mut [u8],
     text_starts: &mut [Offset],
     text_ends: &mut [Offset],
     counts: &mut [u32],
-) -> Steps
+) -> Option<usize>
     requires { Checked
-        (lent original.now normalized.now starts.now ends.now original_shift) words.now sizes.now
+        (passed note.now) words.now sizes.now
         × LimitLong text.old text_starts.old text_ends.old counts.old }
     ensures { StepsTaken
-        (lent original.now normalized.now
-        starts.now ends.now original_shift)
-        original.now original_shift words.now sizes.now counts.old
+        (passed note.now)
+        note.now.original.now note.now.original_shift words.now sizes.now counts.old
         result text.new text_starts.new text_ends.new counts.new }
 {
-    copy_bytes(normalized, text, 0);
-    copy_offsets(starts, text_starts, 0);
-    copy_offsets(ends, text_ends, 0);
+    let NormalizedString {
+        original,
+        normalized,
+        starts,
+        ends,
+        original_shift,
+    } = *note;
+    copy(normalized, text, 0);
+    copy(starts, text_starts, 0);
+    copy(ends, text_ends, 0);
     blank_pairs(
         original,
         original_shift,
@@ -155,18 +128,6 @@ fn take_steps(
         text_ends,
         counts,
     )
-}
-
-// The counts in front of a column.
-fn copy_counts(src: &[u32], dst: &mut [u32])
-    requires { length src.now ≤ length dst.old }
-    ensures { dst.new ≡ overlay src.now dst.old }
-{
-    let mut j = 0;
-    while j < src.len() {
-        dst[j] = src[j];
-        j += 1;
-    }
 }
 
 // How many numbers are not 0.
@@ -205,10 +166,10 @@ fn tell(
         blanked.new left.new fillers.new) }
 {
     let pairs = counts.len();
-    copy_bytes(text, out, 0);
-    copy_offsets(text_starts, out_starts, 0);
-    copy_offsets(text_ends, out_ends, 0);
-    copy_counts(counts, blanked);
+    copy(text, out, 0);
+    copy(text_starts, out_starts, 0);
+    copy(text_ends, out_ends, 0);
+    blanked[..pairs].copy_from_slice(counts);
     count_words(text, words, sizes, Word::Literal, left);
     count_words(normalized, words, sizes, Word::Filler, fillers);
     Report {
@@ -222,11 +183,7 @@ fn tell(
 // Blanks the literals of all pairs in a note, one after the other, and says what is left of them. It judges, in this
 // order: `TooLong`, `LengthMismatch`, `IllFormed`, `Misaligned`, `NoRoom`.
 pub fn redact_all(
-    original: &[u8],
-    normalized: &[u8],
-    starts: &[Offset],
-    ends: &[Offset],
-    original_shift: u32,
+    note: &NormalizedString,
     words: &[u8],
     sizes: &[u32],
     out: &mut [u8],
@@ -235,10 +192,9 @@ pub fn redact_all(
     blanked: &mut [u32],
     left: &mut [u32],
     fillers: &mut [u32],
-) -> Redactions
+) -> Result<Report, Refusal>
     ensures { AllRedacted limit
-        (lent original.now normalized.now
-        starts.now ends.now original_shift)
+        (passed note.now)
         words.now sizes.now
         (buffers out.old out_starts.old out_ends.old
         blanked.old left.old fillers.old)
@@ -246,27 +202,13 @@ pub fn redact_all(
         (buffers out.new out_starts.new out_ends.new
         blanked.new left.new fillers.new) }
 {
-    if let Verdict::Refused(k) = check_inputs(
-        original,
-        normalized,
-        starts,
-        ends,
-        original_shift,
-        words,
-        sizes,
-    ) {
-        return Redactions::Refused(k);
-    }
+    check_inputs(note, words, sizes)?;
     let mut text = text_buffer();
     let mut text_starts = column_buffer();
     let mut text_ends = column_buffer();
     let mut counts = counts_buffer();
-    let Steps::Left(size) = take_steps(
-        original,
-        normalized,
-        starts,
-        ends,
-        original_shift,
+    let Some(size) = take_steps(
+        note,
         words,
         sizes,
         &mut text,
@@ -274,17 +216,17 @@ pub fn redact_all(
         &mut text_ends,
         &mut counts,
     ) else {
-        return Redactions::Refused(Refusal::NoRoom);
+        return Err(Refusal::NoRoom);
     };
     let pairs = sizes.len() / 2;
     if least_room(out.len(), out_starts.len(), out_ends.len()) < size {
-        return Redactions::Refused(Refusal::NoRoom);
+        return Err(Refusal::NoRoom);
     }
     if least_room(blanked.len(), left.len(), fillers.len()) < pairs {
-        return Redactions::Refused(Refusal::NoRoom);
+        return Err(Refusal::NoRoom);
     }
-    Redactions::Published(tell(
-        normalized,
+    Ok(tell(
+        note.normalized,
         words,
         sizes,
         &text[..size],

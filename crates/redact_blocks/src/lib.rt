@@ -13,7 +13,7 @@ ghost use Rattle.find.specs.Matching.{occurs_at};
 ghost use Rattle.redact_blocks.specs.Blanks.{AllBlanked, Blankable, Blanked, BlockPassed, Bounded};
 ghost use Rattle.redact_blocks.specs.Blanks.{FrontAt, FrontOf, SearchBlockRoom};
 
-use buffers::{Offset, copy_bytes};
+use buffers::{Offset, copy};
 use checks::least_of_two;
 use find::search::{first_candidate, occurs_at};
 use stretches::{fill, fill_exact, lay_block, lay_byte};
@@ -76,11 +76,9 @@ fn same_front(a: &[u8], b: &[u8], front_len: u8) -> bool
     ensures { result ≡ same (take front_len a.now) (take front_len b.now) }
 {
     let mut ok = true;
-    let mut j: u8 = 0;
-    while j < 16 {
+    for j in 0..16u8 {
         let k = j as usize;
         ok = ok & ((a[k] == b[k]) | (front_len <= j));
-        j += 1;
     }
     ok
 }
@@ -191,7 +189,7 @@ fn front_of(literal: &[u8]) -> [u8; 16]
 {
     let mut front = [0u8; 16];
     let front_len = least_of_two(16, literal.len());
-    copy_bytes(&literal[0..front_len], &mut front, 0);
+    copy(&literal[0..front_len], &mut front, 0);
     front
 }
 

@@ -5,8 +5,8 @@ ghost use Rattle.std.specs.Prelude.{◌+◌, ◌≤◌, length};
 ghost use Rattle.validity_blocks.specs.Extremes.{largest};
 ghost use Rattle.redact_blocks.specs.Keeping.{ContentLaid, ContentRoom, Stretch, StretchRoom};
 
-use buffers::blocks::{copy_bytes_block, copy_front_over, fill_offsets_over};
-use buffers::{Offset, copy_bytes, fill_offsets};
+use buffers::blocks::{copy_block, copy_front_over, fill_over};
+use buffers::{Offset, copy};
 use column_blocks::plain::count_up;
 use column_blocks::{pairs, runs};
 use utf8::ranges::{char_end, char_start};
@@ -50,7 +50,7 @@ pub fn lay_block(
         out.old out_starts.old out_ends.old at 0
         out.new out_starts.new out_ends.new }
 {
-    copy_bytes_block(text, i, out, at);
+    copy_block::<u8, 64>(text, i, out, at);
     if max_byte < 0x80 {
         count_up(i as Offset, out_starts, at);
         count_up(i as Offset + 1, out_ends, at);
@@ -86,8 +86,8 @@ pub fn fill(
     let first = char_start(text, end - 1) as Offset;
     let last = char_end(text, end - 1) as Offset;
     copy_front_over(padded, content_len, out, at, at + 16);
-    fill_offsets_over(first, content_len, out_starts, at, at + 16);
-    fill_offsets_over(last, content_len, out_ends, at, at + 16);
+    fill_over(first, content_len, out_starts, at, at + 16);
+    fill_over(last, content_len, out_ends, at, at + 16);
 }
 
 // The content in the place of a match that ends at `end`, by no block.
@@ -108,7 +108,7 @@ pub fn fill_exact(
 {
     let first = char_start(text, end - 1) as Offset;
     let last = char_end(text, end - 1) as Offset;
-    copy_bytes(content, out, at);
-    fill_offsets(first, content.len(), out_starts, at);
-    fill_offsets(last, content.len(), out_ends, at);
+    copy(content, out, at);
+    buffers::fill(first, content.len(), out_starts, at);
+    buffers::fill(last, content.len(), out_ends, at);
 }

@@ -5,10 +5,10 @@ use mathlib.Core.List.{List}
 use native.Mathlib.Omega.{arith}
 use lib.ListN.{length, take}
 use lib.Seq.{length-take-le}
-use Rattle.redact_note.specs.declared.Redaction.{Redaction}
-use Rattle.redact_note.specs.declared.Redaction.TheVariants.{Published}
+use Rattle.std.specs.Prelude.{Result, Ok}
 use Rattle.redact_note.proofs.Moved.{Fits, call_fits}
 use Rattle.redact_in_place.specs.InPlace.{Held, InPlace}
+use Rattle.note.specs.declared.Refusal.{Refusal}
 
 module _ {m : ℕ} {out starts ends : List ℕ} (f : Fits m out starts ends) {size : ℕ} {text₁ starts₁ ends₁ : List ℕ} (h : Held size text₁ starts₁ ends₁) where
   pub text-copied : 0 + length (take m out) ≤ length text₁
@@ -21,8 +21,8 @@ module _ {m : ℕ} {out starts ends : List ℕ} (f : Fits m out starts ends) {si
   ends-copied = omega (arith, length-take-le m ends f.ends_fit, f.within, h.ends_long)
 
 -- what is left is held, in buffers that have kept their lengths
-pub left-held : {original : List ℕ} {shift size m count : ℕ} {literal content text₀ starts₀ ends₀ : List ℕ} {r : Redaction} {text starts ends : List ℕ}
-    → Held size text₀ starts₀ ends₀ → InPlace original shift size literal content text₀ starts₀ ends₀ r text starts ends → r ≡ Published m count
+pub left-held : {original : List ℕ} {shift size m count : ℕ} {literal content text₀ starts₀ ends₀ : List ℕ} {r : Result (ℕ × ℕ) Refusal} {text starts ends : List ℕ}
+    → Held size text₀ starts₀ ends₀ → InPlace original shift size literal content text₀ starts₀ ends₀ r text starts ends → r ≡ Ok (m, count)
     → length text ≡ length text₀ → length starts ≡ length starts₀ → length ends ≡ length ends₀
     → Held m text starts ends
 left-held h p is t s e =

@@ -6,10 +6,10 @@ ghost use Rattle.note.specs.Notes.{limit};
 ghost use Rattle.pattern.specs.Encoding.{room_for};
 ghost use Rattle.redact_in_place.specs.InPlace.{Held, InPlace};
 
-use buffers::{Offset, copy_bytes, copy_offsets};
-use note::LIMIT;
+use buffers::{Offset, copy};
+use note::{LIMIT, NormalizedString, Refusal};
 use pattern::MAX_PLACE_LEN;
-use redact_note::{Redaction, redact_note};
+use redact_note::redact_note;
 
 // The longest list of a literal's matches: one place for each match, one before each, and one after the last (RULES 9.6).
 const LIST: usize = MAX_PLACE_LEN * (2 * LIMIT + 1);
@@ -54,7 +54,7 @@ pub fn redact_in_place(
     text: &mut [u8],
     starts: &mut [Offset],
     ends: &mut [Offset],
-) -> Redaction
+) -> Result<(usize, usize), Refusal>
     requires { Held size text.old starts.old ends.old }
     ensures { InPlace original.now original_shift size literal.now content.now
         text.old starts.old ends.old
@@ -64,25 +64,23 @@ pub fn redact_in_place(
     let mut out = text_buffer();
     let mut out_starts = column_buffer();
     let mut out_ends = column_buffer();
-    match redact_note(
-        original,
-        &text[..size],
-        &starts[..size],
-        &ends[..size],
-        original_shift,
+    let (n, count) = redact_note(
+        &NormalizedString {
+            original,
+            normalized: &text[..size],
+            starts: &starts[..size],
+            ends: &ends[..size],
+            original_shift,
+        },
         literal,
         content,
         &mut list,
         &mut out,
         &mut out_starts,
         &mut out_ends,
-    ) {
-        Redaction::Published(n, count) => {
-            copy_bytes(&out[..n], text, 0);
-            copy_offsets(&out_starts[..n], starts, 0);
-            copy_offsets(&out_ends[..n], ends, 0);
-            Redaction::Published(n, count)
-        }
-        Redaction::Refused(k) => Redaction::Refused(k),
-    }
+    )?;
+    copy(&out[..n], text, 0);
+    copy(&out_starts[..n], starts, 0);
+    copy(&out_ends[..n], ends, 0);
+    Ok((n, count))
 }

@@ -5,9 +5,7 @@ use mathlib.Core.List.{List}
 use native.Mathlib.Omega.{arith}
 use lib.ListN.{length}
 use Rattle.buffers.proofs.Splice.{overlay-long}
-use Rattle.note.specs.declared.Verdict.{Verdict}
-use Rattle.note.specs.declared.Verdict.TheVariants.{Accepted}
-use Rattle.note.specs.Refusals.{after}
+use Rattle.note.specs.Refusals.{after, Verdict, Accepted}
 use Rattle.note.specs.Notes.{limit}
 use Rattle.note.specs.Starting.{starting}
 use Rattle.note.proofs.Starting.{length-starting-starts, length-starting-ends}

@@ -13,19 +13,20 @@ mod telling;
 ghost use Rattle.std.specs.Prelude.{◌≡◌, ◌≤◌, length};
 ghost use Rattle.note.specs.Notes.{limit};
 
-use arguments::{argument, argument_buffer, argument_count};
+use arguments::{Mode, Order, Output, argument_count, order_asked};
 use buffers::Offset;
-use buffers::equality::same_bytes;
 use from_text::from_text;
-use gathering::{Gathered, gather, sizes_buffer, words_buffer};
+use gathering::{gather, sizes_buffer, words_buffer};
 use lines::write_alignments;
-use messages::{fail, refuse_note, refuse_pairs, say_kept_back, say_let_pass, say_written, usage};
-use note::Verdict;
-use redact_all::{Redactions, counts_buffer, redact_all};
+use messages::{
+    fail, refuse_note, refuse_pairs, refuse_words, say_kept_back, say_let_pass, say_written, usage,
+};
+use note::NormalizedString;
+use redact_all::{counts_buffer, redact_all};
 use redact_in_place::{column_buffer, text_buffer};
-use standard_input::{Input, fill, large_buffer};
+use standard_input::{fill, large_buffer};
 use std::io;
-use std::io::Input as StandardInput;
+use std::io::Input;
 use std::rt::{Env, Files};
 use telling::{is_clean, tell_counts};
 
@@ -35,54 +36,48 @@ fn write(
     text: &[u8],
     starts: &[Offset],
     ends: &[Offset],
-    alignments: bool,
+    output: Output,
 ) -> io::Result<()>
     requires { (length starts.now ≡ length ends.now) × (length starts.now ≤ limit) }
 {
-    if alignments {
-        return write_alignments(rt, starts, ends);
+    match output {
+        Output::Text => rt.write_all(text),
+        Output::Alignments => write_alignments(rt, starts, ends),
     }
-    rt.write_all(text)
 }
 
 // What is published is written, unless something was found that keeps it back.
 fn finish(
     rt: &(impl Print + Eprint),
     clean: bool,
-    anyway: bool,
+    mode: Mode,
     text: &[u8],
     starts: &[Offset],
     ends: &[Offset],
-    alignments: bool,
+    output: Output,
 )
     requires { (length starts.now ≡ length ends.now) × (length starts.now ≤ limit) }
 {
     if !clean {
-        if !anyway {
-            say_kept_back(rt);
-            return;
+        match mode {
+            Mode::Strict => {
+                say_kept_back(rt);
+                return;
+            }
+            Mode::Anyway => say_let_pass(rt),
         }
-        say_let_pass(rt);
     }
-    if let Err(error) = write(rt, text, starts, ends, alignments) {
-        fail(rt, "standard output", error);
-        return;
+    match write(rt, text, starts, ends, output) {
+        Ok(()) => say_written(rt, text.len(), output),
+        Err(error) => fail(rt, "standard output", error),
     }
-    say_written(rt, text.len(), alignments);
 }
 
 // The note in `original`, with the literals of all pairs blanked.
-fn publish(
-    rt: &(impl Print + Eprint),
-    original: &[u8],
-    words: &[u8],
-    sizes: &[u32],
-    alignments: bool,
-    anyway: bool,
-) {
+fn publish(rt: &(impl Print + Eprint), original: &[u8], words: &[u8], sizes: &[u32], order: Order) {
     let mut starts = column_buffer();
     let mut ends = column_buffer();
-    if let Verdict::Refused(k) = from_text(original, &mut starts, &mut ends) {
+    if let Err(k) = from_text(original, &mut starts, &mut ends) {
         refuse_note(rt, k);
         return;
     }
@@ -94,11 +89,13 @@ fn publish(
     let mut left = counts_buffer();
     let mut fillers = counts_buffer();
     match redact_all(
-        original,
-        original,
-        &starts[..n],
-        &ends[..n],
-        0,
+        &NormalizedString {
+            original,
+            normalized: original,
+            starts: &starts[..n],
+            ends: &ends[..n],
+            original_shift: 0,
+        },
         words,
         sizes,
         &mut out,
@@ -108,8 +105,8 @@ fn publish(
         &mut left,
         &mut fillers,
     ) {
-        Redactions::Refused(k) => refuse_pairs(rt, k),
-        Redactions::Published(report) => {
+        Err(k) => refuse_pairs(rt, k),
+        Ok(report) => {
             let pairs = sizes.len() / 2;
             let len = report.len;
             let clean = is_clean(report);
@@ -124,68 +121,45 @@ fn publish(
             finish(
                 rt,
                 clean,
-                anyway,
+                order.mode,
                 &out[..len],
                 &out_starts[..len],
                 &out_ends[..len],
-                alignments,
+                order.output,
             );
         }
     }
 }
 
 // The note from standard input.
-fn read_note(
-    rt: &(impl StandardInput + Print + Eprint),
-    words: &[u8],
-    sizes: &[u32],
-    alignments: bool,
-    anyway: bool,
-) {
+fn read_note(rt: &(impl Input + Print + Eprint), words: &[u8], sizes: &[u32], order: Order) {
     let mut input = rt.reader();
     let mut text = large_buffer();
     match fill(&mut input, &mut text) {
-        Input::Bytes(n) => publish(rt, &text[..n], words, sizes, alignments, anyway),
-        Input::Unread(error) => fail(rt, "standard input", error),
+        Ok(n) => publish(rt, &text[..n], words, sizes, order),
+        Err(error) => fail(rt, "standard input", error),
     }
-}
-
-// Whether an argument is this word.
-fn argument_is(rt: &impl Env, i: usize, word: &[u8]) -> bool {
-    let mut space = argument_buffer();
-    let n = argument(rt, i, &mut space);
-    same_bytes(&space[..n], word)
 }
 
 // The pairs from the command line or from a file, and the note.
-fn run(
-    rt: &(impl StandardInput + Print + Eprint + Env + Files),
-    count: usize,
-    names: bool,
-    alignments: bool,
-    anyway: bool,
-) {
+fn run(rt: &(impl Input + Print + Eprint + Env + Files), count: usize, order: Order) {
     let mut words = words_buffer();
     let mut sizes = sizes_buffer();
-    match gather(rt, count, names, &mut words, &mut sizes) {
-        Gathered::Words(w, s) => read_note(rt, &words[..w], &sizes[..s], alignments, anyway),
-        Gathered::Refused => return,
+    match gather(rt, count, order.source, &mut words, &mut sizes) {
+        Ok(gathered) => read_note(
+            rt,
+            &words[..gathered.bytes],
+            &sizes[..gathered.words],
+            order,
+        ),
+        Err(reason) => refuse_words(rt, reason),
     }
 }
 
-// OUTPUT is `text` or `alignments`, MODE is `strict` or `anyway`.
 fn main(rt: HostRuntime) {
     let count = argument_count(&rt);
-    let alignments = argument_is(&rt, 1, b"alignments");
-    let anyway = argument_is(&rt, 2, b"anyway");
-    let names = argument_is(&rt, 3, b"names") & (count == 5);
-    let pairs = argument_is(&rt, 3, b"pairs") & (5 < count) & (count % 2 == 0);
-    if (alignments | argument_is(&rt, 1, b"text"))
-        & (anyway | argument_is(&rt, 2, b"strict"))
-        & (names | pairs)
-    {
-        run(&rt, count, names, alignments, anyway);
-        return;
+    match order_asked(&rt, count) {
+        Some(order) => run(&rt, count, order),
+        None => usage(&rt),
     }
-    usage(&rt);
 }

@@ -17,8 +17,7 @@ fn tell_blanked(rt: &impl Eprint, words: &[u8], sizes: &[u32], blanked: &[u32])
     requires { Counted words.now sizes.now blanked.now }
 {
     let mut at = 0;
-    let mut k = 0;
-    while k < sizes.len() / 2 {
+    for k in 0..sizes.len() / 2 {
         let middle = at + sizes[2 * k] as usize;
         let end = middle + sizes[2 * k + 1] as usize;
         if blanked[k] == 0 {
@@ -27,29 +26,24 @@ fn tell_blanked(rt: &impl Eprint, words: &[u8], sizes: &[u32], blanked: &[u32])
             say_blanked(rt, k + 1, blanked[k]);
         }
         at = end;
-        k += 1;
     }
 }
 
 // Which literals can still be read.
 fn tell_left(rt: &impl Eprint, left: &[u32]) {
-    let mut k = 0;
-    while k < left.len() {
-        if left[k] != 0 {
-            say_still_there(rt, k + 1, left[k]);
+    for (k, count) in left.iter().enumerate() {
+        if *count != 0 {
+            say_still_there(rt, k + 1, *count);
         }
-        k += 1;
     }
 }
 
 // Which fillers the note had already.
 fn tell_fillers(rt: &impl Eprint, fillers: &[u32]) {
-    let mut k = 0;
-    while k < fillers.len() {
-        if fillers[k] != 0 {
-            say_filler_found(rt, k + 1, fillers[k]);
+    for (k, count) in fillers.iter().enumerate() {
+        if *count != 0 {
+            say_filler_found(rt, k + 1, *count);
         }
-        k += 1;
     }
 }
 

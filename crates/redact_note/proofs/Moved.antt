@@ -4,30 +4,26 @@ use mathlib.Core.Path.{◌≡◌, ◌∙◌, ap, sym}
 use mathlib.Core.List.{List}
 use native.Mathlib.Omega.{arith}
 use lib.ListN.{length, take}
+use Rattle.std.specs.Prelude.{Result, Ok, Err}
 use Rattle.buffers.specs.Splice.{splice}
 use Rattle.buffers.proofs.Splice.{splice-overlay, overlay-long}
 use Rattle.note.specs.declared.Refusal.{Refusal}
-use Rattle.note.specs.declared.Verdict.{Verdict}
-use Rattle.note.specs.declared.Verdict.TheVariants.{Accepted, Refused as Rejected}
-use Rattle.note.specs.Refusals.{after, unless_refused}
+use Rattle.note.specs.Refusals.{after, unless_refused, Verdict, Accepted}
 use Rattle.note.specs.Notes.{Note, limit}
 use Rattle.note.proofs.Sound.{length-starts, length-ends}
 use Rattle.find.specs.Matching.{found_places}
 use Rattle.find.specs.Finding.{found_bytes}
-use Rattle.replace.specs.declared.Publication.TheVariants.{Published as Replaced}
 use Rattle.replace.specs.Replacing.{Replacing, resulting}
 use Rattle.replace.specs.Blanking.{Equal, published}
 use Rattle.replace.proofs.Faults.{published-says, published-size, published-short}
 use Rattle.replace.proofs.Replaced.{replaced-sound}
 use Rattle.replace.proofs.Blanking.{published-is}
-use Rattle.redact_note.specs.declared.Redaction.{Redaction}
-use Rattle.redact_note.specs.declared.Redaction.TheVariants.{Published, Refused}
 use Rattle.redact_note.specs.Redacting.{blanked_note, match_count, NoteRedacted}
 use Rattle.redact_note.proofs.Redacting.{blanked-call, says-published}
 
-pub says-refused : (v : Verdict) {k : Refusal} (size count : ℕ) → Refused k ≡ unless_refused Refused v (Published size count) → v ≡ Rejected k
-says-refused Accepted size count e = let z : ◌≡◌ {A = ℕ} 0 1 = cc in absurd (omega arith)
-says-refused (Rejected j) size count e = ap Rejected (sym cc)
+pub says-refused : (v : Verdict) {k : Refusal} (size count : ℕ) → ◌≡◌ {A = Result (ℕ × ℕ) Refusal} (Err k) (unless_refused Err v (Ok (size, count))) → v ≡ Err k
+says-refused (Ok tt) size count e = let z : ◌≡◌ {A = ℕ} 0 1 = cc in absurd (omega arith)
+says-refused (Err j) size count e = ap Err (sym cc)
 
 -- what was published fits
 pub record Fits (m : ℕ) (out starts ends : List ℕ) : Type 0 where
@@ -37,14 +33,14 @@ pub record Fits (m : ℕ) (out starts ends : List ℕ) : Type 0 where
   pub ends_fit : m ≤ length ends
 
 -- a call that has published so many bytes
-module _ {n : Note} {literal content list₀ out₀ starts₀ ends₀ : List ℕ} {r : Redaction} {list out starts ends : List ℕ} {m count : ℕ} (known : NoteRedacted limit n literal content list₀ out₀ starts₀ ends₀ r list out starts ends) (is : r ≡ Published m count) where
+module _ {n : Note} {literal content list₀ out₀ starts₀ ends₀ : List ℕ} {r : Result (ℕ × ℕ) Refusal} {list out starts ends : List ℕ} {m count : ℕ} (known : NoteRedacted limit n literal content list₀ out₀ starts₀ ends₀ r list out starts ends) (is : r ≡ Ok (m, count)) where
   pub says-accepted : known.says ≡ Accepted
   says-accepted = (says-published known.says m count _ _ (sym is ∙ known.answer)).0
 
   pub counted : count ≡ match_count (found_places n.normalized literal)
   counted = (says-published known.says m count _ _ (sym is ∙ known.answer)).2
 
-  replacing : Replacing limit n (found_bytes n.normalized literal) content out₀ starts₀ ends₀ (Replaced m) out starts ends
+  replacing : Replacing limit n (found_bytes n.normalized literal) content out₀ starts₀ ends₀ (Ok m) out starts ends
   replacing = blanked-call n literal content list₀ out₀ starts₀ ends₀ m count list out starts ends (rw is at known)
 
   pub parts : Equal (published m out starts ends) (blanked_note n literal content)
@@ -67,7 +63,7 @@ module _ {n : Note} {literal content list₀ out₀ starts₀ ends₀ : List ℕ
       }
 
 -- the same call on other buffers of the same lengths
-module _ {n : Note} {literal content list₀ out₀ starts₀ ends₀ : List ℕ} {r : Redaction} {list out starts ends : List ℕ}
+module _ {n : Note} {literal content list₀ out₀ starts₀ ends₀ : List ℕ} {r : Result (ℕ × ℕ) Refusal} {list out starts ends : List ℕ}
     (known : NoteRedacted limit n literal content list₀ out₀ starts₀ ends₀ r list out starts ends) (text₁ starts₁ ends₁ : List ℕ)
     (t : length out₀ ≡ length text₁) (s : length starts₀ ≡ length starts₁) (e : length ends₀ ≡ length ends₁) where
   moved : {text₂ starts₂ ends₂ : List ℕ} → text₂ ≡ after known.says (blanked_note n literal content).text text₁
@@ -85,14 +81,14 @@ module _ {n : Note} {literal content list₀ out₀ starts₀ ends₀ : List ℕ
         ends_are = es;
       }
 
-  pub moved-refused : {k : Refusal} → r ≡ Refused k → NoteRedacted limit n literal content list₀ text₁ starts₁ ends₁ (Refused k) list text₁ starts₁ ends₁
+  pub moved-refused : {k : Refusal} → r ≡ Err k → NoteRedacted limit n literal content list₀ text₁ starts₁ ends₁ (Err k) list text₁ starts₁ ends₁
   moved-refused {k} is =
       let kept : (x d : List ℕ) → d ≡ after known.says x d = λ x d. sym (ap (λ (v : Verdict). after v x d) (says-refused known.says {k = k} _ _ (sym is ∙ known.answer))) in
       rw (← is) (moved (kept (blanked_note n literal content).text text₁) (kept (blanked_note n literal content).starts starts₁) (kept (blanked_note n literal content).ends ends₁))
 
-  pub moved-published : {m count : ℕ} {text₂ starts₂ ends₂ : List ℕ} → r ≡ Published m count → text₂ ≡ splice text₁ 0 (take m out)
+  pub moved-published : {m count : ℕ} {text₂ starts₂ ends₂ : List ℕ} → r ≡ Ok (m, count) → text₂ ≡ splice text₁ 0 (take m out)
       → starts₂ ≡ splice starts₁ 0 (take m starts) → ends₂ ≡ splice ends₁ 0 (take m ends)
-      → NoteRedacted limit n literal content list₀ text₁ starts₁ ends₁ (Published m count) list text₂ starts₂ ends₂
+      → NoteRedacted limit n literal content list₀ text₁ starts₁ ends₁ (Ok (m, count)) list text₂ starts₂ ends₂
   moved-published {m} {count} is ts ss es =
       let cut = parts known is in
       let copied : (x o d f : List ℕ) → f ≡ splice d 0 o → o ≡ x → f ≡ after known.says x d =

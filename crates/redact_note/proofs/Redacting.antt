@@ -8,15 +8,15 @@ use native.Mathlib.Omega.{arith}
 use lib.Dec.{leb}
 use lib.ListN.{length, take}
 use borrow.Author.Tests.{not-true, not-false}
+use Rattle.std.specs.Prelude.{Result, Ok, Err}
+use Rattle.buffers.proofs.Cases.{ok-parts}
 use Rattle.buffers.specs.Splice.{overlay}
 use Rattle.buffers.proofs.Booleans.{and-false-l}
 use Rattle.buffers.proofs.Splice.{take-overlay, overlay-long}
 use Rattle.utf8.specs.Formed.{well_formed}
 use Rattle.note.specs.declared.Refusal.{Refusal}
 use Rattle.note.specs.declared.Refusal.TheVariants.{NoRoom, Misaligned}
-use Rattle.note.specs.declared.Verdict.{Verdict}
-use Rattle.note.specs.declared.Verdict.TheVariants.{Accepted, Refused as Rejected}
-use Rattle.note.specs.Refusals.{none, meets, also, least, verdict, after, unless_refused}
+use Rattle.note.specs.Refusals.{none, meets, also, least, verdict, after, unless_refused, Verdict, Accepted}
 use Rattle.note.specs.Rank.{earlier}
 use Rattle.note.specs.Notes.{Note, limit}
 use Rattle.note.specs.Faults.{note_faults, string_faults, room_faults}
@@ -31,13 +31,11 @@ use Rattle.find.specs.Matching.{found_places}
 use Rattle.find.specs.Finding.{found_bytes}
 use Rattle.find.specs.Searching.{first_match}
 use Rattle.find.proofs.FoundPlaces.{found-read, found-covers}
-use Rattle.replace.specs.declared.Publication.TheVariants.{Published as Replaced}
 use Rattle.replace.specs.Replacing.{publication, replaced, replace_faults}
 use Rattle.replace.specs.Sizes.{places_size}
 use Rattle.replace.specs.Laying.{Ready, AllLaid}
 use Rattle.replace.proofs.Sizes.{length-laid}
 use Rattle.replace.proofs.Faults.{ready}
-use Rattle.redact_note.specs.declared.Redaction.TheVariants.{Published, Refused}
 use Rattle.redact_note.specs.Redacting.{match_count, blanked_note, note_input_faults, rooms_faults, note_redact_faults, NoteRedacted, BlankedCall}
 use Rattle.redact_note.specs.Blanks.{blanked_size, rooms_fit, NoteBlankable, NoteBlanked}
 use Rattle.redact_note.proofs.MatchCount.{found-size}
@@ -106,18 +104,18 @@ module _ (n : Note) (literal content : List ℕ) (f : Formed n literal content) 
       (both-accepted (note_faults limit n) (string_faults content) f.noted content-accepted)
       (both-accepted (list_faults n.normalized (found_bytes n.normalized literal)) (room_faults (length (blanked_note n literal content).text) (min limit room)) list-covers fits)
 
-rooms-verdict : (x y : Bool) → verdict (also (meets NoRoom (not x) none) (meets NoRoom (not y) none)) ≡ cond (x && y) Accepted (Rejected NoRoom)
+rooms-verdict : (x y : Bool) → verdict (also (meets NoRoom (not x) none) (meets NoRoom (not y) none)) ≡ cond (x && y) Accepted (Err NoRoom)
 unfolding verdict
 rooms-verdict true true = refl
 rooms-verdict true false = refl
 rooms-verdict false y = refl
 
 module _ (n : Note) (literal content : List ℕ) (a b : ℕ) {v : Verdict} (e : v ≡ verdict (note_input_faults limit n literal content)) where
-  pub inputs-refused : {k : Refusal} → v ≡ Rejected k → Rejected k ≡ verdict (note_redact_faults limit n literal content a b)
+  pub inputs-refused : {k : Refusal} → v ≡ Err k → Err k ≡ verdict (note_redact_faults limit n literal content a b)
   inputs-refused is = refused-then (up_to Misaligned) (note_input_faults limit n literal content) (rooms_faults limit n literal content a b) refl refl e is
 
   module _ (is : v ≡ Accepted) {t : Bool} (fits : t ≡ rooms_fit limit n.normalized literal (length content) a b) where
-    rooms-said : verdict (rooms_faults limit n literal content a b) ≡ cond t Accepted (Rejected NoRoom)
+    rooms-said : verdict (rooms_faults limit n literal content a b) ≡ cond t Accepted (Err NoRoom)
     unfolding rooms_fit
     rooms-said =
         rooms-verdict (leb (length (found_bytes n.normalized literal)) a) (leb (length (blanked_note n literal content).text) (min limit b))
@@ -126,7 +124,7 @@ module _ (n : Note) (literal content : List ℕ) (a b : ℕ) {v : Verdict} (e : 
     then-rooms : {w : Verdict} → w ≡ verdict (rooms_faults limit n literal content a b) → w ≡ verdict (note_redact_faults limit n literal content a b)
     then-rooms w = accepted-then (up_to Misaligned) (note_input_faults limit n literal content) (rooms_faults limit n literal content a b) refl refl e is w
 
-    pub rooms-refused : not t ≡ true → Rejected NoRoom ≡ verdict (note_redact_faults limit n literal content a b)
+    pub rooms-refused : not t ≡ true → Err NoRoom ≡ verdict (note_redact_faults limit n literal content a b)
     rooms-refused short = then-rooms (sym (rooms-said ∙ rw (not-true t short)))
 
     pub all-accepted : not t ≡ false → Accepted ≡ verdict (note_redact_faults limit n literal content a b)
@@ -166,9 +164,9 @@ module _ (n : Note) (literal content list₀ out₀ starts₀ ends₀ : List ℕ
   all-rooms e = e ∙ ap (λ (r : ℕ). verdict (note_redact_faults limit n literal content (length list₀) r)) rooms
 
   -- a refusal leaves every buffer
-  pub refused_all : {k : Refusal} → Rejected k ≡ verdict (note_redact_faults limit n literal content (length list₀) room) → NoteRedacted limit n literal content list₀ out₀ starts₀ ends₀ (Refused k) list₀ out₀ starts₀ ends₀
+  pub refused_all : {k : Refusal} → Err k ≡ verdict (note_redact_faults limit n literal content (length list₀) room) → NoteRedacted limit n literal content list₀ out₀ starts₀ ends₀ (Err k) list₀ out₀ starts₀ ends₀
   refused_all {k} is =
-      record { says = Rejected k; says_is = all-rooms is; answer = refl; list_is = refl; text_is = refl; starts_are = refl; ends_are = refl }
+      record { says = Err k; says_is = all-rooms is; answer = refl; list_is = refl; text_is = refl; starts_are = refl; ends_are = refl }
 
   module _ (ok : Accepted ≡ verdict (note_redact_faults limit n literal content (length list₀) room)) where
     pub all-blankable : {first : ℕ} → first ≡ first_match n.normalized literal → NoteBlankable n.normalized n.starts n.ends literal content first list₀ out₀ starts₀ ends₀
@@ -182,7 +180,7 @@ module _ (n : Note) (literal content list₀ out₀ starts₀ ends₀ : List ℕ
 
     pub all-blanked : {size count : ℕ} {list out starts ends : List ℕ} → count ≡ match_count (found_places n.normalized literal)
         → NoteBlanked n.normalized n.starts n.ends literal content list₀ out₀ starts₀ ends₀ size list out starts ends
-        → NoteRedacted limit n literal content list₀ out₀ starts₀ ends₀ (Published size count) list out starts ends
+        → NoteRedacted limit n literal content list₀ out₀ starts₀ ends₀ (Ok (size, count)) list out starts ends
     unfolding replaced
     all-blanked {size} {count} counted h =
         let sized : size ≡ length (blanked_note n literal content).text = h.laid.reached in
@@ -197,9 +195,9 @@ module _ (n : Note) (literal content list₀ out₀ starts₀ ends₀ : List ℕ
         }
 
 -- a call that has published
-pub says-published : (v : Verdict) (size count m k : ℕ) → Published size count ≡ unless_refused Refused v (Published m k) → (v ≡ Accepted) × (size ≡ m) × (count ≡ k)
-says-published Accepted size count m k e = (refl, cc, cc)
-says-published (Rejected j) size count m k e = let z : ◌≡◌ {A = ℕ} 0 1 = cc in absurd (omega arith)
+pub says-published : (v : Verdict) (size count m k : ℕ) → ◌≡◌ {A = Result (ℕ × ℕ) Refusal} (Ok (size, count)) (unless_refused Err v (Ok (m, k))) → (v ≡ Accepted) × (size ≡ m) × (count ≡ k)
+says-published (Ok tt) size count m k e = (refl, (ok-parts e).0, (ok-parts e).1)
+says-published (Err j) size count m k e = let z : ◌≡◌ {A = ℕ} 0 1 = cc in absurd (omega arith)
 
 pub blanked-call : BlankedCall
 blanked-call n literal content list₀ out₀ starts₀ ends₀ size count list out starts ends call =
@@ -208,7 +206,7 @@ blanked-call n literal content list₀ out₀ starts₀ ends₀ size count list 
     record {
       says = Accepted;
       says_is = sym (replaces n literal content (length list₀) _ (sym ok ∙ call.says_is));
-      answer = ap Replaced said.1;
+      answer = ap Ok said.1;
       text_is = call.text_is ∙ ap (λ (v : Verdict). after v (blanked_note n literal content).text out₀) ok;
       starts_are = call.starts_are ∙ ap (λ (v : Verdict). after v (blanked_note n literal content).starts starts₀) ok;
       ends_are = call.ends_are ∙ ap (λ (v : Verdict). after v (blanked_note n literal content).ends ends₀) ok;

@@ -1,10 +1,9 @@
 -- RULES 15.9: what can still be told where one replacement follows another, each in what the one before left, as
 -- `redact` does with several literals.
-use Rattle.std.specs.Prelude.{ℕ, ◌≡◌, ◌⊎◌, List, [], ◌∷◌}
+use Rattle.std.specs.Prelude.{ℕ, ◌≡◌, ◌⊎◌, List, [], ◌∷◌, Ok}
 use Rattle.note.specs.Notes.{Note}
 use Rattle.pattern.specs.Entries.{places_of}
 use Rattle.find.specs.Finding.{found_bytes}
-use Rattle.replace.specs.declared.Publication.TheVariants.{Published}
 use Rattle.replace.specs.Replacing.{replaced, Replacing, resulting}
 use Rattle.replace.specs.Blanking.{Equal, Agree, published}
 
@@ -27,7 +26,7 @@ pub record StepCall (most : ℕ) (n : Note) (s : Step) (left : Note) : Type 0 wh
   pub out : List ℕ
   pub starts : List ℕ
   pub ends : List ℕ
-  pub replacing : Replacing most n s.list s.content out₀ starts₀ ends₀ (Published size) out starts ends
+  pub replacing : Replacing most n s.list s.content out₀ starts₀ ends₀ (Ok size) out starts ends
   pub leaves : left ≡ resulting n (published size out starts ends)
 
 -- a chain of such calls, each on the note that the one before left

@@ -4,7 +4,7 @@
 #![tactic(auto)]
 
 ghost use Rattle.std.specs.Prelude.{◌≡◌, ◌≤◌, leb, length};
-ghost use Rattle.note.specs.Notes.{lent, limit};
+ghost use Rattle.note.specs.Notes.{limit, passed};
 ghost use Rattle.note.specs.Refusals.{verdict};
 ghost use Rattle.find.specs.Matching.{found_places};
 ghost use Rattle.find.specs.Searching.{first_match};
@@ -17,33 +17,17 @@ use checks::{check_note, check_string, least_of_two, least_room};
 use find::search::{first_match, next_match};
 use find::{list_fits, write_list};
 use note::verdicts::earlier;
-use note::{LIMIT, Refusal, Verdict};
+use note::{LIMIT, NormalizedString, Refusal};
 use replace::laying::lay_out;
 use replace::result_len;
 
-// What is published: how many bytes, and how many matches gave way; or why nothing is.
-#[derive(Clone, Copy)]
-pub enum Redaction {
-    Published(usize, usize),
-    Refused(Refusal),
-}
-
 // Whether note, literal or content is refused.
-fn check_inputs(
-    original: &[u8],
-    normalized: &[u8],
-    starts: &[Offset],
-    ends: &[Offset],
-    original_shift: u32,
-    literal: &[u8],
-    content: &[u8],
-) -> Verdict
+fn check_inputs(note: &NormalizedString, literal: &[u8], content: &[u8]) -> Result<(), Refusal>
     ensures { result ≡ verdict (note_input_faults limit
-        (lent original.now normalized.now
-        starts.now ends.now original_shift)
+        (passed note.now)
         literal.now content.now) }
 {
-    let noted = check_note(original, normalized, starts, ends, original_shift);
+    let noted = check_note(note);
     let strings = earlier(check_string(literal), check_string(content));
     earlier(noted, strings)
 }
@@ -149,36 +133,27 @@ fn blank(
 // and what is published in front of `out`, `out_starts` and `out_ends`. It judges, in this order: `TooLong`,
 // `LengthMismatch`, `IllFormed` (a text, literal or content), `Misaligned`, `NoRoom`.
 pub fn redact_note(
-    original: &[u8],
-    normalized: &[u8],
-    starts: &[Offset],
-    ends: &[Offset],
-    original_shift: u32,
+    note: &NormalizedString,
     literal: &[u8],
     content: &[u8],
     list: &mut [u8],
     out: &mut [u8],
     out_starts: &mut [Offset],
     out_ends: &mut [Offset],
-) -> Redaction
+) -> Result<(usize, usize), Refusal>
     ensures { NoteRedacted limit
-        (lent original.now normalized.now
-        starts.now ends.now original_shift)
+        (passed note.now)
         literal.now content.now list.old
         out.old out_starts.old out_ends.old
         result list.new out.new out_starts.new out_ends.new }
 {
-    if let Verdict::Refused(k) = check_inputs(
-        original,
+    let NormalizedString {
         normalized,
         starts,
         ends,
-        original_shift,
-        literal,
-        content,
-    ) {
-        return Redaction::Refused(k);
-    }
+        ..
+    } = *note;
+    check_inputs(note, literal, content)?;
     let first = first_match(normalized, literal);
     let count = count_matches(normalized, literal, first);
     let room = least_room(out.len(), out_starts.len(), out_ends.len());
@@ -191,10 +166,10 @@ pub fn redact_note(
         list.len(),
         room,
     ) {
-        return Redaction::Refused(Refusal::NoRoom);
+        return Err(Refusal::NoRoom);
     }
     let size = blank(
         normalized, starts, ends, literal, content, first, list, out, out_starts, out_ends,
     );
-    Redaction::Published(size, count)
+    Ok((size, count))
 }

@@ -5,6 +5,7 @@ use mathlib.Core.Bool.{true}
 use mathlib.Core.List.{List}
 use native.Mathlib.Omega.{arith}
 use lib.ListN.{length, get_or, take, length-replicate}
+use Rattle.std.specs.Prelude.{Ok}
 use Rattle.buffers.proofs.Splice.{take-overlay, replicate-same, replicate-value}
 use Rattle.note.specs.Refusals.{after}
 use Rattle.note.specs.Notes.{Note, before_end}
@@ -12,7 +13,6 @@ use Rattle.note.proofs.BeforeEnd.{before-some}
 use Rattle.pattern.specs.declared.Place.{Place}
 use Rattle.pattern.specs.Entries.{places_of}
 use Rattle.pattern.specs.Places.{covers_from}
-use Rattle.replace.specs.declared.Publication.TheVariants.{Published}
 use Rattle.replace.specs.Replacing.{PublishedNote, laid, carried, replaced, Replacing}
 use Rattle.replace.specs.Blanking.{Equal, Agree, published, Blanking}
 use Rattle.replace.proofs.Sizes.{length-laid}
@@ -87,7 +87,7 @@ module _ (n m : Note) (list content : List ℕ) (tn : Taken n list) (tm : Taken 
       }
 
 -- what a call has published is what the definition makes of the note
-module _ {most : ℕ} {n : Note} {list content out₀ starts₀ ends₀ out starts ends : List ℕ} {a : ℕ} (call : Replacing most n list content out₀ starts₀ ends₀ (Published a) out starts ends) where
+module _ {most : ℕ} {n : Note} {list content out₀ starts₀ ends₀ out starts ends : List ℕ} {a : ℕ} (call : Replacing most n list content out₀ starts₀ ends₀ (Ok a) out starts ends) where
   cut : (r d o : List ℕ) → o ≡ after call.says r d → a ≡ length r → take a o ≡ r
   cut r d o e l = rw l (ap (take (length r)) (e ∙ ap (λ v. after v r d) (published-says call)) ∙ take-overlay r d)
 

@@ -6,14 +6,13 @@ use mathlib.Core.List.{List, [], ◌∷◌, ◌++◌}
 use native.Mathlib.Omega.{arith}
 use lib.ListN.{length, replicate, drop, length-append, length-replicate}
 use lib.Seq.{take-length}
+use Rattle.std.specs.Prelude.{Option, Some, None}
 use Rattle.buffers.specs.Splice.{part, splice}
 use Rattle.buffers.specs.Over.{Over, Source, Reaching}
 use Rattle.buffers.proofs.Splice.{length_part, splice-overlay, take-overlay}
 use Rattle.buffers.proofs.Over.{none-reached, run-reached, all-reached, reaching-size}
 use Rattle.note.specs.Notes.{before_end}
 use Rattle.pattern.specs.declared.Place.{Place}
-use Rattle.pattern.specs.declared.Entry.{Entry}
-use Rattle.pattern.specs.declared.Entry.TheVariants.{At, Broken}
 use Rattle.pattern.specs.Entries.{entry_at, places_of}
 use Rattle.pattern.specs.Places.{covers_from}
 use Rattle.pattern.proofs.Entries.{Stepped, entry-step, entry-broken, entries-end}
@@ -81,7 +80,7 @@ none_going fill {column} {list} {content_len} wides r =
     }
 
 module _ {fill : ℕ → List ℕ} {column list : List ℕ} {content_len until : ℕ} {d₀ : List ℕ} {at i : ℕ} {d : List ℕ} (g : Going fill column list content_len until d₀ at i d) where
-  module _ {entry : Entry} {p : Place} {next : ℕ} (is : entry ≡ entry_at list i) (there : entry ≡ At p next) where
+  module _ {entry : Option (Place × ℕ)} {p : Place} {next : ℕ} (is : entry ≡ entry_at list i) (there : entry ≡ Some (p, next)) where
     step : Stepped list i p next
     step = entry-step list is there
 
@@ -127,7 +126,7 @@ module _ {fill : ℕ → List ℕ} {column list : List ℕ} {content_len until :
       let all : Reaching (laid fill (places_of list) column) [] d₀ at d = rw none at g.reaching in
       record { reached = omega (arith, reaching-size all); holds = all-reached all }
 
-  pub broken-gone : {entry : Entry} → i < length list → entry ≡ entry_at list i → entry ≡ Broken → ColumnLaid fill column list d₀ at d
+  pub broken-gone : {entry : Option (Place × ℕ)} → i < length list → entry ≡ entry_at list i → entry ≡ None → ColumnLaid fill column list d₀ at d
   broken-gone h is e = gone (entry-broken list h is e).0
 
   pub all-gone : length list ≤ i → ColumnLaid fill column list d₀ at d

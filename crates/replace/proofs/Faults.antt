@@ -6,13 +6,12 @@ use mathlib.Core.List.{List}
 use native.Mathlib.Omega.{arith}
 use lib.ListN.{length}
 use borrow.Author.Tests.{not-true, not-false, le-leb, lt-leb}
+use Rattle.std.specs.Prelude.{Result, Ok, Err}
 use Rattle.buffers.proofs.Cases.{true-or-false}
 use Rattle.utf8.specs.Formed.{well_formed}
 use Rattle.note.specs.declared.Refusal.{Refusal}
 use Rattle.note.specs.declared.Refusal.TheVariants.{BadMatches, NoRoom, Misaligned}
-use Rattle.note.specs.declared.Verdict.{Verdict}
-use Rattle.note.specs.declared.Verdict.TheVariants.{Accepted, Refused as Rejected}
-use Rattle.note.specs.Refusals.{least, also, verdict}
+use Rattle.note.specs.Refusals.{least, also, verdict, Verdict, Accepted}
 use Rattle.note.specs.Rank.{earlier}
 use Rattle.note.specs.Notes.{Note, fits, Sound}
 use Rattle.note.specs.Faults.{note_faults, string_faults, room_faults}
@@ -23,8 +22,6 @@ use Rattle.note.proofs.Faults.{accepted-sound, string-formed, room-enough}
 use Rattle.pattern.specs.Entries.{places_of}
 use Rattle.pattern.specs.Places.{covers_from, covers, list_faults}
 use Rattle.pattern.proofs.Places.{covers-places, covers-length}
-use Rattle.replace.specs.declared.Publication.{Publication}
-use Rattle.replace.specs.declared.Publication.TheVariants.{Published, Refused}
 use Rattle.replace.specs.Replacing.{laid, replaced, replace_faults, publication, Replacing}
 use Rattle.replace.specs.Sizes.{places_size}
 use Rattle.replace.specs.Laying.{Ready, AllLaid}
@@ -76,15 +73,15 @@ module _ (most : ℕ) (n : Note) (list content : List ℕ) (room : ℕ) (e : ver
   accepted-room = room-enough (size_in n list content) (min most room) (accepted-second (list_faults n.normalized list) (room_faults (size_in n list content) (min most room)) result-accepted)
 
 -- what an answer says
-pub says-published : (v : Verdict) (a size : ℕ) → Published a ≡ publication v size → (v ≡ Accepted) × (a ≡ size)
-says-published Accepted a size e = (refl, cc)
-says-published (Rejected k) a size e = let z : ◌≡◌ {A = ℕ} 0 1 = cc in absurd (omega arith)
+pub says-published : (v : Verdict) (a size : ℕ) → Ok a ≡ publication v size → (v ≡ Accepted) × (a ≡ size)
+says-published (Ok tt) a size e = (refl, cc)
+says-published (Err k) a size e = let z : ◌≡◌ {A = ℕ} 0 1 = cc in absurd (omega arith)
 
-pub says-refused : (v : Verdict) (k : Refusal) (size : ℕ) → Refused k ≡ publication v size → v ≡ Rejected k
-says-refused Accepted k size e = let z : ◌≡◌ {A = ℕ} 0 1 = cc in absurd (omega arith)
-says-refused (Rejected j) k size e = let same : j ≡ k = cc in rw same
+pub says-refused : (v : Verdict) (k : Refusal) (size : ℕ) → Err k ≡ publication v size → v ≡ Err k
+says-refused (Ok tt) k size e = let z : ◌≡◌ {A = ℕ} 0 1 = cc in absurd (omega arith)
+says-refused (Err j) k size e = let same : j ≡ k = cc in rw same
 
-module _ {most : ℕ} {n : Note} {list content out₀ starts₀ ends₀ out starts ends : List ℕ} {a : ℕ} (call : Replacing most n list content out₀ starts₀ ends₀ (Published a) out starts ends) where
+module _ {most : ℕ} {n : Note} {list content out₀ starts₀ ends₀ out starts ends : List ℕ} {a : ℕ} (call : Replacing most n list content out₀ starts₀ ends₀ (Ok a) out starts ends) where
   pub published-says : call.says ≡ Accepted
   published-says = (says-published call.says a (size_in n list content) call.answer).0
 
@@ -100,16 +97,16 @@ module _ {most : ℕ} {n : Note} {list content out₀ starts₀ ends₀ out star
 
 -- the list, then the room
 module _ (text list : List ℕ) (size : ℕ) {t : Bool} (is : t ≡ covers text list) where
-  pub not-covering : (room : ℕ) → not t ≡ true → Refused BadMatches ≡ publication (verdict (result_faults text list size room)) size
+  pub not-covering : (room : ℕ) → not t ≡ true → Err BadMatches ≡ publication (verdict (result_faults text list size room)) size
   unfolding verdict
   not-covering room e = rw (sym is ∙ not-true t e)
 
   module _ (most room : ℕ) {m x : ℕ} (e : not t ≡ false) (measured : m ≡ min (most + 1) size) (least : x ≡ min most room) where
-    pub too_large : x < m → Refused NoRoom ≡ publication (verdict (result_faults text list size (min most room))) size
+    pub too_large : x < m → Err NoRoom ≡ publication (verdict (result_faults text list size (min most room))) size
     unfolding verdict
     too_large over = rw (sym is ∙ not-false t e, lt-leb size (min most room) (omega arith))
 
-    pub small-enough : m ≤ x → Published m ≡ publication (verdict (result_faults text list size (min most room))) size
+    pub small-enough : m ≤ x → Ok m ≡ publication (verdict (result_faults text list size (min most room))) size
     unfolding verdict
     small-enough fits =
         let whole : m ≡ size = omega arith in
@@ -128,34 +125,34 @@ module _ (most : ℕ) (n : Note) (list content : List ℕ) (room : ℕ) {u v w :
   lent-verdict : w ≡ verdict (lent_faults most n content)
   lent-verdict = earlier-of (note_faults most n) (string_faults content) noted string first
 
-  pub refused-lent : {k : Refusal} (size : ℕ) → w ≡ Rejected k → Refused k ≡ publication (verdict (replace_faults most n list content room)) size
+  pub refused-lent : {k : Refusal} (size : ℕ) → w ≡ Err k → Err k ≡ publication (verdict (replace_faults most n list content room)) size
   refused-lent size e = ap (λ (v : Verdict). publication v size) (refused-then (up_to Misaligned) (lent_faults most n content) (result_faults n.normalized list (size_in n list content) (min most room)) refl refl lent-verdict e)
 
-  pub accepted-lent : {r : Publication} (size : ℕ) → w ≡ Accepted → r ≡ publication (verdict (result_faults n.normalized list (places_size (length content) (places_of list)) (min most room))) size → r ≡ publication (verdict (replace_faults most n list content room)) size
+  pub accepted-lent : {r : Result ℕ Refusal} (size : ℕ) → w ≡ Accepted → r ≡ publication (verdict (result_faults n.normalized list (places_size (length content) (places_of list)) (min most room))) size → r ≡ publication (verdict (replace_faults most n list content room)) size
   accepted-lent size e l =
       l ∙ ap (λ (v : Verdict). publication v size)
       (accepted-then (up_to Misaligned) (lent_faults most n content) (result_faults n.normalized list (size_in n list content) (min most room)) refl refl lent-verdict e
       (sizes-verdict n list content (min most room)))
 
 -- the size that an answer tells
-pub measured-size : (most : ℕ) (n : Note) (list content : List ℕ) (room : ℕ) {size a : ℕ} {r : Publication} → r ≡ publication (verdict (replace_faults most n list content room)) size → r ≡ Published a → a ≤ size
+pub measured-size : (most : ℕ) (n : Note) (list content : List ℕ) (room : ℕ) {size a : ℕ} {r : Result ℕ Refusal} → r ≡ publication (verdict (replace_faults most n list content room)) size → r ≡ Ok a → a ≤ size
 measured-size most n list content room answers e =
     omega (arith, (says-published (verdict (replace_faults most n list content room)) _ _ (sym e ∙ answers)).1)
 
 -- the call
-module _ (most : ℕ) (n : Note) (list content out₀ starts₀ ends₀ : List ℕ) {r : Publication} {room : ℕ}
+module _ (most : ℕ) (n : Note) (list content out₀ starts₀ ends₀ : List ℕ) {r : Result ℕ Refusal} {room : ℕ}
     (rooms : room ≡ least (length out₀) (length starts₀) (length ends₀))
     (answers : r ≡ publication (verdict (replace_faults most n list content room)) (places_size (length content) (places_of list))) where
   said : r ≡ publication (verdict (replace_faults most n list content (least (length out₀) (length starts₀) (length ends₀)))) (places_size (length content) (places_of list))
   said = answers ∙ ap (λ (x : ℕ). publication (verdict (replace_faults most n list content x)) (places_size (length content) (places_of list))) rooms
 
-  says-accepted : {a : ℕ} → r ≡ Published a → verdict (replace_faults most n list content (least (length out₀) (length starts₀) (length ends₀))) ≡ Accepted
+  says-accepted : {a : ℕ} → r ≡ Ok a → verdict (replace_faults most n list content (least (length out₀) (length starts₀) (length ends₀))) ≡ Accepted
   says-accepted e = (says-published _ _ _ (sym e ∙ said)).0
 
-  pub refused : {k : Refusal} → r ≡ Refused k → Replacing most n list content out₀ starts₀ ends₀ (Refused k) out₀ starts₀ ends₀
-  refused {k} e = record { says = Rejected k; says_is = sym (says-refused _ k _ (sym e ∙ said)); answer = refl; text_is = refl; starts_are = refl; ends_are = refl }
+  pub refused : {k : Refusal} → r ≡ Err k → Replacing most n list content out₀ starts₀ ends₀ (Err k) out₀ starts₀ ends₀
+  refused {k} e = record { says = Err k; says_is = sym (says-refused _ k _ (sym e ∙ said)); answer = refl; text_is = refl; starts_are = refl; ends_are = refl }
 
-  pub ready : {a : ℕ} → r ≡ Published a → Ready n.normalized n.starts n.ends list content out₀ starts₀ ends₀
+  pub ready : {a : ℕ} → r ≡ Ok a → Ready n.normalized n.starts n.ends list content out₀ starts₀ ends₀
   unfolding replaced
   ready e =
       let all : ℕ = least (length out₀) (length starts₀) (length ends₀) in
@@ -172,6 +169,6 @@ module _ (most : ℕ) (n : Note) (list content out₀ starts₀ ends₀ : List �
         ends_room = omega (arith, size, fits);
       }
 
-  pub accepted : {a : ℕ} → r ≡ Published a → {size : ℕ} {out starts ends : List ℕ} → AllLaid n.normalized n.starts n.ends list content out₀ starts₀ ends₀ size out starts ends → Replacing most n list content out₀ starts₀ ends₀ (Published size) out starts ends
+  pub accepted : {a : ℕ} → r ≡ Ok a → {size : ℕ} {out starts ends : List ℕ} → AllLaid n.normalized n.starts n.ends list content out₀ starts₀ ends₀ size out starts ends → Replacing most n list content out₀ starts₀ ends₀ (Ok size) out starts ends
   unfolding replaced
-  accepted e l = record { says = Accepted; says_is = sym (says-accepted e); answer = ap Published l.reached; text_is = l.text_is; starts_are = l.starts_are; ends_are = l.ends_are }
+  accepted e l = record { says = Accepted; says_is = sym (says-accepted e); answer = ap Ok l.reached; text_is = l.text_is; starts_are = l.starts_are; ends_are = l.ends_are }

@@ -8,6 +8,7 @@ use mathlib.Core.List.{List, [], ◌∷◌, Memᴰ}
 use mathlib.Core.Logic.{⊎_elim}
 use native.Mathlib.Omega.{arith}
 use lib.ListN.{length, get_or}
+use Rattle.std.specs.Prelude.{Ok}
 use Rattle.buffers.proofs.Cases.{le-or-lt, clash}
 use Rattle.utf8.specs.Formed.{well_formed, continues, announced, boundary}
 use Rattle.utf8.proofs.Boundaries.{boundary-begins, boundary-most}
@@ -21,7 +22,6 @@ use Rattle.pattern.specs.declared.Place.{Place}
 use Rattle.pattern.specs.Entries.{places_of}
 use Rattle.pattern.specs.Places.{covers_from}
 use Rattle.pattern.proofs.Places.{covers-span, covers-rest, covers-length}
-use Rattle.replace.specs.declared.Publication.TheVariants.{Published}
 use Rattle.replace.specs.Replacing.{Replacing}
 use Rattle.replace.specs.Blanking.{Outside, Agree}
 use Rattle.replace.specs.Fresh.{FreshAgree, FreshBlanking}
@@ -49,7 +49,7 @@ record Covered (s : List ℕ) (ps : List Place) : Type 0 where
   formed : well_formed s ≡ true
   covered : covers_from s 0 ps ≡ true
 
-fresh-covered : {most : ℕ} (s : List ℕ) {list content out₀ starts₀ ends₀ out starts ends : List ℕ} {a : ℕ} → Replacing most (starting s) list content out₀ starts₀ ends₀ (Published a) out starts ends → Covered s (places_of list)
+fresh-covered : {most : ℕ} (s : List ℕ) {list content out₀ starts₀ ends₀ out starts ends : List ℕ} {a : ℕ} → Replacing most (starting s) list content out₀ starts₀ ends₀ (Ok a) out starts ends → Covered s (places_of list)
 unfolding starting
 fresh-covered {most} s {list} {content} {out₀} {starts₀} {ends₀} call =
     record {

@@ -5,11 +5,10 @@ use mathlib.Core.Bool.{true, false}
 use mathlib.Core.List.{List, [], ◌∷◌}
 use native.Mathlib.Omega.{arith}
 use lib.ListN.{length, drop, length-append}
+use Rattle.std.specs.Prelude.{Option, Some, None}
 use Rattle.buffers.proofs.Cases.{true-or-false}
 use Rattle.buffers.proofs.Splice.{length_part}
 use Rattle.pattern.specs.declared.Place.{Place}
-use Rattle.pattern.specs.declared.Entry.{Entry}
-use Rattle.pattern.specs.declared.Entry.TheVariants.{At, Broken}
 use Rattle.pattern.specs.Entries.{entry_at, places_of}
 use Rattle.pattern.specs.Places.{fits_at, covers_from}
 use Rattle.pattern.proofs.Entries.{Stepped, entry-step, entry-broken, entries-end}
@@ -58,7 +57,7 @@ pub none-measured : {most : ℕ} (list : List ℕ) (content_len : ℕ) → Measu
 none-measured list content_len = record { so_far = omega arith; small = omega arith; inside = omega arith }
 
 module _ {most : ℕ} {list : List ℕ} {content_len total i : ℕ} (m : Measured most list content_len total i) where
-  module _ {entry : Entry} {p : Place} {next size : ℕ} (is : entry ≡ entry_at list i) (there : entry ≡ At p next) (e : size ≡ place_size content_len p) where
+  module _ {entry : Option (Place × ℕ)} {p : Place} {next size : ℕ} (is : entry ≡ entry_at list i) (there : entry ≡ Some (p, next)) (e : size ≡ place_size content_len p) where
     step : places_size content_len (places_of list) ≡ total + (size + places_size content_len (places_of (drop next list)))
     unfolding places_size
     step = let s : Stepped list i p next = entry-step list is there in m.so_far ∙ rw (s.places, e)
@@ -73,7 +72,7 @@ module _ {most : ℕ} {list : List ℕ} {content_len total i : ℕ} (m : Measure
   unfolding places_size
   rest none = let z : places_size content_len (places_of (drop i list)) ≡ 0 = rw none in omega (arith, m.so_far, m.small)
 
-  pub broken-measured : {entry : Entry} → i < length list → entry ≡ entry_at list i → entry ≡ Broken → total ≡ min (most + 1) (places_size content_len (places_of list))
+  pub broken-measured : {entry : Option (Place × ℕ)} → i < length list → entry ≡ entry_at list i → entry ≡ None → total ≡ min (most + 1) (places_size content_len (places_of list))
   broken-measured h is e = rest (entry-broken list h is e).0
 
   pub all-measured : length list ≤ i → total ≡ min (most + 1) (places_size content_len (places_of list))

@@ -1,12 +1,11 @@
 -- RULES 10: what can still be told of the bytes under the blanks. Two notes, one list and one content, both accepted:
 -- the published notes are equal exactly when the notes agree outside the matched places and on what the content
 -- carries.
-use Rattle.std.specs.Prelude.{ℕ, ◌-◌, ◌≤◌, ◌<◌, ◌≡◌, true, length, get_or, take}
+use Rattle.std.specs.Prelude.{ℕ, ◌-◌, ◌≤◌, ◌<◌, ◌≡◌, true, length, get_or, take, Ok}
 use mathlib.Core.List.{List, Memᴰ}
 use Rattle.note.specs.Notes.{Note, start_at, end_at}
 use Rattle.pattern.specs.declared.Place.{Place}
 use Rattle.pattern.specs.Entries.{places_of}
-use Rattle.replace.specs.declared.Publication.TheVariants.{Published}
 use Rattle.replace.specs.Replacing.{PublishedNote, Replacing}
 
 -- p is outside: no matched place has it between its start and its end
@@ -41,7 +40,7 @@ published size out starts ends = record { text = take size out; starts = take si
 --  two notes                  n, m: any two, whatever their transcripts and shifts; nothing is asked of what stands in
 --                             the matched places
 --  one list and one filler    list, content: the same in both calls
---  replacing accepts both     two values of `Replacing`, the contract of the call, that answer `Published`; each call
+--  replacing accepts both     two values of `Replacing`, the contract of the call, that answer `Ok`; each call
 --                             has lent buffers of its own, before (₀) and after
 --  the published notes        `published`: the lent buffers after the call, cut by the number that it answered
 --  equal                      `Equal`: in length, and in every byte and alignment
@@ -51,7 +50,7 @@ abbrev pub Blanking : Type 0
 Blanking =
     (most : ℕ) (n m : Note) (list content : List ℕ) (a b : ℕ)
     (outₙ₀ startsₙ₀ endsₙ₀ outₙ startsₙ endsₙ outₘ₀ startsₘ₀ endsₘ₀ outₘ startsₘ endsₘ : List ℕ)
-    → Replacing most n list content outₙ₀ startsₙ₀ endsₙ₀ (Published a) outₙ startsₙ endsₙ
-    → Replacing most m list content outₘ₀ startsₘ₀ endsₘ₀ (Published b) outₘ startsₘ endsₘ
+    → Replacing most n list content outₙ₀ startsₙ₀ endsₙ₀ (Ok a) outₙ startsₙ endsₙ
+    → Replacing most m list content outₘ₀ startsₘ₀ endsₘ₀ (Ok b) outₘ startsₘ endsₘ
     → (Equal (published a outₙ startsₙ endsₙ) (published b outₘ startsₘ endsₘ) → Agree n m (places_of list) content)
     × (Agree n m (places_of list) content → Equal (published a outₙ startsₙ endsₙ) (published b outₘ startsₘ endsₘ))

@@ -1,11 +1,10 @@
 -- RULES 10: the blanking claim for fresh texts, in bytes alone: no alignment is named.
-use Rattle.std.specs.Prelude.{ℕ, ◌-◌, ◌<◌, ◌≡◌, true, length, get_or}
+use Rattle.std.specs.Prelude.{ℕ, ◌-◌, ◌<◌, ◌≡◌, true, length, get_or, Ok}
 use mathlib.Core.List.{List, Memᴰ}
 use Rattle.utf8.specs.CharRanges.{char_start}
 use Rattle.note.specs.Starting.{starting}
 use Rattle.pattern.specs.declared.Place.{Place}
 use Rattle.pattern.specs.Entries.{places_of}
-use Rattle.replace.specs.declared.Publication.TheVariants.{Published}
 use Rattle.replace.specs.Replacing.{Replacing}
 use Rattle.replace.specs.Blanking.{Outside, Equal, published}
 
@@ -25,7 +24,7 @@ abbrev pub FreshBlanking : Type 0
 FreshBlanking =
     (most : ℕ) (s t list content : List ℕ) (a b : ℕ)
     (outₛ₀ startsₛ₀ endsₛ₀ outₛ startsₛ endsₛ outₜ₀ startsₜ₀ endsₜ₀ outₜ startsₜ endsₜ : List ℕ)
-    → Replacing most (starting s) list content outₛ₀ startsₛ₀ endsₛ₀ (Published a) outₛ startsₛ endsₛ
-    → Replacing most (starting t) list content outₜ₀ startsₜ₀ endsₜ₀ (Published b) outₜ startsₜ endsₜ
+    → Replacing most (starting s) list content outₛ₀ startsₛ₀ endsₛ₀ (Ok a) outₛ startsₛ endsₛ
+    → Replacing most (starting t) list content outₜ₀ startsₜ₀ endsₜ₀ (Ok b) outₜ startsₜ endsₜ
     → (Equal (published a outₛ startsₛ endsₛ) (published b outₜ startsₜ endsₜ) → FreshAgree s t (places_of list) content)
     × (FreshAgree s t (places_of list) content → Equal (published a outₛ startsₛ endsₛ) (published b outₜ startsₜ endsₜ))

@@ -1,18 +1,14 @@
 -- RULES 10: what a list and a content, the filler, make of a note, when that is refused, and the call (Rust:
 -- `NormalizedString::replace`).
-use Rattle.std.specs.Prelude.{ℕ, min, ◌≡◌, Bool, true, cond, List, [], ◌∷◌, ◌++◌, length, replicate}
+use Rattle.std.specs.Prelude.{ℕ, min, ◌≡◌, Bool, true, cond, List, [], ◌∷◌, ◌++◌, length, replicate, Result, Ok, Err}
 use Rattle.buffers.specs.Splice.{part}
 use Rattle.note.specs.declared.Refusal.{Refusal}
-use Rattle.note.specs.declared.Verdict.{Verdict}
-use Rattle.note.specs.declared.Verdict.TheVariants.{Accepted, Refused as Rejected}
-use Rattle.note.specs.Refusals.{least, also, verdict, after}
+use Rattle.note.specs.Refusals.{least, also, verdict, after, Verdict, Accepted}
 use Rattle.note.specs.Notes.{Note, lent, fits, before_end, Sound}
 use Rattle.note.specs.Faults.{note_faults, string_faults, room_faults}
 use Rattle.pattern.specs.declared.Place.{Place}
 use Rattle.pattern.specs.Entries.{places_of}
 use Rattle.pattern.specs.Places.{list_faults}
-use Rattle.replace.specs.declared.Publication.{Publication}
-use Rattle.replace.specs.declared.Publication.TheVariants.{Published, Refused}
 
 -- what one place gives: an unmatched one its elements of xs, a matched one what `fill` has for its end
 unfoldable pub piece : (ℕ → List ℕ) → Place → List ℕ → List ℕ
@@ -49,12 +45,12 @@ replace_faults most n list content room =
     (room_faults (length (replaced (places_of list) content n).text) (min most room)))
 
 -- the answer: how many bytes are published, or the refusal
-abbrev pub publication : Verdict → ℕ → Publication
-publication Accepted size = Published size
-publication (Rejected k) size = Refused k
+abbrev pub publication : Verdict → ℕ → Result ℕ Refusal
+publication (Ok tt) size = Ok size
+publication (Err k) size = Err k
 
 -- THE CALL: limit, note, list and content, the passed buffers before, the answer, the passed buffers after
-pub record Replacing (most : ℕ) (n : Note) (list content out₀ starts₀ ends₀ : List ℕ) (r : Publication)
+pub record Replacing (most : ℕ) (n : Note) (list content out₀ starts₀ ends₀ : List ℕ) (r : Result ℕ Refusal)
     (out starts ends : List ℕ) : Type 0 where
   pub says : Verdict
   pub says_is :

@@ -1,10 +1,9 @@
 -- RULES 10: what the published text tells where it is handed out alone, without its alignments: with one list the bytes
 -- outside the matched places and nothing else; and no length of what was blanked.
-use Rattle.std.specs.Prelude.{ℕ, ◌<◌, ◌≡◌, Bool, List, [], ◌∷◌, length, take}
+use Rattle.std.specs.Prelude.{ℕ, ◌<◌, ◌≡◌, Bool, List, [], ◌∷◌, length, take, Ok}
 use Rattle.note.specs.Notes.{Note}
 use Rattle.pattern.specs.declared.Place.{Place}
 use Rattle.pattern.specs.Entries.{places_of}
-use Rattle.replace.specs.declared.Publication.TheVariants.{Published}
 use Rattle.replace.specs.Replacing.{piece, Replacing}
 use Rattle.replace.specs.Blanking.{Outside, SameByte}
 
@@ -18,8 +17,8 @@ abbrev pub TextAlone : Type 0
 TextAlone =
     (most : ℕ) (n m : Note) (list content : List ℕ) (a b : ℕ)
     (outₙ₀ startsₙ₀ endsₙ₀ outₙ startsₙ endsₙ outₘ₀ startsₘ₀ endsₘ₀ outₘ startsₘ endsₘ : List ℕ)
-    → Replacing most n list content outₙ₀ startsₙ₀ endsₙ₀ (Published a) outₙ startsₙ endsₙ
-    → Replacing most m list content outₘ₀ startsₘ₀ endsₘ₀ (Published b) outₘ startsₘ endsₘ
+    → Replacing most n list content outₙ₀ startsₙ₀ endsₙ₀ (Ok a) outₙ startsₙ endsₙ
+    → Replacing most m list content outₘ₀ startsₘ₀ endsₘ₀ (Ok b) outₘ startsₘ endsₘ
     → (take a outₙ ≡ take b outₘ → SameOutside n m (places_of list))
     × (SameOutside n m (places_of list) → take a outₙ ≡ take b outₘ)
 
@@ -35,7 +34,7 @@ abbrev pub TextAloneTwoLists : Type 0
 TextAloneTwoLists =
     (most : ℕ) (n m : Note) (listₙ listₘ content : List ℕ) (a b : ℕ)
     (outₙ₀ startsₙ₀ endsₙ₀ outₙ startsₙ endsₙ outₘ₀ startsₘ₀ endsₘ₀ outₘ startsₘ endsₘ : List ℕ)
-    → Replacing most n listₙ content outₙ₀ startsₙ₀ endsₙ₀ (Published a) outₙ startsₙ endsₙ
-    → Replacing most m listₘ content outₘ₀ startsₘ₀ endsₘ₀ (Published b) outₘ startsₘ endsₘ
+    → Replacing most n listₙ content outₙ₀ startsₙ₀ endsₙ₀ (Ok a) outₙ startsₙ endsₙ
+    → Replacing most m listₘ content outₘ₀ startsₘ₀ endsₘ₀ (Ok b) outₘ startsₘ endsₘ
     → kept_parts (places_of listₙ) n.normalized ≡ kept_parts (places_of listₘ) m.normalized
     → take a outₙ ≡ take b outₘ

@@ -8,10 +8,10 @@ ghost use Rattle.pattern.specs.Entries.{places_of};
 ghost use Rattle.replace.specs.Sizes.{places_size};
 ghost use Rattle.replace.specs.Laying.{AllLaid, ColumnLaid, ColumnReady, PlaceLaid, PlaceRoom, Ready};
 
-use buffers::blocks::{copy_bytes_over, copy_front_over, copy_offsets_over, fill_offsets_over};
-use buffers::{Offset, copy_bytes};
+use buffers::blocks::{copy_front_over, copy_over, fill_over};
+use buffers::{Offset, copy};
 use note::before_end;
-use pattern::{Entry, Place, entry_at};
+use pattern::{Place, entry_at};
 
 // A place's bytes, or the content in the place of a matched one, in `out` from `at` on; how far it reaches then. Here
 // and below the content is the first `content_len` bytes of `padded`.
@@ -36,7 +36,7 @@ fn lay_bytes(
         copy_front_over(padded, content_len, out, at, until);
         return at + content_len;
     }
-    copy_bytes_over(text, from, to, out, at, until);
+    copy_over(text, from, to, out, at, until);
     at + (to - from)
 }
 
@@ -58,10 +58,10 @@ fn lay_offsets(
     let from = start.0 as usize;
     let to = end.0 as usize;
     if place.matched {
-        fill_offsets_over(before_end(column, to), content_len, out, at, until);
+        fill_over(before_end(column, to), content_len, out, at, until);
         return at + content_len;
     }
-    copy_offsets_over(column, from, to, out, at, until);
+    copy_over(column, from, to, out, at, until);
     at + (to - from)
 }
 
@@ -82,13 +82,11 @@ fn lay_text(
     let mut at = 0;
     let mut i = 0;
     while i < list.len() {
-        match entry_at(list, i) {
-            Entry::At(place, next) => {
-                at = lay_bytes(text, place, padded, content_len, until, out, at);
-                i = next;
-            }
-            Entry::Broken => return at,
-        }
+        let Some((place, next)) = entry_at(list, i) else {
+            return at;
+        };
+        at = lay_bytes(text, place, padded, content_len, until, out, at);
+        i = next;
     }
     at
 }
@@ -108,13 +106,11 @@ fn lay_column(
     let mut at = 0;
     let mut k = 0;
     while k < list.len() {
-        match entry_at(list, k) {
-            Entry::At(place, next) => {
-                at = lay_offsets(column, place, content_len, until, out, at);
-                k = next;
-            }
-            Entry::Broken => return at,
-        }
+        let Some((place, next)) = entry_at(list, k) else {
+            return at;
+        };
+        at = lay_offsets(column, place, content_len, until, out, at);
+        k = next;
     }
     at
 }
@@ -129,7 +125,7 @@ fn lay_filled(text: &[u8], list: &[u8], content: &[u8], until: usize, out: &mut 
         return lay_text(text, list, content, content.len(), until, out);
     }
     let mut padded = [0u8; 80];
-    copy_bytes(content, &mut padded, 0);
+    copy(content, &mut padded, 0);
     lay_text(text, list, &padded, content.len(), until, out)
 }
 

@@ -6,12 +6,11 @@ use mathlib.Core.List.{List, [], ◌∷◌}
 use native.Mathlib.Omega.{arith}
 use lib.ListN.{length}
 use borrow.Author.Tests.{not-false}
+use Rattle.std.specs.Prelude.{Result, Ok, Err}
 use Rattle.buffers.proofs.Cases.{true-or-false}
 use Rattle.note.specs.declared.Refusal.{Refusal}
 use Rattle.note.specs.declared.Refusal.TheVariants.{NoRoom, BadMatches}
-use Rattle.note.specs.declared.Verdict.{Verdict}
-use Rattle.note.specs.declared.Verdict.TheVariants.{Accepted, Refused as Rejected}
-use Rattle.note.specs.Refusals.{least, verdict, after}
+use Rattle.note.specs.Refusals.{least, verdict, after, Verdict, Accepted}
 use Rattle.note.specs.Notes.{Note, lent}
 use Rattle.note.specs.Faults.{room_faults}
 use Rattle.note.proofs.FirstMet.{then, then-accepted, last_then, accepted-first, accepted-second, accepted-meets}
@@ -20,8 +19,6 @@ use Rattle.pattern.specs.declared.Place.{Place}
 use Rattle.pattern.specs.Entries.{places_of}
 use Rattle.pattern.specs.Places.{covers}
 use Rattle.edit_steps.specs.Edits.{transformed}
-use Rattle.replace.specs.declared.Publication.{Publication}
-use Rattle.replace.specs.declared.Publication.TheVariants.{Published, Refused}
 use Rattle.replace.specs.Replacing.{laid, replaced, replace_faults, resulting, publication, Replacing}
 use Rattle.replace.specs.Sizes.{places_size}
 use Rattle.replace.proofs.Faults.{accepted-note, accepted-content, accepted-taken, accepted-room, says-published, says-refused}
@@ -56,15 +53,15 @@ accepted-road most n list content room e = road-back-replaces n content (places_
 
 -- by what the verdict is: where it accepts, both make the same
 told-alike : (v : Verdict) (a b : ℕ) → (v ≡ Accepted → a ≡ b) → publication v a ≡ publication v b
-told-alike Accepted a b h = ap Published (h refl)
-told-alike (Rejected k) a b h = refl
+told-alike (Ok tt) a b h = ap Ok (h refl)
+told-alike (Err k) a b h = refl
 
 left-alike : (v : Verdict) (a b d : List ℕ) → (v ≡ Accepted → a ≡ b) → after v a d ≡ after v b d
-left-alike Accepted a b d h = ap (λ (r : List ℕ). after Accepted r d) (h refl)
-left-alike (Rejected k) a b d h = refl
+left-alike (Ok tt) a b d h = ap (λ (r : List ℕ). after Accepted r d) (h refl)
+left-alike (Err k) a b d h = refl
 
 -- A CALL OF THIS ROAD IS A CALL OF REPLACING
-module _ {most : ℕ} {n : Note} {list content out₀ starts₀ ends₀ : List ℕ} {a₀ b₀ a b : Scratch} {r : Publication} {out starts ends : List ℕ}
+module _ {most : ℕ} {n : Note} {list content out₀ starts₀ ends₀ : List ℕ} {a₀ b₀ a b : Scratch} {r : Result ℕ Refusal} {out starts ends : List ℕ}
     (call : ReplacingByEdits most n list content out₀ starts₀ ends₀ a₀ b₀ r out starts ends a b) (ample : scratch_size n list content ≤ scratch_room a₀ b₀) where
   said : call.says ≡ verdict (replace_faults most n list content (least (length out₀) (length starts₀) (length ends₀)))
   said = call.says_is ∙ ample-verdict most n list content (least (length out₀) (length starts₀) (length ends₀)) (scratch_room a₀ b₀) ample
@@ -84,7 +81,7 @@ module _ {most : ℕ} {n : Note} {list content out₀ starts₀ ends₀ : List �
       }
 
 -- two calls of replacing, with the same note, list, content and buffers
-calls-alike : {most : ℕ} {n : Note} {list content out₀ starts₀ ends₀ : List ℕ} {r q : Publication} {out starts ends out₁ starts₁ ends₁ : List ℕ}
+calls-alike : {most : ℕ} {n : Note} {list content out₀ starts₀ ends₀ : List ℕ} {r q : Result ℕ Refusal} {out starts ends out₁ starts₁ ends₁ : List ℕ}
     → Replacing most n list content out₀ starts₀ ends₀ r out starts ends → Replacing most n list content out₀ starts₀ ends₀ q out₁ starts₁ ends₁
     → (r ≡ q) × (out ≡ out₁) × (starts ≡ starts₁) × (ends ≡ ends₁)
 calls-alike {n = n} {list} {content} {out₀} {starts₀} {ends₀} c d =
@@ -103,7 +100,7 @@ road-is-replaced = (road-back-replaces, road-call-replaces)
 
 -- an accepted call had scratch that is large enough
 module _ {most : ℕ} {n : Note} {list content out₀ starts₀ ends₀ : List ℕ} {a₀ b₀ a b : Scratch} {size : ℕ} {out starts ends : List ℕ}
-    (call : ReplacingByEdits most n list content out₀ starts₀ ends₀ a₀ b₀ (Published size) out starts ends a b) where
+    (call : ReplacingByEdits most n list content out₀ starts₀ ends₀ a₀ b₀ (Ok size) out starts ends a b) where
   ample-scratch : scratch_size n list content ≤ scratch_room a₀ b₀
   ample-scratch =
       let room : ℕ = least (length out₀) (length starts₀) (length ends₀) in
@@ -117,13 +114,13 @@ road-blanking most n m list content a b outₙ₀ startsₙ₀ endsₙ₀ outₙ
     (road-call one (ample-scratch one)) (road-call two (ample-scratch two))
 
 -- THE CHECKS: those of replacing, then that of scratch
-module _ (most : ℕ) (n : Note) (list content : List ℕ) (room spare : ℕ) {r : Publication} (told : r ≡ publication (verdict (replace_faults most n list content room)) (places_size (length content) (places_of list))) where
-  pub still-refused : {k : Refusal} → r ≡ Refused k → Refused k ≡ publication (verdict (by_edits_faults most n list content room spare)) (places_size (length content) (places_of list))
+module _ (most : ℕ) (n : Note) (list content : List ℕ) (room spare : ℕ) {r : Result ℕ Refusal} (told : r ≡ publication (verdict (replace_faults most n list content room)) (places_size (length content) (places_of list))) where
+  pub still-refused : {k : Refusal} → r ≡ Err k → Err k ≡ publication (verdict (by_edits_faults most n list content room spare)) (places_size (length content) (places_of list))
   still-refused {k} e =
-      let said : verdict (replace_faults most n list content room) ≡ Rejected k = says-refused _ k _ (sym e ∙ told) in
+      let said : verdict (replace_faults most n list content room) ≡ Err k = says-refused _ k _ (sym e ∙ told) in
       rw (by-edits-verdict most n list content room spare, said)
 
-  module _ {size : ℕ} (e : r ≡ Published size) where
+  module _ {size : ℕ} (e : r ≡ Ok size) where
     accepted : verdict (replace_faults most n list content room) ≡ Accepted
     accepted = (says-published _ size _ (sym e ∙ told)).0
 
@@ -140,16 +137,16 @@ module _ (most : ℕ) (n : Note) (list content : List ℕ) (room spare : ℕ) {r
     sum-small =
         (normalized_short most n (accepted-note most n list content room accepted).1, omega (arith, accepted-room most n list content room accepted, needs))
 
-    pub scratch-short : spare < length n.normalized + size → Refused NoRoom ≡ publication (verdict (by_edits_faults most n list content room spare)) (places_size (length content) (places_of list))
+    pub scratch-short : spare < length n.normalized + size → Err NoRoom ≡ publication (verdict (by_edits_faults most n list content room spare)) (places_size (length content) (places_of list))
     scratch-short h =
         let less : spare < scratch_size n list content = omega (arith, needs) in
-        let short : Rejected NoRoom ≡ verdict (room_faults (scratch_size n list content) spare) = no_room less in
+        let short : Err NoRoom ≡ verdict (room_faults (scratch_size n list content) spare) = no_room less in
         rw (by-edits-verdict most n list content room spare, accepted, ← short)
 
-    pub scratch-ample : length n.normalized + size ≤ spare → Published size ≡ publication (verdict (by_edits_faults most n list content room spare)) (places_size (length content) (places_of list))
+    pub scratch-ample : length n.normalized + size ≤ spare → Ok size ≡ publication (verdict (by_edits_faults most n list content room spare)) (places_size (length content) (places_of list))
     scratch-ample h =
         let ample : scratch_size n list content ≤ spare = omega (arith, needs) in
-        rw (ample-verdict most n list content room spare ample, accepted) (ap Published is-size)
+        rw (ample-verdict most n list content room spare ample, accepted) (ap Ok is-size)
 
 -- the road does not look at transcript and shift
 road-dressed : (ps : List Place) (content original text starts ends : List ℕ) (shift : ℕ)
@@ -172,7 +169,7 @@ rooms-fit : (x y z most : ℕ) {size result : ℕ} → result ≡ size → resul
 rooms-fit x y z most e h = (omega arith, (omega arith, omega arith))
 
 -- THE CALL, from what is checked
-module _ (most : ℕ) (original text starts ends : List ℕ) (shift : ℕ) (list content out₀ starts₀ ends₀ : List ℕ) (a₀ b₀ : Scratch) {r : Publication} {room spare x y : ℕ}
+module _ (most : ℕ) (original text starts ends : List ℕ) (shift : ℕ) (list content out₀ starts₀ ends₀ : List ℕ) (a₀ b₀ : Scratch) {r : Result ℕ Refusal} {room spare x y : ℕ}
     (rooms : room ≡ least (length out₀) (length starts₀) (length ends₀))
     (first : x ≡ least (length a₀.text) (length a₀.starts) (length a₀.ends))
     (second : y ≡ least (length b₀.text) (length b₀.starts) (length b₀.ends))
@@ -187,10 +184,10 @@ module _ (most : ℕ) (original text starts ends : List ℕ) (shift : ℕ) (list
   said-is : r ≡ publication (verdict (by_edits_faults most n list content all (scratch_room a₀ b₀))) (places_size (length content) (places_of list))
   said-is = told ∙ rw (rooms, spares, first, second)
 
-  pub call-refused : {k : Refusal} → r ≡ Refused k → ReplacingByEdits most n list content out₀ starts₀ ends₀ a₀ b₀ (Refused k) out₀ starts₀ ends₀ a₀ b₀
+  pub call-refused : {k : Refusal} → r ≡ Err k → ReplacingByEdits most n list content out₀ starts₀ ends₀ a₀ b₀ (Err k) out₀ starts₀ ends₀ a₀ b₀
   call-refused {k} e =
       record {
-        says = Rejected k;
+        says = Err k;
         says_is = sym (says-refused _ k _ (sym e ∙ said-is));
         answer = refl;
         text_is = refl;
@@ -200,7 +197,7 @@ module _ (most : ℕ) (original text starts ends : List ℕ) (shift : ℕ) (list
         second_left = record { text_left = refl; starts_left = refl; ends_left = refl };
       }
 
-  module _ {size : ℕ} (e : r ≡ Published size) where
+  module _ {size : ℕ} (e : r ≡ Ok size) where
     says-yes : verdict (by_edits_faults most n list content all (scratch_room a₀ b₀)) ≡ Accepted
     says-yes = (says-published _ size _ (sym e ∙ said-is)).0
 
@@ -227,13 +224,13 @@ module _ (most : ℕ) (original text starts ends : List ℕ) (shift : ℕ) (list
         }
 
     pub call-taken : {m : ℕ} {out starts₁ ends₁ : List ℕ} {a b : Scratch} → RoadLaid (lent [] text starts ends 0) list content out₀ starts₀ ends₀ a₀ b₀ m out starts₁ ends₁ a b
-        → ReplacingByEdits most n list content out₀ starts₀ ends₀ a₀ b₀ (Published m) out starts₁ ends₁ a b
+        → ReplacingByEdits most n list content out₀ starts₀ ends₀ a₀ b₀ (Ok m) out starts₁ ends₁ a b
     call-taken l =
         let dressed = road-dressed (places_of list) content original text starts ends shift in
         record {
           says = Accepted;
           says_is = sym says-yes;
-          answer = rw dressed (ap Published l.laid.reached);
+          answer = rw dressed (ap Ok l.laid.reached);
           text_is = rw dressed l.laid.text_is;
           starts_are = rw dressed l.laid.starts_are;
           ends_are = rw dressed l.laid.ends_are;

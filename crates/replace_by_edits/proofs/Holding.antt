@@ -11,8 +11,7 @@ use Rattle.buffers.specs.Keeping.{PartKept}
 use Rattle.buffers.proofs.Splice.{take-overlay, length-overlay, splice-overlay}
 use Rattle.utf8.proofs.Boundaries.{Between, char-range-between}
 use Rattle.note.specs.Notes.{Note, before_end}
-use Rattle.note.specs.declared.Verdict.TheVariants.{Accepted}
-use Rattle.note.specs.Refusals.{least}
+use Rattle.note.specs.Refusals.{least, Accepted}
 use Rattle.pattern.specs.declared.Place.{Place}
 use Rattle.edit_steps.specs.Edits.{transformed}
 use Rattle.replace_by_edits.specs.declared.road.Current.{Current}

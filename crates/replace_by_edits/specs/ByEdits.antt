@@ -1,15 +1,11 @@
 -- RULES 16: the call that takes the road from the last place to the first, in scratch buffers; what it has in common
 -- with replacing.
-use Rattle.std.specs.Prelude.{ℕ, ◌+◌, ◌≤◌, min, ◌≡◌, Bool, List, length}
+use Rattle.std.specs.Prelude.{ℕ, ◌+◌, ◌≤◌, min, ◌≡◌, Bool, List, length, Result, Ok, Err}
 use Rattle.note.specs.declared.Refusal.{Refusal}
-use Rattle.note.specs.declared.Verdict.{Verdict}
-use Rattle.note.specs.declared.Verdict.TheVariants.{Accepted, Refused as Rejected}
-use Rattle.note.specs.Refusals.{least, also, verdict, after}
+use Rattle.note.specs.Refusals.{least, also, verdict, after, Verdict}
 use Rattle.note.specs.Notes.{Note}
 use Rattle.note.specs.Faults.{room_faults}
 use Rattle.pattern.specs.Entries.{places_of}
-use Rattle.replace.specs.declared.Publication.{Publication}
-use Rattle.replace.specs.declared.Publication.TheVariants.{Published}
 use Rattle.replace.specs.Replacing.{replaced, replace_faults, publication, Replacing}
 use Rattle.replace.specs.Blanking.{Equal, Agree, published}
 use Rattle.replace_by_edits.specs.Road.{road_back, RoadBackReplaces}
@@ -41,8 +37,8 @@ by_edits_faults most n list content room scratch_room =
 -- a scratch buffer before and after: a refusal leaves it; else its length stays, and what it holds is LEFT TO THE
 -- PROGRAM
 abbrev pub LeftOver : Verdict → List ℕ → List ℕ → Type 0
-LeftOver Accepted d₀ d = length d ≡ length d₀
-LeftOver (Rejected k) d₀ d = d ≡ d₀
+LeftOver (Ok tt) d₀ d = length d ≡ length d₀
+LeftOver (Err k) d₀ d = d ≡ d₀
 
 pub record ScratchLeft (says : Verdict) (a₀ a : Scratch) : Type 0 where
   pub text_left : LeftOver says a₀.text a.text
@@ -52,7 +48,7 @@ pub record ScratchLeft (says : Verdict) (a₀ a : Scratch) : Type 0 where
 -- THE CALL: limit, note, list and content, the passed buffers and two sets of scratch before, the answer, the passed
 -- buffers and the two sets after
 pub record ReplacingByEdits (most : ℕ) (n : Note) (list content out₀ starts₀ ends₀ : List ℕ) (a₀ b₀ : Scratch)
-    (r : Publication) (out starts ends : List ℕ) (a b : Scratch) : Type 0 where
+    (r : Result ℕ Refusal) (out starts ends : List ℕ) (a b : Scratch) : Type 0 where
   pub says : Verdict
   pub says_is :
       says
@@ -69,7 +65,7 @@ pub record ReplacingByEdits (most : ℕ) (n : Note) (list content out₀ starts�
 -- and one of replacing: they give the same answer, the same refusal too, and leave the same in the three buffers.
 abbrev pub RoadCallReplaces : Type 0
 RoadCallReplaces =
-    (most : ℕ) (n : Note) (list content out₀ starts₀ ends₀ : List ℕ) (a₀ b₀ a b : Scratch) (r q : Publication)
+    (most : ℕ) (n : Note) (list content out₀ starts₀ ends₀ : List ℕ) (a₀ b₀ a b : Scratch) (r q : Result ℕ Refusal)
     (out starts ends out₁ starts₁ ends₁ : List ℕ)
     → ReplacingByEdits most n list content out₀ starts₀ ends₀ a₀ b₀ r out starts ends a b
     → Replacing most n list content out₀ starts₀ ends₀ q out₁ starts₁ ends₁
@@ -87,9 +83,9 @@ RoadBlanking =
     (most : ℕ) (n m : Note) (list content : List ℕ) (a b : ℕ)
     (outₙ₀ startsₙ₀ endsₙ₀ outₙ startsₙ endsₙ outₘ₀ startsₘ₀ endsₘ₀ outₘ startsₘ endsₘ : List ℕ)
     (firstₙ₀ secondₙ₀ firstₙ secondₙ firstₘ₀ secondₘ₀ firstₘ secondₘ : Scratch)
-    → ReplacingByEdits most n list content outₙ₀ startsₙ₀ endsₙ₀ firstₙ₀ secondₙ₀ (Published a) outₙ startsₙ endsₙ
+    → ReplacingByEdits most n list content outₙ₀ startsₙ₀ endsₙ₀ firstₙ₀ secondₙ₀ (Ok a) outₙ startsₙ endsₙ
     firstₙ secondₙ
-    → ReplacingByEdits most m list content outₘ₀ startsₘ₀ endsₘ₀ firstₘ₀ secondₘ₀ (Published b) outₘ startsₘ endsₘ
+    → ReplacingByEdits most m list content outₘ₀ startsₘ₀ endsₘ₀ firstₘ₀ secondₘ₀ (Ok b) outₘ startsₘ endsₘ
     firstₘ secondₘ
     → (Equal (published a outₙ startsₙ endsₙ) (published b outₘ startsₘ endsₘ) → Agree n m (places_of list) content)
     × (Agree n m (places_of list) content → Equal (published a outₙ startsₙ endsₙ) (published b outₘ startsₘ endsₘ))

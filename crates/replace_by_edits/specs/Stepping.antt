@@ -3,7 +3,6 @@
 use Rattle.std.specs.Prelude.{ℕ, ◌+◌, ◌-◌, ◌≤◌, ◌≡◌, true, false, cond, List, [], length, take}
 use Rattle.buffers.specs.Splice.{splice, overlay}
 use Rattle.utf8.specs.Formed.{well_formed, char_range}
-use Rattle.note.specs.declared.Verdict.TheVariants.{Accepted}
 use Rattle.note.specs.Notes.{Note, lent}
 use Rattle.pattern.specs.declared.Place.{Place}
 use Rattle.pattern.specs.Entries.{places_of}
@@ -14,6 +13,7 @@ use Rattle.replace.specs.Sizes.{places_size}
 use Rattle.replace_by_edits.specs.declared.road.Current.{Current}
 use Rattle.replace_by_edits.specs.Road.{edited_place, road_back}
 use Rattle.replace_by_edits.specs.ByEdits.{Scratch, scratch_room, ScratchLeft}
+use Rattle.note.specs.Refusals.{Accepted}
 
 -- room for a content at a place that begins at `at` and ends at `to`, in the two columns that it carries something of
 pub record AddedRoom (starts ends : List ℕ) (to : ℕ) (content out starts₀ ends₀ : List ℕ) (at : ℕ) : Type 0 where

@@ -5,7 +5,7 @@
 pub mod road;
 
 ghost use Rattle.std.specs.Prelude.{◌≡◌, length};
-ghost use Rattle.note.specs.Notes.{lent, limit};
+ghost use Rattle.note.specs.Notes.{limit, passed};
 ghost use Rattle.note.specs.Refusals.{verdict};
 ghost use Rattle.pattern.specs.Entries.{places_of};
 ghost use Rattle.replace.specs.Replacing.{publication};
@@ -14,56 +14,34 @@ ghost use Rattle.replace_by_edits.specs.ByEdits.{ReplacingByEdits, by_edits_faul
 
 use buffers::Offset;
 use checks::{least_of_two, least_room};
-use note::Refusal;
-use replace::{Publication, check_replace};
+use note::{NormalizedString, Refusal};
+use replace::check_replace;
 use road::lay_road;
 
 // What `replace_by_edits` answers for a note, a list and a content beside the room of the buffers and of scratch.
 fn check_by_edits(
-    original: &[u8],
-    normalized: &[u8],
-    starts: &[Offset],
-    ends: &[Offset],
-    original_shift: u32,
+    note: &NormalizedString,
     list: &[u8],
     content: &[u8],
     room: usize,
     scratch_room: usize,
-) -> Publication
+) -> Result<usize, Refusal>
     ensures { result ≡ publication (verdict (by_edits_faults limit
-        (lent original.now normalized.now
-        starts.now ends.now original_shift)
+        (passed note.now)
         list.now content.now room scratch_room))
         (places_size (length content.now) (places_of list.now)) }
 {
-    match check_replace(
-        original,
-        normalized,
-        starts,
-        ends,
-        original_shift,
-        list,
-        content,
-        room,
-    ) {
-        Publication::Published(size) => {
-            if scratch_room < normalized.len() + size {
-                return Publication::Refused(Refusal::NoRoom);
-            }
-            Publication::Published(size)
-        }
-        Publication::Refused(k) => Publication::Refused(k),
+    let size = check_replace(note, list, content, room)?;
+    if scratch_room < note.normalized.len() + size {
+        return Err(Refusal::NoRoom);
     }
+    Ok(size)
 }
 
 // What `replace` publishes, made by edits: text and alignments of the result are in front of the passed buffers. The
 // buffers `first` and `second`, with their columns, are scratch.
 pub fn replace_by_edits(
-    original: &[u8],
-    normalized: &[u8],
-    starts: &[Offset],
-    ends: &[Offset],
-    original_shift: u32,
+    note: &NormalizedString,
     list: &[u8],
     content: &[u8],
     out: &mut [u8],
@@ -75,10 +53,9 @@ pub fn replace_by_edits(
     second: &mut [u8],
     second_starts: &mut [Offset],
     second_ends: &mut [Offset],
-) -> Publication
+) -> Result<usize, Refusal>
     ensures { ReplacingByEdits limit
-        (lent original.now normalized.now
-        starts.now ends.now original_shift)
+        (passed note.now)
         list.now content.now
         out.old out_starts.old out_ends.old
         (scratch first.old first_starts.old first_ends.old)
@@ -87,38 +64,32 @@ pub fn replace_by_edits(
         (scratch first.new first_starts.new first_ends.new)
         (scratch second.new second_starts.new second_ends.new) }
 {
+    let NormalizedString {
+        normalized,
+        starts,
+        ends,
+        ..
+    } = *note;
     let room = least_room(out.len(), out_starts.len(), out_ends.len());
     let scratch_room = least_of_two(
         least_room(first.len(), first_starts.len(), first_ends.len()),
         least_room(second.len(), second_starts.len(), second_ends.len()),
     );
-    match check_by_edits(
-        original,
+    check_by_edits(note, list, content, room, scratch_room)?;
+    Ok(lay_road(
         normalized,
         starts,
         ends,
-        original_shift,
         list,
         content,
-        room,
-        scratch_room,
-    ) {
-        Publication::Published(_) => Publication::Published(lay_road(
-            normalized,
-            starts,
-            ends,
-            list,
-            content,
-            out,
-            out_starts,
-            out_ends,
-            first,
-            first_starts,
-            first_ends,
-            second,
-            second_starts,
-            second_ends,
-        )),
-        Publication::Refused(k) => Publication::Refused(k),
-    }
+        out,
+        out_starts,
+        out_ends,
+        first,
+        first_starts,
+        first_ends,
+        second,
+        second_starts,
+        second_ends,
+    ))
 }

@@ -10,11 +10,12 @@ ghost use Rattle.replace_by_edits.specs.Stepping.{RoadLaid, RoadReady, RoadRoom,
 ghost use Rattle.replace_by_edits.specs.Stepping.{StepTaken, at_first, held_note};
 
 use buffers::parts::keep;
-use buffers::{Offset, copy_bytes, fill_offsets};
+use buffers::{Offset, copy, fill};
 use note::before_end;
 use pattern::{Place, most_places, place_at};
 
-// How many bytes the note in between has, and whether it is in front of the second set or of the first.
+// How many bytes the note in between has, and whether it is in front of the second set or of the first. The flag says
+// of no field that it is missing.
 #[derive(Clone, Copy)]
 pub struct Current {
     pub len: usize,
@@ -38,9 +39,9 @@ fn lay_content(
         out.new out_starts.new out_ends.new }
 {
     let more = content.len();
-    copy_bytes(content, out, at);
-    fill_offsets(before_end(starts, to), more, out_starts, at);
-    fill_offsets(before_end(ends, to), more, out_ends, at);
+    copy(content, out, at);
+    fill(before_end(starts, to), more, out_starts, at);
+    fill(before_end(ends, to), more, out_ends, at);
 }
 
 // The text with the content in the place of its range, whose bytes carry what is before the range's end; how many bytes
@@ -172,9 +173,7 @@ fn take_road(
         len,
         in_second: false,
     };
-    let mut k = most_places(list);
-    while 0 < k {
-        k -= 1;
+    for k in (0..most_places(list)).rev() {
         let place = place_at(list, k);
         if place.matched {
             held = edit_held(

@@ -11,15 +11,10 @@ mod texts;
 ghost use Rattle.stored_answers.specs.Counts.{IsPrefixLen};
 
 use replayed_pieces::printing::printed;
-use std::fs::File;
-use std::io;
+use standard_input::{large_buffer, open};
 use std::io::Read;
 use std::rt::Files;
-use std::str::from_utf8;
-use stored_answers::calls::{
-    CALLS, CHAR_OFFSETS, FIND_MATCHES, FROM_TEXT, LETTER_COUNT, PART, PIECES, WELL_FORMED,
-};
-use stored_answers::columns::large_buffer;
+use stored_answers::calls::{CALLS, Call};
 use stored_answers::fields::field;
 use stored_answers::unpack::unpack;
 
@@ -34,24 +29,25 @@ struct Tally {
 }
 
 // Whether the call answers as the case says.
-fn agrees(call: u8, case: &[u8]) -> bool {
+fn agrees(call: Call, case: &[u8]) -> bool {
     match call {
-        WELL_FORMED => texts::well_formed(case),
-        LETTER_COUNT => texts::letter_count(case),
-        CHAR_OFFSETS => texts::char_offsets(case),
-        FROM_TEXT => notes::from_text(case),
-        PART => ranges::part(case),
-        FIND_MATCHES => matches::find_matches(case),
-        PIECES => printed(case),
-        _ => notes::on_note(call, case),
+        Call::WellFormed => texts::well_formed(case),
+        Call::LetterCount => texts::letter_count(case),
+        Call::CharOffsets => texts::char_offsets(case),
+        Call::FromText => notes::from_text(case),
+        Call::Part => ranges::part(case),
+        Call::FindMatches => matches::find_matches(case),
+        Call::Pieces => printed(case),
+        Call::OnNote(on_note) => notes::on_note(on_note, case),
     }
 }
 
 // All cases of a list, up to the first empty field: there are no more of them than bytes.
-fn replayed(call: u8, list: &[u8]) -> Tally {
+fn replayed(call: Call, list: &[u8]) -> Tally {
     let mut space = [0; CASE];
     let mut answers: usize = 0;
     let mut differing: u64 = 0;
+    // The list ends at its first empty field, so `while`: how many were answered is told after the loop.
     while answers < list.len() {
         let packed = field(list, answers);
         if packed.len() == 0 {
@@ -76,7 +72,8 @@ fn print(rt: &impl Print, name: &[u8], t: Tally) {
     let _ = println!(rt; ": {answers} answers, {differing} differ");
 }
 
-// What `file` has, in front of `space`, up to its end or until a read fails; how many bytes.
+// What `file` has, in front of `space`, up to its end or until a read fails; how many bytes. Of a read that fails
+// `standard_input::fill` says only why; here what was read before it counts.
 fn read_full<F: Read>(file: &mut F, space: &mut [u8]) -> usize
     ensures { IsPrefixLen result space.new }
 {
@@ -90,15 +87,8 @@ fn read_full<F: Read>(file: &mut F, space: &mut [u8]) -> usize
     done
 }
 
-// The file of this name, in the folder where the program runs.
-fn open<R: Files>(rt: &R, name: &[u8]) -> io::Result<R::File> {
-    match from_utf8(name) {
-        Ok(path) => File::open(rt, path),
-        Err(_) => Err(io::Error::from(io::ErrorKind::InvalidFilename)),
-    }
-}
-
-// What the file of this name holds, in front of `space`; how many bytes, none where it cannot be opened.
+// What the file of this name, in the folder where the program runs, holds, in front of `space`; how many bytes, none
+// where it cannot be opened.
 fn read_file(rt: &impl Files, name: &[u8], space: &mut [u8]) -> usize
     ensures { IsPrefixLen result space.new }
 {
@@ -109,18 +99,16 @@ fn read_file(rt: &impl Files, name: &[u8], space: &mut [u8]) -> usize
 }
 
 // The list in the file of this name.
-fn replay(rt: &(impl Files + Print), call: u8, name: &[u8]) {
+fn replay(rt: &(impl Files + Print), call: Call, name: &[u8]) {
     let mut list = large_buffer();
     let n = read_file(rt, name, &mut list);
     print(rt, name, replayed(call, &list[..n]));
 }
 
-// Every call, by its name: a call's number is the place of its name among `calls`.
+// Every call: its file's name has its place among `calls`.
 fn replay_all(rt: &(impl Files + Print), calls: &[u8]) {
-    let mut call: u8 = 0;
-    while call < CALLS {
-        replay(rt, call, field(calls, call as usize));
-        call += 1;
+    for (i, call) in CALLS.iter().enumerate() {
+        replay(rt, *call, field(calls, i));
     }
 }
 

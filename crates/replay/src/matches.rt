@@ -1,7 +1,9 @@
 // The calls on matches that publish nothing: finding, and whether two notes are published alike.
 use buffers::Offset;
+use note::NormalizedString;
 use replayed_pieces::told::is_list;
-use stored_answers::columns::{bytes, large_buffer, offsets, zeros};
+use standard_input::large_buffer;
+use stored_answers::columns::{bytes, offsets, zeros};
 use stored_answers::fields::{field, is_number, value};
 use zulmyren::matches::{zulmyren_find_matches, zulmyren_published_alike};
 
@@ -25,16 +27,20 @@ fn compared(
     other_ends: &[Offset],
 ) -> bool {
     let answer = zulmyren_published_alike(
-        field(case, 0),
-        field(case, 1),
-        starts,
-        ends,
-        value(case, 4),
-        field(case, 5),
-        field(case, 6),
-        other_starts,
-        other_ends,
-        value(case, 9),
+        &NormalizedString {
+            original: field(case, 0),
+            normalized: field(case, 1),
+            starts,
+            ends,
+            original_shift: value(case, 4),
+        },
+        &NormalizedString {
+            original: field(case, 5),
+            normalized: field(case, 6),
+            starts: other_starts,
+            ends: other_ends,
+            original_shift: value(case, 9),
+        },
         field(case, 10),
         field(case, 11),
     );

@@ -2,8 +2,9 @@
 use buffers::Offset;
 use convert::range_of;
 use get_range::part_of;
+use note::NormalizedString;
 use replayed_pieces::told::is_range;
-use stored_answers::calls::{CONVERT_OFFSETS, GET_RANGE};
+use stored_answers::calls::RangeCall;
 use stored_answers::fields::{field, is_number, is_text, value};
 use zulmyren::ranges::{
     side_of, zulmyren_convert_offsets, zulmyren_get_range, zulmyren_get_range_original,
@@ -11,7 +12,7 @@ use zulmyren::ranges::{
 };
 
 // `convert_offsets`, `get_range` or `get_range_original`: a note, a range; the refusal, start, end.
-pub fn on_range(call: u8, case: &[u8], starts: &[Offset], ends: &[Offset]) -> bool {
+pub fn on_range(call: RangeCall, case: &[u8], starts: &[Offset], ends: &[Offset]) -> bool {
     let original = field(case, 0);
     let normalized = field(case, 1);
     let shift = value(case, 4);
@@ -19,32 +20,38 @@ pub fn on_range(call: u8, case: &[u8], starts: &[Offset], ends: &[Offset]) -> bo
     let start = value(case, 6);
     let end = value(case, 7);
     let answer = match call {
-        CONVERT_OFFSETS => zulmyren_convert_offsets(
-            original,
-            normalized,
-            starts,
-            ends,
-            shift,
+        RangeCall::ConvertOffsets => zulmyren_convert_offsets(
+            &NormalizedString {
+                original,
+                normalized,
+                starts,
+                ends,
+                original_shift: shift,
+            },
             of_original,
             start,
             end,
         ),
-        GET_RANGE => zulmyren_get_range(
-            original,
-            normalized,
-            starts,
-            ends,
-            shift,
+        RangeCall::GetRange => zulmyren_get_range(
+            &NormalizedString {
+                original,
+                normalized,
+                starts,
+                ends,
+                original_shift: shift,
+            },
             of_original,
             start,
             end,
         ),
-        _ => zulmyren_get_range_original(
-            original,
-            normalized,
-            starts,
-            ends,
-            shift,
+        RangeCall::GetRangeOriginal => zulmyren_get_range_original(
+            &NormalizedString {
+                original,
+                normalized,
+                starts,
+                ends,
+                original_shift: shift,
+            },
             of_original,
             start,
             end,

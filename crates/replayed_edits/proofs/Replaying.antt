@@ -1,4 +1,4 @@
--- A call that was passed what its case's fields hold, by its number; buffers that hold what their fields do.
+-- A call that was passed what its case's fields hold; buffers that hold what their fields do.
 use Prim.Native.Nat.{ℕ, ◌+◌, ◌≤◌}
 use mathlib.Core.Path.{◌≡◌, ◌∙◌, ap, refl, sym}
 use mathlib.Core.Bool.{Bool}
@@ -7,24 +7,14 @@ use native.Mathlib.Omega.{arith}
 use lib.Dec.{eqb}
 use lib.ListN.{length, take}
 use lib.Seq.{length-take-le}
-use borrow.Author.Tests.{ne_eqb}
 use Rattle.buffers.specs.Splice.{Laid}
 use Rattle.note.specs.Notes.{Note, lent, limit}
 use Rattle.note.specs.Refusals.{OnThree}
 use Rattle.convert.specs.Converting.{range_of}
 use Rattle.transform.specs.Transforming.{whole_original}
-use Rattle.stored_answers.specs.Calls.{
-  append_number,
-  clear_number,
-  filter_number,
-  lowercase_number,
-  map_number,
-  redact_number,
-  replace_by_edits_number,
-  replace_number,
-  transform_number,
-  transform_range_number,
-}
+use Rattle.stored_answers.specs.declared.calls.EditCall.{EditCall}
+use Rattle.stored_answers.specs.declared.calls.PublishingCall.{PublishingCall}
+use Rattle.stored_answers.specs.declared.calls.PublishingCall.TheVariants.{Clear, Edit}
 use Rattle.stored_answers.specs.Framing.{field_of}
 use Rattle.stored_answers.specs.Lending.{number_at, note_at}
 use Rattle.stored_answers.proofs.Splice.{take-laid}
@@ -39,15 +29,13 @@ use Rattle.replayed_edits.specs.Replaying.{
   ByEditsCase,
   ByEditsPassed,
   CallAnswered,
-  LowercaseCase,
-  MapCase,
+  CaseOf,
   Published,
   RangeCase,
   RedactCase,
   Replayed,
   ReplaceCase,
   ScriptCase,
-  WholeCase,
   clear_stored,
   edit_stored,
   len_of,
@@ -111,47 +99,16 @@ module _ (case : List ℕ) (index : ℕ) (d : List ℕ) {n : ℕ} (is : n ≡ sc
   pub scratch-long : length (take n d) ≡ scratch_len case index
   scratch-long = sym scratch-cut ∙ is
 
--- a call by its number
-module _ {call : ℕ} {case starts ends out₀ s₀ e₀ : List ℕ} {a : Written} {out s e : List ℕ} where
-  pub filters : call ≡ filter_number → FilterTold (note_at case starts ends) (field_of 5 case) out₀ s₀ e₀ a out s e → WholeCase call case starts ends out₀ s₀ e₀ a out s e
-  filters is met = record { met = rw is met }
+-- a call by what it is
+pub answers : {call is : EditCall} {case starts ends out₀ s₀ e₀ : List ℕ} {a : Written} {out s e : List ℕ} → call ≡ is → CaseOf is case starts ends out₀ s₀ e₀ a out s e → CallAnswered call case starts ends out₀ s₀ e₀ a out s e
+answers e met = record { met = rw e met }
 
-  pub appends : call ≡ append_number → AppendTold (note_at case starts ends) (field_of 5 case) out₀ s₀ e₀ a out s e → WholeCase call case starts ends out₀ s₀ e₀ a out s e
-  appends is met = record { met = rw is met }
-
-  pub prepends : (call ≡ filter_number → ⊥) → (call ≡ append_number → ⊥) → PrependTold (note_at case starts ends) (field_of 5 case) out₀ s₀ e₀ a out s e → WholeCase call case starts ends out₀ s₀ e₀ a out s e
-  prepends f p met = record { met = rw (ne_eqb call filter_number f, ne_eqb call append_number p) met }
-
-  pub replaces : call ≡ replace_number → ReplaceCase case starts ends out₀ s₀ e₀ a out s e → CallAnswered call case starts ends out₀ s₀ e₀ a out s e
-  replaces is met = record { met = rw is met }
-
-  pub redacts : call ≡ redact_number → RedactCase case out₀ s₀ e₀ a out s e → CallAnswered call case starts ends out₀ s₀ e₀ a out s e
-  redacts is met = record { met = rw is met }
-
-  pub ranges : call ≡ transform_range_number → RangeCase case starts ends out₀ s₀ e₀ a out s e → CallAnswered call case starts ends out₀ s₀ e₀ a out s e
-  ranges is met = record { met = rw is met }
-
-  pub scripts : call ≡ transform_number → ScriptCase case starts ends out₀ s₀ e₀ a out s e → CallAnswered call case starts ends out₀ s₀ e₀ a out s e
-  scripts is met = record { met = rw is met }
-
-  pub maps : call ≡ map_number → MapCase case starts ends out₀ s₀ e₀ a out s e → CallAnswered call case starts ends out₀ s₀ e₀ a out s e
-  maps is met = record { met = rw is met }
-
-  pub lowercases : call ≡ lowercase_number → LowercaseCase case starts ends out₀ s₀ e₀ a out s e → CallAnswered call case starts ends out₀ s₀ e₀ a out s e
-  lowercases is met = record { met = rw is met }
-
-  pub roads : call ≡ replace_by_edits_number → ByEditsCase case starts ends out₀ s₀ e₀ a out s e → CallAnswered call case starts ends out₀ s₀ e₀ a out s e
-  roads is met = record { met = rw is met }
-
-  pub edits : (call ≡ replace_number → ⊥) → (call ≡ redact_number → ⊥) → (call ≡ transform_range_number → ⊥) → (call ≡ transform_number → ⊥) → (call ≡ map_number → ⊥) → (call ≡ lowercase_number → ⊥) → (call ≡ replace_by_edits_number → ⊥) → WholeCase call case starts ends out₀ s₀ e₀ a out s e → CallAnswered call case starts ends out₀ s₀ e₀ a out s e
-  edits p b t x m l y met = record { met = rw (ne_eqb call replace_number p, ne_eqb call redact_number b, ne_eqb call transform_range_number t, ne_eqb call transform_number x, ne_eqb call map_number m, ne_eqb call lowercase_number l, ne_eqb call replace_by_edits_number y) met }
-
-module _ {call : ℕ} {case : List ℕ} {at : ℕ} {starts ends out₀ s₀ e₀ : List ℕ} {r : Bool} where
-  pub cleared : call ≡ clear_number → Replayed (ClearTold (note_at case starts ends) out₀ s₀ e₀) (clear_stored case 8) r → Published call case at starts ends out₀ s₀ e₀ r
+module _ {call : PublishingCall} {case : List ℕ} {at : ℕ} {starts ends out₀ s₀ e₀ : List ℕ} {r : Bool} where
+  pub cleared : call ≡ Clear → Replayed (ClearTold (note_at case starts ends) out₀ s₀ e₀) (clear_stored case 8) r → Published call case at starts ends out₀ s₀ e₀ r
   cleared is met = record { met = rw is met }
 
-  pub counted : {a : Written} {out s e : List ℕ} → (call ≡ clear_number → ⊥) → CallAnswered call case starts ends out₀ s₀ e₀ a out s e → r ≡ edit_stored case (at + 3) a out s e → Published call case at starts ends out₀ s₀ e₀ r
-  counted {a} {out} {s} {e} c met told = record { met = rw (ne_eqb call clear_number c) (record { answer = a; text = out; starts = s; ends = e; met = met; says = told }) }
+  pub counted : {edit : EditCall} {a : Written} {out s e : List ℕ} → call ≡ Edit edit → CallAnswered edit case starts ends out₀ s₀ e₀ a out s e → r ≡ edit_stored case (at + 3) a out s e → Published call case at starts ends out₀ s₀ e₀ r
+  counted {a = a} {out} {s} {e} is met told = record { met = rw is (record { answer = a; text = out; starts = s; ends = e; met = met; says = told }) }
 
   pub buffers-lent : {out₁ s₁ e₁ : List ℕ} → out₀ ≡ out₁ → s₀ ≡ s₁ → e₀ ≡ e₁ → Published call case at starts ends out₀ s₀ e₀ r → Published call case at starts ends out₁ s₁ e₁ r
   buffers-lent o p q met = coe 0 1 (i. Published call case at starts ends (o i) (p i) (q i) r) met

@@ -1,23 +1,26 @@
 -- The replay of a call that publishes a note: the exported call's own contract is met by some answer and some buffers,
 -- and the result says whether these are what the case stores. The contract leaves no choice of them.
-use Rattle.std.specs.Prelude.{ℕ, ◌+◌, min, ◌≡◌, Bool, cond, ◌&&◌, List, eqb, length}
+use Rattle.std.specs.Prelude.{ℕ, ◌+◌, min, ◌≡◌, Bool, ◌&&◌, List, length}
 use Rattle.buffers.specs.Same.{same}
 use Rattle.note.specs.Notes.{limit}
 use Rattle.note.specs.Refusals.{OnThree}
 use Rattle.convert.specs.Converting.{range_of}
 use Rattle.transform.specs.Transforming.{whole_original}
-use Rattle.stored_answers.specs.Calls.{
-  append_number,
-  clear_number,
-  filter_number,
-  lowercase_number,
-  map_number,
-  redact_number,
-  replace_by_edits_number,
-  replace_number,
-  transform_number,
-  transform_range_number,
+use Rattle.stored_answers.specs.declared.calls.EditCall.{EditCall}
+use Rattle.stored_answers.specs.declared.calls.EditCall.TheVariants.{
+  Replace,
+  Redact,
+  TransformRange,
+  Transform,
+  Map,
+  Filter,
+  Append,
+  Prepend,
+  Lowercase,
+  ReplaceByEdits,
 }
+use Rattle.stored_answers.specs.declared.calls.PublishingCall.{PublishingCall}
+use Rattle.stored_answers.specs.declared.calls.PublishingCall.TheVariants.{Clear, Edit}
 use Rattle.stored_answers.specs.Framing.{field_of, is_number}
 use Rattle.stored_answers.specs.Differences.{numbers_of, offset_column}
 use Rattle.stored_answers.specs.Lending.{flag_at, note_at, number_at}
@@ -85,6 +88,15 @@ MapCase case starts ends = MapTold (note_at case starts ends) (numbers_of (field
 abbrev pub LowercaseCase : List ℕ → List ℕ → List ℕ → OnThree Written
 LowercaseCase case starts ends = LowercaseTold (note_at case starts ends)
 
+abbrev pub FilterCase : List ℕ → List ℕ → List ℕ → OnThree Written
+FilterCase case starts ends = FilterTold (note_at case starts ends) (field_of 5 case)
+
+abbrev pub AppendCase : List ℕ → List ℕ → List ℕ → OnThree Written
+AppendCase case starts ends = AppendTold (note_at case starts ends) (field_of 5 case)
+
+abbrev pub PrependCase : List ℕ → List ℕ → List ℕ → OnThree Written
+PrependCase case starts ends = PrependTold (note_at case starts ends) (field_of 5 case)
+
 -- replacing by edits, with scratch
 abbrev pub ByEditsPassed : List ℕ → List ℕ → List ℕ → List ℕ → List ℕ → List ℕ → Scratch → Scratch
     → Written → List ℕ → List ℕ → List ℕ → Scratch → Scratch → Type 0
@@ -109,33 +121,31 @@ pub record ByEditsCase (case starts ends out₀ starts₀ ends₀ : List ℕ) (r
   pub second_is : ScratchOf case 10 second₀
   pub met : ByEditsPassed case starts ends out₀ starts₀ ends₀ first₀ second₀ r out s e first second
 
--- a call by its number: filter, append, and prepend for any other
-pub record WholeCase (call : ℕ) (case starts ends out₀ starts₀ ends₀ : List ℕ) (r : Written)
-    (out s e : List ℕ) : Type 0 where
-  pub met :
-      cond (eqb call filter_number) (FilterTold (note_at case starts ends) (field_of 5 case))
-      (cond (eqb call append_number) (AppendTold (note_at case starts ends) (field_of 5 case))
-      (PrependTold (note_at case starts ends) (field_of 5 case)))
-      out₀ starts₀ ends₀ r out s e
+-- what a call is held to
+abbrev pub CaseOf : EditCall → List ℕ → List ℕ → List ℕ → OnThree Written
+CaseOf Replace case starts ends = ReplaceCase case starts ends
+CaseOf Redact case starts ends = RedactCase case
+CaseOf TransformRange case starts ends = RangeCase case starts ends
+CaseOf Transform case starts ends = ScriptCase case starts ends
+CaseOf Map case starts ends = MapCase case starts ends
+CaseOf Filter case starts ends = FilterCase case starts ends
+CaseOf Append case starts ends = AppendCase case starts ends
+CaseOf Prepend case starts ends = PrependCase case starts ends
+CaseOf Lowercase case starts ends = LowercaseCase case starts ends
+CaseOf ReplaceByEdits case starts ends = ByEditsCase case starts ends
 
--- and replace, redact, transform_range, transform, map, lowercase, replace_by_edits
-pub record CallAnswered (call : ℕ) (case starts ends out₀ starts₀ ends₀ : List ℕ) (r : Written)
+pub record CallAnswered (call : EditCall) (case starts ends out₀ starts₀ ends₀ : List ℕ) (r : Written)
     (out s e : List ℕ) : Type 0 where
-  pub met :
-      cond (eqb call replace_number) (ReplaceCase case starts ends)
-      (cond (eqb call redact_number) (RedactCase case)
-      (cond (eqb call transform_range_number) (RangeCase case starts ends)
-      (cond (eqb call transform_number) (ScriptCase case starts ends)
-      (cond (eqb call map_number) (MapCase case starts ends)
-      (cond (eqb call lowercase_number) (LowercaseCase case starts ends)
-      (cond (eqb call replace_by_edits_number) (ByEditsCase case starts ends) (WholeCase call case starts ends)))))))
-      out₀ starts₀ ends₀ r out s e
+  pub met : CaseOf call case starts ends out₀ starts₀ ends₀ r out s e
 
--- the replay of a call by its number, or of clear, whose answer has two lengths; the buffers are in the fields
--- from `at` on, and what is stored of the answer after them
-pub record Published (call : ℕ) (case : List ℕ) (at : ℕ) (starts ends out₀ starts₀ ends₀ : List ℕ)
+-- the replay of clear, whose answer has two lengths, or of another call
+abbrev pub ReplayOf : PublishingCall → List ℕ → ℕ → List ℕ → List ℕ → List ℕ → List ℕ → List ℕ → Bool → Type 0
+ReplayOf Clear case at starts ends out₀ starts₀ ends₀ r =
+    Replayed (ClearTold (note_at case starts ends) out₀ starts₀ ends₀) (clear_stored case 8) r
+ReplayOf (Edit call) case at starts ends out₀ starts₀ ends₀ r =
+    Replayed (CallAnswered call case starts ends out₀ starts₀ ends₀) (edit_stored case (at + 3)) r
+
+-- the replay of a call; the buffers are in the fields from `at` on, and what is stored of the answer after them
+pub record Published (call : PublishingCall) (case : List ℕ) (at : ℕ) (starts ends out₀ starts₀ ends₀ : List ℕ)
     (r : Bool) : Type 0 where
-  pub met :
-      cond (eqb call clear_number)
-      (Replayed (ClearTold (note_at case starts ends) out₀ starts₀ ends₀) (clear_stored case 8) r)
-      (Replayed (CallAnswered call case starts ends out₀ starts₀ ends₀) (edit_stored case (at + 3)) r)
+  pub met : ReplayOf call case at starts ends out₀ starts₀ ends₀ r

@@ -2,6 +2,7 @@
 ghost use Rattle.replayed_edits.specs.Replaying.{RedactCase, ReplaceCase};
 
 use buffers::Offset;
+use note::NormalizedString;
 use stored_answers::fields::{field, value};
 use zulmyren::answers::Written;
 use zulmyren::matches::zulmyren_replace;
@@ -21,11 +22,13 @@ pub fn replace(
         result out.new out_starts.new out_ends.new }
 {
     zulmyren_replace(
-        field(case, 0),
-        field(case, 1),
-        starts,
-        ends,
-        value(case, 4),
+        &NormalizedString {
+            original: field(case, 0),
+            normalized: field(case, 1),
+            starts,
+            ends,
+            original_shift: value(case, 4),
+        },
         field(case, 5),
         field(case, 6),
         out,

@@ -1,4 +1,4 @@
-// The calls that publish a note, by their numbers. The buffers for text, starts and ends are in the fields from `at` on,
+// The calls that publish a note. The buffers for text, starts and ends are in the fields from `at` on,
 // then the refusal, the size, the three buffers.
 ghost use Rattle.std.specs.Prelude.{◌+◌, ◌<◌, take};
 ghost use Rattle.note.specs.Notes.{limit};
@@ -10,16 +10,15 @@ use crate::matches::{redact, replace};
 use crate::road::replace_by_edits;
 use crate::scripts::{transform, transform_range};
 use crate::told::is_published;
-use crate::whole::{clear, edit, lowercase, map};
+use crate::whole::{append, clear, filter, lowercase, map, prepend};
 use buffers::Offset;
-use stored_answers::calls::{
-    CLEAR, LOWERCASE, MAP, REDACT, REPLACE, REPLACE_BY_EDITS, TRANSFORM, TRANSFORM_RANGE,
-};
-use stored_answers::columns::{bytes, large_buffer, offsets, zeros};
+use standard_input::large_buffer;
+use stored_answers::calls::{EditCall, PublishingCall};
+use stored_answers::columns::{bytes, offsets, zeros};
 use zulmyren::answers::Written;
 
 fn answered(
-    call: u8,
+    call: EditCall,
     case: &[u8],
     starts: &[Offset],
     ends: &[Offset],
@@ -32,19 +31,21 @@ fn answered(
         result out.new out_starts.new out_ends.new }
 {
     match call {
-        REPLACE => replace(case, starts, ends, out, out_starts, out_ends),
-        REDACT => redact(case, out, out_starts, out_ends),
-        TRANSFORM_RANGE => transform_range(case, starts, ends, out, out_starts, out_ends),
-        TRANSFORM => transform(case, starts, ends, out, out_starts, out_ends),
-        MAP => map(case, starts, ends, out, out_starts, out_ends),
-        LOWERCASE => lowercase(case, starts, ends, out, out_starts, out_ends),
-        REPLACE_BY_EDITS => replace_by_edits(case, starts, ends, out, out_starts, out_ends),
-        _ => edit(call, case, starts, ends, out, out_starts, out_ends),
+        EditCall::Replace => replace(case, starts, ends, out, out_starts, out_ends),
+        EditCall::Redact => redact(case, out, out_starts, out_ends),
+        EditCall::TransformRange => transform_range(case, starts, ends, out, out_starts, out_ends),
+        EditCall::Transform => transform(case, starts, ends, out, out_starts, out_ends),
+        EditCall::Map => map(case, starts, ends, out, out_starts, out_ends),
+        EditCall::Lowercase => lowercase(case, starts, ends, out, out_starts, out_ends),
+        EditCall::ReplaceByEdits => replace_by_edits(case, starts, ends, out, out_starts, out_ends),
+        EditCall::Filter => filter(case, starts, ends, out, out_starts, out_ends),
+        EditCall::Append => append(case, starts, ends, out, out_starts, out_ends),
+        EditCall::Prepend => prepend(case, starts, ends, out, out_starts, out_ends),
     }
 }
 
 fn published(
-    call: u8,
+    call: PublishingCall,
     case: &[u8],
     at: usize,
     starts: &[Offset],
@@ -57,15 +58,23 @@ fn published(
     ensures { Published call case.now at starts.now ends.now
         out.old out_starts.old out_ends.old result }
 {
-    if call == CLEAR {
-        return clear(case, starts, ends, out, out_starts, out_ends);
+    match call {
+        PublishingCall::Clear => clear(case, starts, ends, out, out_starts, out_ends),
+        PublishingCall::Edit(edit) => {
+            let answer = answered(edit, case, starts, ends, out, out_starts, out_ends);
+            is_published(case, at + 3, answer, out, out_starts, out_ends)
+        }
     }
-    let answer = answered(call, case, starts, ends, out, out_starts, out_ends);
-    is_published(case, at + 3, answer, out, out_starts, out_ends)
 }
 
-// A call that publishes a note, by its number. An inner function: `at` is below 80, so that adding to it does not wrap.
-pub fn on_publishing(call: u8, case: &[u8], at: usize, starts: &[Offset], ends: &[Offset]) -> bool
+// A call that publishes a note. An inner function: `at` is below 80, so that adding to it does not wrap.
+pub fn on_publishing(
+    call: PublishingCall,
+    case: &[u8],
+    at: usize,
+    starts: &[Offset],
+    ends: &[Offset],
+) -> bool
     requires { at < 80 }
     ensures { Published call case.now at starts.now ends.now
         (take (limit + 1) (field_of at case.now)) (offset_column limit (field_of (at + 1) case.now))

@@ -5,8 +5,9 @@ ghost use Rattle.replace_by_edits.specs.ByEdits.{scratch};
 ghost use Rattle.replayed_edits.specs.Replaying.{ByEditsCase, ByEditsPassed, scratch_len};
 
 use buffers::Offset;
-use checks::least_of_two;
-use stored_answers::columns::{ROOM, large_buffer, zeros};
+use note::NormalizedString;
+use standard_input::large_buffer;
+use stored_answers::columns::{ROOM, zeros};
 use stored_answers::fields::{field, value};
 use zulmyren::answers::Written;
 use zulmyren::matches::zulmyren_replace_by_edits;
@@ -15,7 +16,7 @@ use zulmyren::matches::zulmyren_replace_by_edits;
 fn scratch_len(case: &[u8], index: usize) -> usize
     ensures { result ≡ scratch_len case.now index }
 {
-    least_of_two(value(case, index) as usize, ROOM)
+    (value(case, index) as usize).min(ROOM)
 }
 
 // A note, a list, a content.
@@ -42,11 +43,13 @@ fn pass_by_edits(
         (scratch second.new second_starts.new second_ends.new) }
 {
     zulmyren_replace_by_edits(
-        field(case, 0),
-        field(case, 1),
-        starts,
-        ends,
-        value(case, 4),
+        &NormalizedString {
+            original: field(case, 0),
+            normalized: field(case, 1),
+            starts,
+            ends,
+            original_shift: value(case, 4),
+        },
         field(case, 5),
         field(case, 6),
         out,

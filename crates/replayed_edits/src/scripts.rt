@@ -2,6 +2,7 @@
 ghost use Rattle.replayed_edits.specs.Replaying.{RangeCase, ScriptCase};
 
 use buffers::Offset;
+use note::NormalizedString;
 use stored_answers::fields::{field, value};
 use zulmyren::answers::Written;
 use zulmyren::editing::{zulmyren_transform, zulmyren_transform_range};
@@ -20,11 +21,13 @@ pub fn transform_range(
         result out.new out_starts.new out_ends.new }
 {
     zulmyren_transform_range(
-        field(case, 0),
-        field(case, 1),
-        starts,
-        ends,
-        value(case, 4),
+        &NormalizedString {
+            original: field(case, 0),
+            normalized: field(case, 1),
+            starts,
+            ends,
+            original_shift: value(case, 4),
+        },
         value(case, 5) == 1,
         value(case, 6),
         value(case, 7),
@@ -50,11 +53,13 @@ pub fn transform(
         result out.new out_starts.new out_ends.new }
 {
     zulmyren_transform(
-        field(case, 0),
-        field(case, 1),
-        starts,
-        ends,
-        value(case, 4),
+        &NormalizedString {
+            original: field(case, 0),
+            normalized: field(case, 1),
+            starts,
+            ends,
+            original_shift: value(case, 4),
+        },
         field(case, 5),
         value(case, 6),
         out,

@@ -4,7 +4,6 @@ use mathlib.Core.Path.{◌≡◌, ◌∙◌, ap}
 use mathlib.Core.Bool.{Bool, ◌&&◌}
 use mathlib.Core.List.{List}
 use lib.Dec.{eqb}
-use borrow.Author.Tests.{ne_eqb}
 use lib.ListN.{take}
 use Rattle.buffers.specs.Same.{same}
 use Rattle.buffers.specs.Splice.{Laid}
@@ -12,7 +11,8 @@ use Rattle.note.specs.Notes.{lent, limit}
 use Rattle.convert.specs.Converting.{range_of}
 use Rattle.split.specs.Splitting.{PieceColumns, columns}
 use Rattle.piece_lines.specs.Printing.{printed}
-use Rattle.stored_answers.specs.Calls.{char_offsets_all_number}
+use Rattle.stored_answers.specs.declared.calls.PairsCall.{PairsCall}
+use Rattle.stored_answers.specs.declared.calls.PairsCall.TheVariants.{CharOffsetsAll, ConvertAll}
 use Rattle.stored_answers.specs.Framing.{field_of}
 use Rattle.stored_answers.specs.Differences.{offset_column}
 use Rattle.stored_answers.specs.Lending.{number_at}
@@ -72,22 +72,22 @@ module _ {case starts ends original normalized : List ℕ} {shift : ℕ} (o : or
         }
 
 -- a call on a list of pairs
-module _ {call : ℕ} {case starts ends from to n₀ s₀ e₀ : List ℕ} {a : ℕ} {n s e : List ℕ} where
-  pub chars-told : {text : List ℕ} → call ≡ char_offsets_all_number → text ≡ field_of 0 case → CharOffsetsAllCall text from to n₀ s₀ e₀ a n s e → PairsTold call case starts ends from to n₀ s₀ e₀ a n s e
+module _ {call : PairsCall} {case starts ends from to n₀ s₀ e₀ : List ℕ} {a : ℕ} {n s e : List ℕ} where
+  pub chars-told : {text : List ℕ} → call ≡ CharOffsetsAll → text ≡ field_of 0 case → CharOffsetsAllCall text from to n₀ s₀ e₀ a n s e → PairsTold call case starts ends from to n₀ s₀ e₀ a n s e
   chars-told is t call = record { met = rw is (coe 0 1 (i. CharOffsetsAllCall (t i) from to n₀ s₀ e₀ a n s e) call) }
 
   pub ranges-told :
-      {original normalized : List ℕ} {shift side : ℕ} → (call ≡ char_offsets_all_number → ⊥) → original ≡ field_of 0 case
+      {original normalized : List ℕ} {shift side : ℕ} → call ≡ ConvertAll → original ≡ field_of 0 case
       → normalized ≡ field_of 1 case → shift ≡ number_at case 4 → side ≡ number_at case 5
       → ConvertAllCall (lent original normalized starts ends shift) (side_of (eqb side 1)) from to n₀ s₀ e₀ a n s e
       → PairsTold call case starts ends from to n₀ s₀ e₀ a n s e
-  ranges-told not o t k f met = record { met = rw (ne_eqb call char_offsets_all_number not) (coe 0 1 (i. ConvertAllCall (lent (o i) (t i) starts ends (k i)) (side_of (eqb (f i) 1)) from to n₀ s₀ e₀ a n s e) met) }
+  ranges-told is o t k f met = record { met = rw is (coe 0 1 (i. ConvertAllCall (lent (o i) (t i) starts ends (k i)) (side_of (eqb (f i) 1)) from to n₀ s₀ e₀ a n s e) met) }
 
   pub pairs-replayed : {index : ℕ} {r : Bool} → PairsTold call case starts ends from to n₀ s₀ e₀ a n s e → r ≡ pairs_stored case index a n s e → PairsReplayed call case index starts ends from to n₀ s₀ e₀ r
   pairs-replayed met told = record { answer = a; numbers = n; out_starts = s; out_ends = e; met = met; says = told }
 
 -- passed buffers by what they hold
-module _ {call : ℕ} {case : List ℕ} {index : ℕ} {starts ends : List ℕ} {r : Bool} where
+module _ {call : PairsCall} {case : List ℕ} {index : ℕ} {starts ends : List ℕ} {r : Bool} where
   pub answers-lent : {from to n₀ s₀ e₀ n s e : List ℕ} → n₀ ≡ n → s₀ ≡ s → e₀ ≡ e → PairsReplayed call case index starts ends from to n₀ s₀ e₀ r → PairsReplayed call case index starts ends from to n s e r
   answers-lent {from} {to} o p q w = coe 0 1 (i. PairsReplayed call case index starts ends from to (o i) (p i) (q i) r) w
 

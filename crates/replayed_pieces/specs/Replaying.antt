@@ -1,11 +1,12 @@
 -- The replay of a case: the exported call's own contract is met by some answer and some buffers, and the result says
 -- whether these are what the case stores. The contract leaves no choice of them.
-use Rattle.std.specs.Prelude.{ℕ, ◌≡◌, Bool, cond, ◌&&◌, List, eqb}
+use Rattle.std.specs.Prelude.{ℕ, ◌≡◌, Bool, ◌&&◌, List}
 use Rattle.buffers.specs.Same.{same}
 use Rattle.note.specs.Notes.{limit}
 use Rattle.convert.specs.Converting.{range_of}
 use Rattle.split.specs.Splitting.{PieceColumns}
-use Rattle.stored_answers.specs.Calls.{char_offsets_all_number}
+use Rattle.stored_answers.specs.declared.calls.PairsCall.{PairsCall}
+use Rattle.stored_answers.specs.declared.calls.PairsCall.TheVariants.{CharOffsetsAll, ConvertAll}
 use Rattle.stored_answers.specs.Framing.{field_of}
 use Rattle.stored_answers.specs.Differences.{offset_column}
 use Rattle.stored_answers.specs.Lending.{number_at, flag_at, note_at}
@@ -51,16 +52,19 @@ pub record SplitsReplayed (case starts ends lent_starts lent_ends : List ℕ) (r
       lent_starts lent_ends answer out_starts out_ends
   pub says : r ≡ splits_stored case 11 answer out_starts out_ends
 
--- a call on a list of pairs by its number: char_offsets_all, and convert_all for any other; the three buffers
--- before, the refusal, and the three after
-pub record PairsTold (call : ℕ) (case starts ends from to numbers₀ starts₀ ends₀ : List ℕ) (r : ℕ)
-    (numbers s e : List ℕ) : Type 0 where
-  pub met :
-      cond (eqb call char_offsets_all_number) (CharOffsetsAllCall (field_of 0 case) from to)
-      (ConvertAllCall (note_at case starts ends) (side_of (flag_at case 5)) from to)
-      numbers₀ starts₀ ends₀ r numbers s e
+-- what a call on a list of pairs promises
+abbrev pub PairsPromised : PairsCall → List ℕ → List ℕ → List ℕ → List ℕ → List ℕ
+    → List ℕ → List ℕ → List ℕ → ℕ → List ℕ → List ℕ → List ℕ → Type 0
+PairsPromised CharOffsetsAll case starts ends from to = CharOffsetsAllCall (field_of 0 case) from to
+PairsPromised ConvertAll case starts ends from to =
+    ConvertAllCall (note_at case starts ends) (side_of (flag_at case 5)) from to
 
-pub record PairsReplayed (call : ℕ) (case : List ℕ) (index : ℕ) (starts ends from to : List ℕ)
+-- a call on a list of pairs; the three buffers before, the refusal, and the three after
+pub record PairsTold (call : PairsCall) (case starts ends from to numbers₀ starts₀ ends₀ : List ℕ) (r : ℕ)
+    (numbers s e : List ℕ) : Type 0 where
+  pub met : PairsPromised call case starts ends from to numbers₀ starts₀ ends₀ r numbers s e
+
+pub record PairsReplayed (call : PairsCall) (case : List ℕ) (index : ℕ) (starts ends from to : List ℕ)
     (numbers₀ starts₀ ends₀ : List ℕ) (r : Bool) : Type 0 where
   pub answer : ℕ
   pub numbers : List ℕ

@@ -1,4 +1,4 @@
-// The calls on a list of pairs, by their numbers: its starts and ends, the passed numbers, starts and ends, from fields
+// The calls on a list of pairs: its starts and ends, the passed numbers, starts and ends, from fields
 // `at` on; the refusal, the three buffers.
 ghost use Rattle.std.specs.Prelude.{◌+◌, ◌<◌, take};
 ghost use Rattle.stored_answers.specs.Differences.{numbers_of};
@@ -7,7 +7,8 @@ ghost use Rattle.replayed_pieces.specs.Replaying.{PairsReplayed, PairsTold};
 
 use crate::told::are_pairs;
 use buffers::Offset;
-use stored_answers::calls::CHAR_OFFSETS_ALL;
+use note::NormalizedString;
+use stored_answers::calls::PairsCall;
 use stored_answers::columns::{FEW, bytes, numbers};
 use stored_answers::fields::{field, value};
 use zulmyren::ranges::zulmyren_convert_all;
@@ -15,7 +16,7 @@ use zulmyren::texts::zulmyren_char_offsets_all;
 
 // `char_offsets_all`: a text; or `convert_all`: a note, and the text that the ranges are of.
 fn answered(
-    call: u8,
+    call: PairsCall,
     case: &[u8],
     note_starts: &[Offset],
     note_ends: &[Offset],
@@ -29,26 +30,30 @@ fn answered(
         from.now to.now numbers.old starts.old ends.old
         result numbers.new starts.new ends.new }
 {
-    if call == CHAR_OFFSETS_ALL {
-        return zulmyren_char_offsets_all(field(case, 0), from, to, numbers, starts, ends);
+    match call {
+        PairsCall::CharOffsetsAll => {
+            zulmyren_char_offsets_all(field(case, 0), from, to, numbers, starts, ends)
+        }
+        PairsCall::ConvertAll => zulmyren_convert_all(
+            &NormalizedString {
+                original: field(case, 0),
+                normalized: field(case, 1),
+                starts: note_starts,
+                ends: note_ends,
+                original_shift: value(case, 4),
+            },
+            value(case, 5) == 1,
+            from,
+            to,
+            numbers,
+            starts,
+            ends,
+        ),
     }
-    zulmyren_convert_all(
-        field(case, 0),
-        field(case, 1),
-        note_starts,
-        note_ends,
-        value(case, 4),
-        value(case, 5) == 1,
-        from,
-        to,
-        numbers,
-        starts,
-        ends,
-    )
 }
 
 fn listed(
-    call: u8,
+    call: PairsCall,
     case: &[u8],
     index: usize,
     note_starts: &[Offset],
@@ -80,7 +85,7 @@ fn listed(
 
 // The passed numbers, starts and ends, beside the pairs.
 fn listed_beside(
-    call: u8,
+    call: PairsCall,
     case: &[u8],
     at: usize,
     note_starts: &[Offset],
@@ -116,7 +121,7 @@ fn listed_beside(
 
 // A call that takes no columns leaves those of the note.
 // An inner function: `at` is below 90, so that adding to it does not wrap.
-pub fn on_pairs(call: u8, case: &[u8], at: usize, starts: &[Offset], ends: &[Offset]) -> bool
+pub fn on_pairs(call: PairsCall, case: &[u8], at: usize, starts: &[Offset], ends: &[Offset]) -> bool
     requires { at < 90 }
     ensures { PairsReplayed call case.now (at + 5) starts.now ends.now
         (numbers_of (field_of at case.now)) (numbers_of (field_of (at + 1) case.now))

@@ -7,6 +7,7 @@ ghost use Rattle.replayed_pieces.specs.Replaying.{SplitReplayed, SplitsReplayed}
 
 use crate::told::{are_pieces, are_splits};
 use buffers::Offset;
+use note::NormalizedString;
 use stored_answers::columns::{FEW, are_offsets, numbers, offsets, zeros};
 use stored_answers::fields::{field, value};
 use zulmyren::slices::{zulmyren_get_splits, zulmyren_split};
@@ -27,11 +28,13 @@ fn cut(
         lengths.old out_starts.old out_ends.old) result }
 {
     let answer = zulmyren_split(
-        field(case, 0),
-        field(case, 1),
-        starts,
-        ends,
-        value(case, 4),
+        &NormalizedString {
+            original: field(case, 0),
+            normalized: field(case, 1),
+            starts,
+            ends,
+            original_shift: value(case, 4),
+        },
         field(case, 5),
         value(case, 6),
         value(case, 7) == 1,
@@ -139,11 +142,13 @@ fn listed(
         out_starts.old out_ends.old result }
 {
     let answer = zulmyren_get_splits(
-        field(case, 0),
-        field(case, 1),
-        starts,
-        ends,
-        value(case, 4),
+        &NormalizedString {
+            original: field(case, 0),
+            normalized: field(case, 1),
+            starts,
+            ends,
+            original_shift: value(case, 4),
+        },
         field(case, 5),
         value(case, 6),
         value(case, 7) == 1,

@@ -6,6 +6,7 @@ ghost use Rattle.replayed_pieces.specs.Replaying.{SliceReplayed};
 
 use crate::told::is_slice;
 use buffers::Offset;
+use note::NormalizedString;
 use stored_answers::columns::{are_offsets, offsets, zeros};
 use stored_answers::fields::{field, value};
 use zulmyren::slices::zulmyren_slice;
@@ -21,11 +22,13 @@ fn sliced(
         out_starts.old out_ends.old result }
 {
     let answer = zulmyren_slice(
-        field(case, 0),
-        field(case, 1),
-        starts,
-        ends,
-        value(case, 4),
+        &NormalizedString {
+            original: field(case, 0),
+            normalized: field(case, 1),
+            starts,
+            ends,
+            original_shift: value(case, 4),
+        },
         value(case, 5) == 1,
         value(case, 6),
         value(case, 7),

@@ -10,16 +10,15 @@ use lib.Dec.{leb, ltb, eqb}
 use lib.ListN.{length, get_or, drop, length-drop, get_or-eq_default}
 use lib.Seq.{drop-drop, get_or-drop}
 use borrow.Author.Tests.{le-leb, lt-leb, leb-true, lt-ltb, le-ltb, ltb-true, eq-eqb, ne_eqb, eqb-true}
+use Rattle.std.specs.Prelude.{Option, Some, None}
 use Rattle.buffers.specs.Splice.{part}
-use Rattle.buffers.proofs.Cases.{le-or-lt, true-or-false}
+use Rattle.buffers.proofs.Cases.{le-or-lt, true-or-false, none-some, some-parts}
 use Rattle.buffers.proofs.Booleans.{and-false-l, and_false_r}
 use Rattle.numbers.specs.LittleEndian.{value_of}
 use Rattle.numbers.proofs.Entries.{read_step, read-end}
 use Rattle.utf8.specs.Scalar.{scalar}
 use Rattle.utf8.proofs.LenUtf8.{size_none, size-some, size_most}
 use Rattle.script.specs.declared.Command.{Command}
-use Rattle.script.specs.declared.Entry.{Entry}
-use Rattle.script.specs.declared.Entry.TheVariants.{At, Broken}
 use Rattle.utf8.specs.Scalar.{len_utf8}
 use Rattle.script.specs.Scripts.{command_size, character_at, removed_at, removal_at, command_at, of_command, front_size, commands_of, whole}
 
@@ -71,38 +70,38 @@ abbrev test : List ℕ → ℕ → Bool
 test l i = ltb 0 (command_size (get_or l i 0)) && leb (i + command_size (get_or l i 0)) (length l) && scalar (character_at l i)
 
 -- what it then says, the next one being counted from `at`
-abbrev body : List ℕ → ℕ → ℕ → Entry
+abbrev body : List ℕ → ℕ → ℕ → Option (Command × ℕ)
 body l i at =
     cond (eqb (get_or l i 0) 3)
-    (cond (eqb (removed_at l i) 0) Broken (At (record { character = character_at l i; added = false; removed = removed_at l i }) (at + 7)))
-    (At (record { character = character_at l i; added = eqb (get_or l i 0) 2; removed = 0 }) (at + 5))
+    (cond (eqb (removed_at l i) 0) None (Some (record { character = character_at l i; added = false; removed = removed_at l i }, at + 7)))
+    (Some (record { character = character_at l i; added = eqb (get_or l i 0) 2; removed = 0 }, at + 5))
 
-entry-body : (l : List ℕ) (i : ℕ) → command_at l i ≡ cond (test l i) (body l i i) Broken
+entry-body : (l : List ℕ) (i : ℕ) → command_at l i ≡ cond (test l i) (body l i i) None
 unfolding command_at removal_at
 entry-body l i = refl
 
 -- by what the code tests
 module _ (l : List ℕ) (i : ℕ) where
-  unknown : command_size (get_or l i 0) ≡ 0 → Broken ≡ command_at l i
+  unknown : command_size (get_or l i 0) ≡ 0 → None ≡ command_at l i
   unfolding command_at
   unknown e = rw (le-ltb 0 (command_size (get_or l i 0)) (omega arith))
 
-  pub entry_past : length l ≤ i → Broken ≡ command_at l i
+  pub entry_past : length l ≤ i → None ≡ command_at l i
   unfolding command_size
   entry_past h = unknown (rw (get_or-eq_default l 0 h))
 
   module _ {w : ℕ} (is : w ≡ command_size (get_or l i 0)) where
-    pub entry-unknown : w ≡ 0 → Broken ≡ command_at l i
+    pub entry-unknown : w ≡ 0 → None ≡ command_at l i
     entry-unknown e = unknown (sym is ∙ e)
 
-    pub entry-cut : length l < i + w → Broken ≡ command_at l i
+    pub entry-cut : length l < i + w → None ≡ command_at l i
     entry-cut h =
         let over : length l < i + command_size (get_or l i 0) = rw is at h in
         sym (entry-body l i
         ∙ rw (and-false-l (ltb 0 (command_size (get_or l i 0)) && leb (i + command_size (get_or l i 0)) (length l)) (scalar (character_at l i)) (and_false_r (ltb 0 (command_size (get_or l i 0))) _ (lt-leb _ _ over))))
 
     module _ {c size : ℕ} (read : c ≡ character_at l i) (wide : size ≡ len_utf8 c) where
-      pub entry-no-character : size ≡ 0 → Broken ≡ command_at l i
+      pub entry-no-character : size ≡ 0 → None ≡ command_at l i
       entry-no-character z =
           let none : scalar (character_at l i) ≡ false = rw (← read) (size_none c (sym wide ∙ z)) in
           sym (entry-body l i ∙ rw (and_false_r (ltb 0 (command_size (get_or l i 0)) && leb (i + command_size (get_or l i 0)) (length l)) _ none))
@@ -115,13 +114,13 @@ module _ (l : List ℕ) (i : ℕ) where
             let character : scalar (character_at l i) ≡ true = rw (← read) (size-some c (λ z. some (wide ∙ z))) in
             rw (lt-ltb _ _ wide_enough, le-leb _ _ inside, character)
 
-        pub entry-removal : w ≡ 7 → {r : Entry} → r ≡ removal_at l i c → r ≡ command_at l i
+        pub entry-removal : w ≡ 7 → {r : Option (Command × ℕ)} → r ≡ removal_at l i c → r ≡ command_at l i
         unfolding removal_at
         entry-removal e at =
             let three : eqb (get_or l i 0) 3 ≡ true = width-seven (get_or l i 0) (sym is ∙ e) in
             at ∙ sym (entry-body l i ∙ rw (tested, three, ← read))
 
-        pub entry-command : (w ≡ 7 → ⊥) → At (record { character = c; added = eqb (get_or l i 0) 2; removed = 0 }) (i + 5) ≡ command_at l i
+        pub entry-command : (w ≡ 7 → ⊥) → Some (record { character = c; added = eqb (get_or l i 0) 2; removed = 0 }, i + 5) ≡ command_at l i
         entry-command e =
             let other : eqb (get_or l i 0) 3 ≡ false = true-or-false (eqb (get_or l i 0) 3) (λ t. absurd (e (is ∙ width_three (get_or l i 0) t))) (λ u. u) in
             sym (entry-body l i ∙ rw (tested, other, ← read))
@@ -136,11 +135,11 @@ module _ (l : List ℕ) (i : ℕ) where
     unfolding removed_at
     count = let end : i + 5 + 2 ≡ i + 7 = omega arith in rw end at read
 
-    pub removal-none : removed ≡ 0 → Broken ≡ removal_at l i c
+    pub removal-none : removed ≡ 0 → None ≡ removal_at l i c
     unfolding removal_at
     removal-none z = rw (eq-eqb (removed_at l i) 0 (sym count ∙ z))
 
-    pub removal-some : (removed ≡ 0 → ⊥) → At (record { character = c; added = false; removed = removed }) (i + 7) ≡ removal_at l i c
+    pub removal-some : (removed ≡ 0 → ⊥) → Some (record { character = c; added = false; removed = removed }, i + 7) ≡ removal_at l i c
     unfolding removal_at
     removal-some some = rw (ne_eqb (removed_at l i) 0 (λ z. some (count ∙ z)), count)
 
@@ -150,7 +149,7 @@ part-drop l i a b =
     let wide : i + b - (i + a) ≡ b - a = omega arith in
     rw (drop-drop a i l, wide)
 
-entry-drop : (l : List ℕ) (i : ℕ) → command_at (drop i l) 0 ≡ cond (test l i) (body l i 0) Broken
+entry-drop : (l : List ℕ) (i : ℕ) → command_at (drop i l) 0 ≡ cond (test l i) (body l i 0) None
 unfolding character_at removed_at
 entry-drop l i =
     let z : i + 0 ≡ i = omega arith in
@@ -177,13 +176,10 @@ record Told (l : List ℕ) (i : ℕ) (c : Command) (next : ℕ) : Type 0 where
   wide : 5 ≤ width
   ends : next ≡ i + width
   inside : i + width ≤ length l
-  front : command_at (drop i l) 0 ≡ At c width
+  front : command_at (drop i l) 0 ≡ Some (c, width)
 
 module _ (l : List ℕ) (i : ℕ) where
-  not_at : {c : Command} {next : ℕ} {P : Type 0} → Broken ≡ At c next → P
-  not_at e = let z : ◌≡◌ {A = ℕ} 0 1 = cc in absurd (omega arith)
-
-  module _ {c : Command} {next : ℕ} (e : command_at l i ≡ At c next) (t : test l i ≡ true) where
+  module _ {c : Command} {next : ℕ} (e : command_at l i ≡ Some (c, next)) (t : test l i ≡ true) where
     both : (ltb 0 (command_size (get_or l i 0)) && leb (i + command_size (get_or l i 0)) (length l)) ≡ true
     both = and_elim_left _ (scalar (character_at l i)) t
 
@@ -193,40 +189,37 @@ module _ (l : List ℕ) (i : ℕ) where
     told-other : eqb (get_or l i 0) 3 ≡ false → Told l i c next
     told-other u =
         let five : command_size (get_or l i 0) ≡ 5 = width-five (get_or l i 0) (ltb-true 0 _ (and_elim_left _ (leb (i + command_size (get_or l i 0)) (length l)) both)) u in
-        let at : At (record { character = character_at l i; added = eqb (get_or l i 0) 2; removed = 0 }) (i + 5) ≡ At c next = rw (t, u) at (sym (entry-body l i) ∙ e) in
-        let is : record { character = character_at l i; added = eqb (get_or l i 0) 2; removed = 0 } ≡ c = cc in
-        let ends : i + 5 ≡ next = cc in
+        let at : Some (record { character = character_at l i; added = eqb (get_or l i 0) 2; removed = 0 }, i + 5) ≡ Some (c, next) = rw (t, u) at (sym (entry-body l i) ∙ e) in
+        let is : record { character = character_at l i; added = eqb (get_or l i 0) 2; removed = 0 } ≡ c = (some-parts at).0 in
+        let ends : i + 5 ≡ next = (some-parts at).1 in
         record { width = 5; wide = omega arith; ends = sym ends; inside = omega (arith, five, inside); front = entry-drop l i ∙ rw (t, u, is) }
 
     told-three : eqb (get_or l i 0) 3 ≡ true → eqb (removed_at l i) 0 ≡ false → Told l i c next
     told-three three some =
         let seven : command_size (get_or l i 0) ≡ 7 = width_three (get_or l i 0) three in
-        let at : At (record { character = character_at l i; added = false; removed = removed_at l i }) (i + 7) ≡ At c next = rw (t, three, some) at (sym (entry-body l i) ∙ e) in
-        let is : record { character = character_at l i; added = false; removed = removed_at l i } ≡ c = cc in
-        let ends : i + 7 ≡ next = cc in
+        let at : Some (record { character = character_at l i; added = false; removed = removed_at l i }, i + 7) ≡ Some (c, next) = rw (t, three, some) at (sym (entry-body l i) ∙ e) in
+        let is : record { character = character_at l i; added = false; removed = removed_at l i } ≡ c = (some-parts at).0 in
+        let ends : i + 7 ≡ next = (some-parts at).1 in
         record { width = 7; wide = omega arith; ends = sym ends; inside = omega (arith, seven, inside); front = entry-drop l i ∙ rw (t, three, some, is) }
 
-  told : {c : Command} {next : ℕ} → command_at l i ≡ At c next → Told l i c next
+  told : {c : Command} {next : ℕ} → command_at l i ≡ Some (c, next) → Told l i c next
   told {c} {next} e =
       true-or-false (test l i)
       (λ t. true-or-false (eqb (get_or l i 0) 3)
       (λ three. true-or-false (eqb (removed_at l i) 0)
-      (λ zero. not_at (rw (t, three, zero) at (sym (entry-body l i) ∙ e)))
+      (λ zero. none-some (rw (t, three, zero) at (sym (entry-body l i) ∙ e)))
       (told-three e t three))
       (told-other e t))
-      (λ f. not_at (rw f at (sym (entry-body l i) ∙ e)))
+      (λ f. none-some (rw f at (sym (entry-body l i) ∙ e)))
 
-  not-broken : {c : Command} {next : ℕ} {P : Type 0} → At c next ≡ Broken → P
-  not-broken e = let z : ◌≡◌ {A = ℕ} 0 1 = cc in absurd (omega arith)
-
-  told-broken : command_at l i ≡ Broken → command_at (drop i l) 0 ≡ Broken
+  told-broken : command_at l i ≡ None → command_at (drop i l) 0 ≡ None
   told-broken e =
       true-or-false (test l i)
       (λ t. true-or-false (eqb (get_or l i 0) 3)
       (λ three. true-or-false (eqb (removed_at l i) 0)
       (λ zero. entry-drop l i ∙ rw (t, three, zero))
-      (λ some. not-broken (rw (t, three, some) at (sym (entry-body l i) ∙ e))))
-      (λ u. not-broken (rw (t, u) at (sym (entry-body l i) ∙ e))))
+      (λ some. none-some (rw (t, three, some) at (sym e ∙ entry-body l i))))
+      (λ u. none-some (rw (t, u) at (sym e ∙ entry-body l i))))
       (λ f. entry-drop l i ∙ rw f)
 
 -- THE STEP: from the command at i to where the next one begins, which is further on than the command's character is long
@@ -236,7 +229,7 @@ pub record Stepped (l : List ℕ) (i : ℕ) (c : Command) (next : ℕ) : Type 0 
   pub commands : commands_of (drop i l) ≡ c ∷ commands_of (drop next l)
   pub wholes : whole (drop i l) ≡ whole (drop next l)
 
-pub entry-step : (l : List ℕ) {i : ℕ} {e : Entry} {c : Command} {next : ℕ} → e ≡ command_at l i → e ≡ At c next → Stepped l i c next
+pub entry-step : (l : List ℕ) {i : ℕ} {e : Option (Command × ℕ)} {c : Command} {next : ℕ} → e ≡ command_at l i → e ≡ Some (c, next) → Stepped l i c next
 unfolding commands_of whole
 entry-step l {i} {e} {c} {next} is at =
     let t : Told l i c next = told l i (sym is ∙ at) in
@@ -250,10 +243,10 @@ entry-step l {i} {e} {c} {next} is at =
     }
 
 -- an entry that is no command
-pub entry-broken : (l : List ℕ) {i : ℕ} {e : Entry} → i < length l → e ≡ command_at l i → e ≡ Broken → (commands_of (drop i l) ≡ []) × (whole (drop i l) ≡ false)
+pub entry-broken : (l : List ℕ) {i : ℕ} {e : Option (Command × ℕ)} → i < length l → e ≡ command_at l i → e ≡ None → (commands_of (drop i l) ≡ []) × (whole (drop i l) ≡ false)
 unfolding commands_of whole
 entry-broken l {i} h is at =
-    let first : command_at (drop i l) 0 ≡ Broken = told-broken l i (sym is ∙ at) in
+    let first : command_at (drop i l) 0 ≡ None = told-broken l i (sym is ∙ at) in
     let one : front_size (drop i l) ≡ 1 = rw first in
     (read_step front_size before [] l h one (omega arith) refl ∙ rw first, read_step front_size too true l h one (omega arith) refl ∙ rw first)
 
@@ -271,10 +264,10 @@ pub none-judged : {l : List ℕ} → Judged l 0
 none-judged = record { same = refl; most = omega arith }
 
 module _ {l : List ℕ} {i : ℕ} (j : Judged l i) where
-  pub next-judged : {e : Entry} {c : Command} {next : ℕ} → e ≡ command_at l i → e ≡ At c next → Judged l next
+  pub next-judged : {e : Option (Command × ℕ)} {c : Command} {next : ℕ} → e ≡ command_at l i → e ≡ Some (c, next) → Judged l next
   next-judged is at = let s = entry-step l is at in record { same = j.same ∙ s.wholes; most = s.most }
 
-  pub broken-judged : {e : Entry} → i < length l → e ≡ command_at l i → e ≡ Broken → false ≡ whole l
+  pub broken-judged : {e : Option (Command × ℕ)} → i < length l → e ≡ command_at l i → e ≡ None → false ≡ whole l
   broken-judged h is at = sym (j.same ∙ (entry-broken l h is at).1)
 
   pub all-judged : length l ≤ i → true ≡ whole l

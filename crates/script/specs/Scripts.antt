@@ -1,7 +1,7 @@
 -- RULES 7: what is at a byte of an edit script. A command is its number (1 replace, 2 add, 3 replace and remove)
 -- and a code point in four little-endian bytes; 3 has in two more how many characters it removes after the one it
 -- replaces.
-use Rattle.std.specs.Prelude.{ℕ, ◌+◌, Bool, true, false, cond, ◌&&◌, ◌||◌, not, List, [], ◌∷◌, leb, ltb, eqb, length, get_or}
+use Rattle.std.specs.Prelude.{ℕ, ◌+◌, Bool, true, false, cond, ◌&&◌, ◌||◌, not, List, [], ◌∷◌, leb, ltb, eqb, length, get_or, Option, Some, None}
 use Rattle.buffers.specs.Splice.{part}
 use Rattle.numbers.specs.Entries.{read_from}
 use Rattle.numbers.specs.LittleEndian.{value_of}
@@ -10,8 +10,6 @@ use Rattle.note.specs.declared.Refusal.{Refusal}
 use Rattle.note.specs.declared.Refusal.TheVariants.{BadScript}
 use Rattle.note.specs.Refusals.{none, meets}
 use Rattle.script.specs.declared.Command.{Command}
-use Rattle.script.specs.declared.Entry.{Entry}
-use Rattle.script.specs.declared.Entry.TheVariants.{At, Broken}
 
 -- how many bytes a command has, by its number; 0 for an unknown one
 unfoldable pub command_size : ℕ → ℕ
@@ -24,23 +22,23 @@ unfoldable pub removed_at : List ℕ → ℕ → ℕ
 removed_at l i = value_of (part l (i + 5) (i + 7))
 
 -- a removing command has to remove something
-unfoldable pub removal_at : List ℕ → ℕ → ℕ → Entry
+unfoldable pub removal_at : List ℕ → ℕ → ℕ → Option (Command × ℕ)
 removal_at l i c =
-    cond (eqb (removed_at l i) 0) Broken (At (record { character = c; added = false; removed = removed_at l i }) (i + 7))
+    cond (eqb (removed_at l i) 0) None (Some (record { character = c; added = false; removed = removed_at l i }, i + 7))
 
 -- a command, and where the next one begins; or an unknown command, a cut operand, a number that is no scalar value, a
 -- removal of 0
-unfoldable pub command_at : List ℕ → ℕ → Entry
+unfoldable pub command_at : List ℕ → ℕ → Option (Command × ℕ)
 command_at l i =
     cond (ltb 0 (command_size (get_or l i 0)) && leb (i + command_size (get_or l i 0)) (length l) && scalar (character_at l i))
     (cond (eqb (get_or l i 0) 3) (removal_at l i (character_at l i))
-    (At (record { character = character_at l i; added = eqb (get_or l i 0) 2; removed = 0 }) (i + 5)))
-    Broken
+    (Some (record { character = character_at l i; added = eqb (get_or l i 0) 2; removed = 0 }, i + 5)))
+    None
 
 -- what is said of an entry: of a command and where the next one begins, or of none
-abbrev pub of_command : {A : Type 0} → A → (Command → ℕ → A) → Entry → A
-of_command none some (At c next) = some c next
-of_command none some Broken = none
+abbrev pub of_command : {A : Type 0} → A → (Command → ℕ → A) → Option (Command × ℕ) → A
+of_command none some (Some (c, next)) = some c next
+of_command none some None = none
 
 -- how many bytes the entry at the front of a script has; after one that is no command nothing is read
 abbrev pub front_size : List ℕ → ℕ

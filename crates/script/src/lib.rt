@@ -9,19 +9,13 @@ use numbers::little_endian::{get_u16_le, get_u32_le};
 use utf8::lead::len_utf8;
 
 // A character of the new text, and what it does to the old one (Rust: `(char, isize)`): it is added, the Rust's 1;
-// or it replaces a character and removes so many after it, the Rust's 0 and -1, -2 and so on.
+// or it replaces a character and removes so many after it, the Rust's 0 and -1, -2 and so on. Two fields, and no enum:
+// `commands_of` and the laws of edits speak of each.
 #[derive(Clone, Copy)]
 pub struct Command {
     pub character: u32,
     pub added: bool,
     pub removed: u32,
-}
-
-// What is at a byte of a script: a command, and where the next one begins; or none.
-#[derive(Clone, Copy)]
-pub enum Entry {
-    At(Command, usize),
-    Broken,
 }
 
 // How many bytes a command has, by its first; 0 for an unknown one.
@@ -42,54 +36,54 @@ fn command_size(command: u8) -> usize
 
 // The removing command at `i`, whose character has been read.
 #[tactic(auto, unfolding(crate::specs::Scripts::removal_at, crate::specs::Scripts::removed_at))]
-fn removal_at(script: &[u8], i: usize, character: u32) -> Entry
+fn removal_at(script: &[u8], i: usize, character: u32) -> Option<(Command, usize)>
     requires { i + 7 ≤ length script.now }
     ensures { result ≡ removal_at script.now i character }
 {
     let removed = get_u16_le(script, i + 5);
     if removed == 0 {
-        return Entry::Broken;
+        return None;
     }
-    Entry::At(
+    Some((
         Command {
             character,
             added: false,
             removed: removed as u32,
         },
         i + 7,
-    )
+    ))
 }
 
 // What is at byte `i` of the script.
-pub fn entry_at(script: &[u8], i: usize) -> Entry
+pub fn entry_at(script: &[u8], i: usize) -> Option<(Command, usize)>
     ensures { result ≡ command_at script.now i }
 {
     if script.len() <= i {
-        return Entry::Broken;
+        return None;
     }
     let command = script[i];
     let width = command_size(command);
     if width == 0 {
-        return Entry::Broken;
+        return None;
     }
     if script.len() - i < width {
-        return Entry::Broken;
+        return None;
     }
     let character = get_u32_le(script, i + 1);
     if len_utf8(character) == 0 {
-        return Entry::Broken;
+        return None;
     }
     if width == 7 {
         return removal_at(script, i, character);
     }
-    Entry::At(
+    Some((
         Command {
             character,
             added: command == 2,
             removed: 0,
         },
         i + 5,
-    )
+    ))
 }
 
 // Whether each entry of a script is a command.
@@ -98,10 +92,10 @@ pub fn whole(script: &[u8]) -> bool
 {
     let mut i = 0;
     while i < script.len() {
-        match entry_at(script, i) {
-            Entry::At(_, next) => i = next,
-            Entry::Broken => return false,
-        }
+        let Some((_, next)) = entry_at(script, i) else {
+            return false;
+        };
+        i = next;
     }
     true
 }

@@ -9,6 +9,7 @@ use native.Mathlib.Omega.{arith}
 use lib.Dec.{ltb}
 use lib.ListN.{length, get_or}
 use borrow.Author.Tests.{ltb-false, lt-ltb, eq-eqb, ne_eqb, le-ltb}
+use Rattle.std.specs.Prelude.{Result, Ok, Err}
 use Rattle.buffers.specs.Splice.{part}
 use Rattle.buffers.proofs.Cases.{le-or-lt, clash}
 use Rattle.utf8.specs.Formed.{well_formed, formed, boundary}
@@ -20,8 +21,6 @@ use Rattle.note.proofs.Sound.{length-starts, length-ends, original_formed, norma
 use Rattle.note.proofs.Stretch.{before-le}
 use Rattle.convert.specs.declared.Range.{Range}
 use Rattle.convert.specs.declared.Range.TheVariants.{Original, Normalized}
-use Rattle.convert.specs.declared.Converted.{Converted}
-use Rattle.convert.specs.declared.Converted.TheVariants.{Found, Refused}
 use Rattle.convert.specs.Converting.{in_original, in_normalized, expanded, to_original, to_normalized, converted, start_in, end_in, missing}
 use Rattle.convert.specs.Leading.{leading}
 use Rattle.convert.specs.Inside.{Outcome}
@@ -30,14 +29,15 @@ use Rattle.convert.proofs.Conversions.{expanded-inside}
 use Rattle.convert.proofs.Inside.{first_or_none, expanded-inside as expanded-lies, inside}
 use Rattle.convert.specs.Converting.{as_original, as_normalized}
 use Rattle.slice.specs.Slicing.{valid_range, unplaced, slice_missing}
+use Rattle.note.specs.declared.Refusal.{Refusal}
 
 pub record Cutting (n : Note) (range : Range) : Type 0 where
   pub a : ℕ
   pub b : ℕ
   pub c : ℕ
   pub d : ℕ
-  pub original_is : as_original n.starts n.ends range ≡ Found (in_original a b)
-  pub normalized_is : as_normalized n.starts n.ends range ≡ Found (in_normalized c d)
+  pub original_is : as_original n.starts n.ends range ≡ Ok (in_original a b)
+  pub normalized_is : as_normalized n.starts n.ends range ≡ Ok (in_normalized c d)
   pub forward : c ≤ d
   pub inside : d ≤ length n.normalized
   pub near : (a ≤ length n.original) ⊎ (a ≤ length n.normalized)
@@ -54,7 +54,7 @@ empty-formed s k = let none : k - k ≡ 0 = omega arith in rw none refl
 
 -- the range in the other text, by cases
 module _ (starts ends : List ℕ) (x y : ℕ) where
-  pub original-empty : x ≡ y → as_original starts ends (in_normalized x y) ≡ Found (in_original x y)
+  pub original-empty : x ≡ y → as_original starts ends (in_normalized x y) ≡ Ok (in_original x y)
   unfolding as_original converted to_original
   original-empty e = rw (eq-eqb x y e)
 
@@ -62,15 +62,15 @@ module _ (starts ends : List ℕ) (x y : ℕ) where
   unfolding as_original converted to_original
   original-found h most = rw (ne_eqb x y (λ e. omega arith), le-ltb y x (omega arith))
 
-  pub normalized-own : as_normalized starts ends (in_normalized x y) ≡ Found (in_normalized x y)
+  pub normalized-own : as_normalized starts ends (in_normalized x y) ≡ Ok (in_normalized x y)
   unfolding as_normalized
   normalized-own = refl
 
-  pub original-own : as_original starts ends (in_original x y) ≡ Found (in_original x y)
+  pub original-own : as_original starts ends (in_original x y) ≡ Ok (in_original x y)
   unfolding as_original
   original-own = refl
 
-  pub normalized-empty : x ≡ y → as_normalized starts ends (in_original x y) ≡ Found (in_normalized x y)
+  pub normalized-empty : x ≡ y → as_normalized starts ends (in_original x y) ≡ Ok (in_normalized x y)
   unfolding as_normalized converted to_normalized
   normalized-empty e = rw (eq-eqb x y e)
 
@@ -106,7 +106,7 @@ module _ (n : Note) (sound : Sound n) where
       )
 
   -- an empty range, of either text
-  empty-cutting : (range : Range) (k : ℕ) → as_original n.starts n.ends range ≡ Found (in_original k k) → as_normalized n.starts n.ends range ≡ Found (in_normalized k k) → k ≤ length n.normalized → Cutting n range
+  empty-cutting : (range : Range) (k : ℕ) → as_original n.starts n.ends range ≡ Ok (in_original k k) → as_normalized n.starts n.ends range ≡ Ok (in_normalized k k) → k ≤ length n.normalized → Cutting n range
   empty-cutting range k p q most =
       record {
         a = k;
@@ -157,9 +157,9 @@ module _ (n : Note) (sound : Sound n) where
 
   -- a range of the transcript that has a byte
   module _ (x y : ℕ) (some : x < y) (bx : boundary n.original x ≡ true) (by : boundary n.original y ≡ true) where
-    found-cutting : (c d : ℕ) → converted n.starts n.ends (in_original x y) ≡ Found (in_normalized c d) → ((i : ℕ) → c ≤ i → i < d → x ≤ start_at n i) → ((i : ℕ) → i < d → end_at n i ≤ y) → Cutting n (in_original x y)
+    found-cutting : (c d : ℕ) → converted n.starts n.ends (in_original x y) ≡ Ok (in_normalized c d) → ((i : ℕ) → c ≤ i → i < d → x ≤ start_at n i) → ((i : ℕ) → i < d → end_at n i ≤ y) → Cutting n (in_original x y)
     found-cutting c d is above below =
-        let out : Outcome n (in_original x y) (Found (in_normalized c d)) = rw is at (inside n sound (in_original x y)) in
+        let out : Outcome n (in_original x y) (Ok (in_normalized c d)) = rw is at (inside n sound (in_original x y)) in
         let lies : Between n.normalized c d = char-range-between _ _ _ (⊎_elim (λ w. absurd (omega (arith, w.0))) (λ l. l) out) in
         record {
           a = x;
@@ -178,7 +178,7 @@ module _ (n : Note) (sound : Sound n) where
           below = λ i from to. below i to;
         }
 
-    walked-cutting : (converted n.starts n.ends (in_original x y) ≡ Refused Missing → ⊥) → Cutting n (in_original x y)
+    walked-cutting : (converted n.starts n.ends (in_original x y) ≡ Err Missing → ⊥) → Cutting n (in_original x y)
     walked-cutting found =
         let lead = converted-by-leading n.starts n.ends x y (length-starts n sound ∙ sym (length-ends n sound)) some in
         let k : ℕ = leading n.ends y in
@@ -202,7 +202,7 @@ or-none true u w e = clash true refl e
 or-none false true w e = clash true refl e
 or-none false false w e = (refl, refl, e)
 
-placed : (o m : Converted) (size : ℕ) → unplaced o m size ≡ false → (missing o ≡ false) × (missing m ≡ false) × (end_in m ≤ size)
+placed : (o m : Result Range Refusal) (size : ℕ) → unplaced o m size ≡ false → (missing o ≡ false) × (missing m ≡ false) × (end_in m ≤ size)
 unfolding unplaced
 placed o m size e =
     let all = or-none (missing o) (missing m) (ltb size (end_in m)) e in (all.0, all.1, ltb-false size (end_in m) all.2)
@@ -211,7 +211,7 @@ module _ (n : Note) (sound : Sound n) where
   pub cutting : (range : Range) → valid_range n.original n.normalized range ≡ true → slice_missing n range ≡ false → Cutting n range
   unfolding valid_range slice_missing
   cutting (Normalized x y) v m =
-      let o : Converted = as_original n.starts n.ends (Normalized x y) in
+      let o : Result Range Refusal = as_original n.starts n.ends (Normalized x y) in
       let all = placed o (as_normalized n.starts n.ends (Normalized x y)) (length n.normalized) m in
       let bx : boundary n.normalized x.0 ≡ true = and_elim_left _ (boundary n.normalized y.0) v in
       let by : boundary n.normalized y.0 ≡ true = and_elim_right (boundary n.normalized x.0) _ v in
@@ -219,7 +219,7 @@ module _ (n : Note) (sound : Sound n) where
       (λ h. normalized-cutting n sound x.0 y.0 h bx by)
       (λ reversed. clash (missing o) (reversed-original n.starts n.ends x.0 y.0 reversed) all.0)
   cutting (Original x y) v m =
-      let c : Converted = as_normalized n.starts n.ends (Original x y) in
+      let c : Result Range Refusal = as_normalized n.starts n.ends (Original x y) in
       let all = placed (as_original n.starts n.ends (Original x y)) c (length n.normalized) m in
       let bx : boundary n.original x.0 ≡ true = and_elim_left _ (boundary n.original y.0) v in
       let by : boundary n.original y.0 ≡ true = and_elim_right (boundary n.original x.0) _ v in

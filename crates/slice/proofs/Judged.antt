@@ -9,14 +9,13 @@ use native.Mathlib.Omega.{arith}
 use lib.Dec.{leb}
 use lib.ListN.{length}
 use borrow.Author.Tests.{leb-true, not-false}
+use Rattle.std.specs.Prelude.{Result, Ok, Err}
 use Rattle.buffers.specs.Splice.{part, splice}
 use Rattle.buffers.proofs.Cases.{true-or-false}
 use Rattle.buffers.proofs.Splice.{length_part, part-index, splice-overlay}
 use Rattle.note.specs.declared.Refusal.{Refusal}
 use Rattle.note.specs.declared.Refusal.TheVariants.{NotBoundary, Missing, NoRoom, Misaligned}
-use Rattle.note.specs.declared.Verdict.{Verdict}
-use Rattle.note.specs.declared.Verdict.TheVariants.{Accepted, Refused as Rejected}
-use Rattle.note.specs.Refusals.{none, meets, also, verdict, unless_refused}
+use Rattle.note.specs.Refusals.{none, meets, also, verdict, unless_refused, Verdict, Accepted}
 use Rattle.note.specs.Notes.{Note, fits, Sound}
 use Rattle.note.specs.Faults.{note_faults, room_faults}
 use Rattle.note.specs.Rank.{up_to}
@@ -24,13 +23,9 @@ use Rattle.note.proofs.FirstMet.{accepted-first, accepted-second, accepted-meets
 use Rattle.note.proofs.Faults.{accepted-sound, room-enough, no_room, enough-room}
 use Rattle.note.proofs.Sound.{length-starts, length-ends, inside-at}
 use Rattle.convert.specs.declared.Range.{Range}
-use Rattle.convert.specs.declared.Converted.{Converted}
-use Rattle.convert.specs.declared.Converted.TheVariants.{Found}
 use Rattle.convert.specs.Converting.{in_original, in_normalized}
 use Rattle.convert.specs.Converting.{as_original, as_normalized}
 use Rattle.slice.specs.declared.NoteSlice.{NoteSlice}
-use Rattle.slice.specs.declared.Sliced.{Sliced}
-use Rattle.slice.specs.declared.Sliced.TheVariants.{Cut, Refused}
 use Rattle.slice.specs.Slicing.{valid_range, slice_of, sliced, unplaced, slice_missing, slice_size, slice_faults, sliced_column, Slicing, lowered, original_start_of, normalized_start_of, normalized_end_of}
 use Rattle.slice.specs.Writing.{SliceJudged, Shiftable, Lowerable}
 use Rattle.slice.proofs.Cutting.{Cutting, cutting, start-near}
@@ -54,7 +49,7 @@ accepted-short most n f =
 
 -- a slice by the numbers of its range in both texts
 module _ (n : Note) (range : Range) (k : Cutting n range) where
-  pub sliced-is : sliced n range ≡ slice_of (Found (in_original k.a k.b)) (Found (in_normalized k.c k.d)) n.original_shift
+  pub sliced-is : sliced n range ≡ slice_of (Ok (in_original k.a k.b)) (Ok (in_normalized k.c k.d)) n.original_shift
   unfolding sliced
   sliced-is = rw (k.original_is, k.normalized_is)
 
@@ -64,7 +59,7 @@ module _ (n : Note) (range : Range) (k : Cutting n range) where
 
 -- WHAT IS SAID, from check to check
 module _ {t : Bool} where
-  off-met : t ≡ false → Rejected NotBoundary ≡ verdict (meets NotBoundary (not t) none)
+  off-met : t ≡ false → Err NotBoundary ≡ verdict (meets NotBoundary (not t) none)
   unfolding verdict
   off-met e = rw e
 
@@ -72,7 +67,7 @@ module _ {t : Bool} where
   unfolding verdict
   off-unmet e = rw e
 
-  gone-met : t ≡ true → Rejected Missing ≡ verdict (meets Missing t none)
+  gone-met : t ≡ true → Err Missing ≡ verdict (meets Missing t none)
   unfolding verdict
   gone-met e = rw e
 
@@ -81,13 +76,13 @@ module _ {t : Bool} where
   gone-unmet e = rw e
 
 -- which of two an answer is
-kept : (t : Bool) (s : NoteSlice) {r : Sliced} {z : NoteSlice} → r ≡ cond t (Refused Missing) (Cut s) → r ≡ Cut z → (t ≡ false) × (z ≡ s)
+kept : (t : Bool) (s : NoteSlice) {r : Result NoteSlice Refusal} {z : NoteSlice} → r ≡ cond t (Err Missing) (Ok s) → r ≡ Ok z → (t ≡ false) × (z ≡ s)
 kept t s e is =
     true-or-false t
     (λ y. let z : ◌≡◌ {A = ℕ} 0 1 = cc in absurd (omega arith))
     (λ f. (f, cc))
 
-lost : (t : Bool) (s : NoteSlice) {r : Sliced} {k : Refusal} → r ≡ cond t (Refused Missing) (Cut s) → r ≡ Refused k → (t ≡ true) × (k ≡ Missing)
+lost : (t : Bool) (s : NoteSlice) {r : Result NoteSlice Refusal} {k : Refusal} → r ≡ cond t (Err Missing) (Ok s) → r ≡ Err k → (t ≡ true) × (k ≡ Missing)
 lost t s e is =
     true-or-false t
     (λ y. (y, cc))
@@ -104,11 +99,11 @@ module _ (most : ℕ) (n : Note) (range : Range) (room : ℕ) where
   small = room_faults (slice_size (sliced n range)) room
 
   -- a verdict that is known gives the answer
-  refusing : {k : Refusal} → Rejected k ≡ verdict (slice_faults most n range room) → SliceJudged most n range room (Refused k)
-  refusing e = record { answer = ap (λ (w : Verdict). unless_refused Refused w (Cut (sliced n range))) e }
+  refusing : {k : Refusal} → Err k ≡ verdict (slice_faults most n range room) → SliceJudged most n range room (Err k)
+  refusing e = record { answer = ap (λ (w : Verdict). unless_refused Err w (Ok (sliced n range))) e }
 
   module _ {v : Verdict} (noted : v ≡ verdict (note_faults most n)) where
-    pub judged-note : {k : Refusal} → v ≡ Rejected k → SliceJudged most n range room (Refused k)
+    pub judged-note : {k : Refusal} → v ≡ Err k → SliceJudged most n range room (Err k)
     judged-note is = refusing (refused-then (up_to Misaligned) (note_faults most n) (also off (also gone small)) refl refl noted is)
 
     module _ (ok : v ≡ Accepted) where
@@ -122,9 +117,9 @@ module _ (most : ℕ) (n : Note) (range : Range) (room : ℕ) where
       past-note e = accepted-then (up_to Misaligned) (note_faults most n) (also off (also gone small)) refl refl noted ok e
 
       module _ {t : Bool} (tested : t ≡ valid_range n.original n.normalized range) where
-        pub judged-off : t ≡ false → SliceJudged most n range room (Refused NotBoundary)
+        pub judged-off : t ≡ false → SliceJudged most n range room (Err NotBoundary)
         judged-off u =
-            refusing (past-note (refused-then (up_to NotBoundary) off (also gone small) refl refl {v = Rejected NotBoundary} (off-met (sym tested ∙ u)) refl))
+            refusing (past-note (refused-then (up_to NotBoundary) off (also gone small) refl refl {v = Err NotBoundary} (off-met (sym tested ∙ u)) refl))
 
         module _ (on : t ≡ true) where
           is-valid : valid_range n.original n.normalized range ≡ true
@@ -133,20 +128,20 @@ module _ (most : ℕ) (n : Note) (range : Range) (room : ℕ) where
           past_off : {w : Verdict} → w ≡ verdict (also gone small) → w ≡ verdict (slice_faults most n range room)
           past_off e = past-note (accepted-then (up_to NotBoundary) off (also gone small) refl refl {v = Accepted} (off-unmet is-valid) refl e)
 
-          pub shiftable : {o : Converted} → o ≡ as_original n.starts n.ends range → Shiftable most o n.original_shift
+          pub shiftable : {o : Result Range Refusal} → o ≡ as_original n.starts n.ends range → Shiftable most o n.original_shift
           shiftable is = record { near = rw is (start-near n sound most range is-valid short.original_short short.normalized_short); low = short.shift_low }
 
-          module _ {o m : Converted} {s : Sliced} (p : o ≡ as_original n.starts n.ends range) (q : m ≡ as_normalized n.starts n.ends range) (is : s ≡ cond (unplaced o m (length n.normalized)) (Refused Missing) (Cut (slice_of o m n.original_shift))) where
-            placed : s ≡ cond (slice_missing n range) (Refused Missing) (Cut (sliced n range))
+          module _ {o m : Result Range Refusal} {s : Result NoteSlice Refusal} (p : o ≡ as_original n.starts n.ends range) (q : m ≡ as_normalized n.starts n.ends range) (is : s ≡ cond (unplaced o m (length n.normalized)) (Err Missing) (Ok (slice_of o m n.original_shift))) where
+            placed : s ≡ cond (slice_missing n range) (Err Missing) (Ok (sliced n range))
             unfolding slice_missing sliced
             placed = is ∙ rw (p, q)
 
-            pub judged-missing : {k : Refusal} → s ≡ Refused k → SliceJudged most n range room (Refused k)
+            pub judged-missing : {k : Refusal} → s ≡ Err k → SliceJudged most n range room (Err k)
             judged-missing e =
                 let l = lost (slice_missing n range) (sliced n range) placed e in
-                rw l.1 (refusing (past_off (refused-then (up_to Missing) gone small refl refl {v = Rejected Missing} (gone-met l.0) refl)))
+                rw l.1 (refusing (past_off (refused-then (up_to Missing) gone small refl refl {v = Err Missing} (gone-met l.0) refl)))
 
-            module _ {z : NoteSlice} (e : s ≡ Cut z) where
+            module _ {z : NoteSlice} (e : s ≡ Ok z) where
               is-sliced : z ≡ sliced n range
               is-sliced = (kept (slice_missing n range) (sliced n range) placed e).1
 
@@ -156,11 +151,11 @@ module _ (most : ℕ) (n : Note) (range : Range) (room : ℕ) where
               pub cut-forward : normalized_start_of z ≤ normalized_end_of z
               cut-forward = let k = cutting n sound range is-valid (kept (slice_missing n range) (sliced n range) placed e).0 in rw is-sliced (cut_on n range k)
 
-              pub judged-small : room < slice_size z → SliceJudged most n range room (Refused NoRoom)
+              pub judged-small : room < slice_size z → SliceJudged most n range room (Err NoRoom)
               judged-small h = refusing (past-gone (no_room (rw is-sliced at h)))
 
-              pub judged-cut : slice_size z ≤ room → SliceJudged most n range room (Cut z)
-              judged-cut h = record { answer = ap Cut is-sliced ∙ ap (λ (w : Verdict). unless_refused Refused w (Cut (sliced n range))) (past-gone (enough-room (rw is-sliced at h))) }
+              pub judged-cut : slice_size z ≤ room → SliceJudged most n range room (Ok z)
+              judged-cut h = record { answer = ap Ok is-sliced ∙ ap (λ (w : Verdict). unless_refused Err w (Ok (sliced n range))) (past-gone (enough-room (rw is-sliced at h))) }
 
 -- WHAT AN ACCEPTED CALL TELLS
 module _ (most : ℕ) (n : Note) (range : Range) (room : ℕ) (e : verdict (slice_faults most n range room) ≡ Accepted) where
@@ -180,13 +175,13 @@ module _ (most : ℕ) (n : Note) (range : Range) (room : ℕ) (e : verdict (slic
   accepted-room = room-enough (slice_size (sliced n range)) room (accepted-second (gone most n range room) (small most n range room) rest)
 
 -- which of the two an answer is, by its verdict
-cut-accepted : (v : Verdict) (s : NoteSlice) {r : Sliced} {z : NoteSlice} → r ≡ unless_refused Refused v (Cut s) → r ≡ Cut z → (v ≡ Accepted) × (z ≡ s)
-cut-accepted Accepted s e is = (refl, cc)
-cut-accepted (Rejected k) s e is = let z : ◌≡◌ {A = ℕ} 0 1 = cc in absurd (omega arith)
+cut-accepted : (v : Verdict) (s : NoteSlice) {r : Result NoteSlice Refusal} {z : NoteSlice} → r ≡ unless_refused Err v (Ok s) → r ≡ Ok z → (v ≡ Accepted) × (z ≡ s)
+cut-accepted (Ok tt) s e is = (refl, cc)
+cut-accepted (Err k) s e is = let z : ◌≡◌ {A = ℕ} 0 1 = cc in absurd (omega arith)
 
-cut-refused : (v : Verdict) (s : NoteSlice) {r : Sliced} {k : Refusal} → r ≡ unless_refused Refused v (Cut s) → r ≡ Refused k → v ≡ Rejected k
-cut-refused Accepted s e is = let z : ◌≡◌ {A = ℕ} 0 1 = cc in absurd (omega arith)
-cut-refused (Rejected j) s e is = cc
+cut-refused : (v : Verdict) (s : NoteSlice) {r : Result NoteSlice Refusal} {k : Refusal} → r ≡ unless_refused Err v (Ok s) → r ≡ Err k → v ≡ Err k
+cut-refused (Ok tt) s e is = let z : ◌≡◌ {A = ℕ} 0 1 = cc in absurd (omega arith)
+cut-refused (Err j) s e is = cc
 
 -- what the two writers ask for
 pub record Ready (most : ℕ) (n : Note) (z : NoteSlice) (starts₀ ends₀ : List ℕ) : Type 0 where
@@ -198,18 +193,18 @@ pub record Ready (most : ℕ) (n : Note) (z : NoteSlice) (starts₀ ends₀ : Li
   pub ends_lowerable : Lowerable (part n.ends (normalized_start_of z) (normalized_end_of z)) (original_start_of z) ends₀ 0
 
 -- THE CALL, by what was said
-module _ (most : ℕ) (n : Note) (range : Range) (starts₀ ends₀ : List ℕ) {room : ℕ} {r : Sliced} (rooms : room ≡ min (length starts₀) (length ends₀)) (judged : SliceJudged most n range room r) where
+module _ (most : ℕ) (n : Note) (range : Range) (starts₀ ends₀ : List ℕ) {room : ℕ} {r : Result NoteSlice Refusal} (rooms : room ≡ min (length starts₀) (length ends₀)) (judged : SliceJudged most n range room r) where
   abbrev says : Verdict
   says = verdict (slice_faults most n range room)
 
   same-room : says ≡ verdict (slice_faults most n range (min (length starts₀) (length ends₀)))
   same-room = ap (λ (m : ℕ). verdict (slice_faults most n range m)) rooms
 
-  pub refused : {k : Refusal} → r ≡ Refused k → Slicing most n range starts₀ ends₀ (Refused k) starts₀ ends₀
+  pub refused : {k : Refusal} → r ≡ Err k → Slicing most n range starts₀ ends₀ (Err k) starts₀ ends₀
   refused {k} is =
-      record { says = Rejected k; says_is = sym (cut-refused says (sliced n range) judged.answer is) ∙ same-room; answer = refl; starts_are = refl; ends_are = refl }
+      record { says = Err k; says_is = sym (cut-refused says (sliced n range) judged.answer is) ∙ same-room; answer = refl; starts_are = refl; ends_are = refl }
 
-  module _ {z : NoteSlice} (is : r ≡ Cut z) where
+  module _ {z : NoteSlice} (is : r ≡ Ok z) where
     accepted : says ≡ Accepted
     accepted = (cut-accepted says (sliced n range) judged.answer is).0
 
@@ -219,7 +214,7 @@ module _ (most : ℕ) (n : Note) (range : Range) (starts₀ ends₀ : List ℕ) 
     cut : Cutting n range
     cut = accepted-cutting most n range room accepted
 
-    z-at : z ≡ slice_of (Found (in_original cut.a cut.b)) (Found (in_normalized cut.c cut.d)) n.original_shift
+    z-at : z ≡ slice_of (Ok (in_original cut.a cut.b)) (Ok (in_normalized cut.c cut.d)) n.original_shift
     z-at = z-is ∙ sliced-is n range cut
 
     size_fits : cut.d - cut.c ≤ min (length starts₀) (length ends₀)
@@ -258,13 +253,13 @@ module _ (most : ℕ) (n : Note) (range : Range) (starts₀ ends₀ : List ℕ) 
     pub written : {starts ends : List ℕ}
         → starts ≡ splice starts₀ 0 (lowered (original_start_of z) (part n.starts (normalized_start_of z) (normalized_end_of z)))
         → ends ≡ splice ends₀ 0 (lowered (original_start_of z) (part n.ends (normalized_start_of z) (normalized_end_of z)))
-        → Slicing most n range starts₀ ends₀ (Cut z) starts ends
+        → Slicing most n range starts₀ ends₀ (Ok z) starts ends
     unfolding sliced_column
     written p q =
         record {
           says = Accepted;
           says_is = sym accepted ∙ same-room;
-          answer = ap Cut z-is;
+          answer = ap Ok z-is;
           starts_are = p ∙ rw z-is (splice-overlay starts₀ (sliced_column (sliced n range) n.starts));
           ends_are = q ∙ rw z-is (splice-overlay ends₀ (sliced_column (sliced n range) n.ends));
         }

@@ -8,6 +8,7 @@ use native.Mathlib.Omega.{arith}
 use lib.ListN.{length, get_or, length-take}
 use lib.Seq.{ext_get_or}
 use borrow.Author.Tests.{eq-eqb, le-leb}
+use Rattle.std.specs.Prelude.{Ok}
 use Rattle.buffers.specs.Splice.{part}
 use Rattle.buffers.proofs.Cases.{le-or-lt}
 use Rattle.buffers.proofs.Splice.{length_part, part-index, part_at}
@@ -16,7 +17,6 @@ use Rattle.utf8.proofs.Boundaries.{boundary-most, boundary-begins, boundary-at, 
 use Rattle.note.specs.Notes.{Note, lent, paired, texts_formed, start_at, end_at, Sound}
 use Rattle.note.proofs.Sound.{length-starts, length-ends, inside-at, boundaries-at, shared_at, forward-at, aligned-from}
 use Rattle.convert.specs.declared.Range.{Range}
-use Rattle.convert.specs.declared.Converted.TheVariants.{Found}
 use Rattle.convert.specs.Converting.{in_original, in_normalized}
 use Rattle.convert.proofs.Conversions.{expanded-inside}
 use Rattle.slice.specs.Slicing.{valid_range, slice_of, sliced, lowered, sliced_column, slice_note, SliceSound}
@@ -180,7 +180,7 @@ boundary-of-part s c d e stands h most =
 
 -- a range of the cleaned text that has a byte
 module _ (n : Note) (c d : ℕ) (some : c < d) (most : d ≤ length n.ends) where
-  pub normalized-sliced : sliced n (in_normalized c d) ≡ slice_of (Found (in_original (start_at n c) (end_at n (d - 1)))) (Found (in_normalized c d)) n.original_shift
+  pub normalized-sliced : sliced n (in_normalized c d) ≡ slice_of (Ok (in_original (start_at n c) (end_at n (d - 1)))) (Ok (in_normalized c d)) n.original_shift
   unfolding sliced
   normalized-sliced = rw (original-found n.starts n.ends c d some most, ← expanded-inside n.starts n.ends c d most, normalized-own n.starts n.ends c d)
 

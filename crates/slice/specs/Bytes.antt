@@ -1,11 +1,9 @@
 -- Which bytes a slice has, which alignments and which shift; and a slice of a slice.
-use Rattle.std.specs.Prelude.{ℕ, ◌+◌, ◌-◌, ◌≤◌, ◌<◌, ◌≡◌, length, get_or}
-use Rattle.note.specs.declared.Verdict.TheVariants.{Accepted}
-use Rattle.note.specs.Refusals.{verdict}
+use Rattle.std.specs.Prelude.{ℕ, ◌+◌, ◌-◌, ◌≤◌, ◌<◌, ◌≡◌, length, get_or, Ok}
+use Rattle.note.specs.Refusals.{verdict, Accepted}
 use Rattle.note.specs.Notes.{Note, start_at, end_at}
 use Rattle.convert.specs.declared.Range.{Range}
 use Rattle.convert.specs.declared.Range.TheVariants.{Original, Normalized}
-use Rattle.convert.specs.declared.Converted.TheVariants.{Found}
 use Rattle.convert.specs.Converting.{in_normalized, start_of, end_of, converted}
 use Rattle.slice.specs.declared.NoteSlice.{NoteSlice}
 use Rattle.slice.specs.Slicing.{
@@ -31,7 +29,7 @@ abbrev pub HasBytes : Note → Range → NoteSlice → Type 0
 HasBytes n (Normalized a b) s = Has s (start_at n a.0) (end_at n (b.0 - 1)) a.0 b.0
 HasBytes n (Original a b) s =
     Has s a.0 b.0 (normalized_start_of s) (normalized_end_of s)
-    × (converted n.starts n.ends (Original a b) ≡ Found (in_normalized (normalized_start_of s) (normalized_end_of s)))
+    × (converted n.starts n.ends (Original a b) ≡ Ok (in_normalized (normalized_start_of s) (normalized_end_of s)))
 
 -- CLAIM: which bytes an accepted slice has. An empty range gives none, at the same number in both texts.
 abbrev pub SliceBytes : Type 0

@@ -1,23 +1,18 @@
 -- RULES 6 (Rust: `validate_range`, `slice`): the part of a note that a range of either text names, as a note of its
 -- own.
-use Rattle.std.specs.Prelude.{ℕ, ◌+◌, ◌-◌, min, ◌≡◌, Bool, ◌&&◌, ◌||◌, not, List, [], ◌∷◌, ltb, length}
+use Rattle.std.specs.Prelude.{ℕ, ◌+◌, ◌-◌, min, ◌≡◌, Bool, ◌&&◌, ◌||◌, not, List, [], ◌∷◌, ltb, length, Result, Ok, Err}
 use Rattle.buffers.specs.Splice.{part}
 use Rattle.utf8.specs.Formed.{boundary}
 use Rattle.note.specs.declared.Refusal.{Refusal}
 use Rattle.note.specs.declared.Refusal.TheVariants.{NotBoundary, Missing}
-use Rattle.note.specs.declared.Verdict.{Verdict}
-use Rattle.note.specs.declared.Verdict.TheVariants.{Accepted}
-use Rattle.note.specs.Refusals.{none, meets, also, verdict, unless_refused, after}
+use Rattle.note.specs.Refusals.{none, meets, also, verdict, unless_refused, after, Verdict, Accepted}
 use Rattle.note.specs.Notes.{Note, lent, Sound}
 use Rattle.note.specs.Faults.{note_faults, room_faults}
 use Rattle.convert.specs.declared.Range.{Range}
-use Rattle.convert.specs.declared.Converted.{Converted}
 use Rattle.convert.specs.Converting.{start_of, end_of, start_in, end_in, missing}
 use Rattle.convert.specs.Converting.{as_original, as_normalized}
 use Rattle.get_range.specs.Reading.{named_text}
 use Rattle.slice.specs.declared.NoteSlice.{NoteSlice}
-use Rattle.slice.specs.declared.Sliced.{Sliced}
-use Rattle.slice.specs.declared.Sliced.TheVariants.{Cut, Refused}
 
 -- RULES 6.1: both ends of the range are boundaries of the text that it names (Rust: `validate_range`)
 unfoldable pub valid_range : List ℕ → List ℕ → Range → Bool
@@ -39,7 +34,7 @@ abbrev pub normalized_end_of : NoteSlice → ℕ
 normalized_end_of s = s.normalized_end.0
 
 -- RULES 6.2: a range in each of the two texts, and the shift, which grows by what is before it in the transcript
-unfoldable pub slice_of : Converted → Converted → ℕ → NoteSlice
+unfoldable pub slice_of : Result Range Refusal → Result Range Refusal → ℕ → NoteSlice
 slice_of in_original in_normalized shift =
     record {
       original_start = record { 0 = start_in in_original };
@@ -75,7 +70,7 @@ slice_size s = normalized_end_of s - normalized_start_of s
 
 -- RULES 6.4: the range has no place in the other text, or ends past the cleaned text, as an empty one of the
 -- transcript can
-unfoldable pub unplaced : Converted → Converted → ℕ → Bool
+unfoldable pub unplaced : Result Range Refusal → Result Range Refusal → ℕ → Bool
 unplaced in_original in_normalized size = missing in_original || missing in_normalized || ltb size (end_in in_normalized)
 
 unfoldable pub slice_missing : Note → Range → Bool
@@ -92,11 +87,11 @@ slice_faults most n range room =
     (room_faults (slice_size (sliced n range)) room)))
 
 -- THE CALL: limit, note and range, the passed columns before, the answer, the passed columns after
-pub record Slicing (most : ℕ) (n : Note) (range : Range) (starts₀ ends₀ : List ℕ) (r : Sliced)
+pub record Slicing (most : ℕ) (n : Note) (range : Range) (starts₀ ends₀ : List ℕ) (r : Result NoteSlice Refusal)
     (starts ends : List ℕ) : Type 0 where
   pub says : Verdict
   pub says_is : says ≡ verdict (slice_faults most n range (min (length starts₀) (length ends₀)))
-  pub answer : r ≡ unless_refused Refused says (Cut (sliced n range))
+  pub answer : r ≡ unless_refused Err says (Ok (sliced n range))
   pub starts_are : starts ≡ after says (sliced_column (sliced n range) n.starts) starts₀
   pub ends_are : ends ≡ after says (sliced_column (sliced n range) n.ends) ends₀
 

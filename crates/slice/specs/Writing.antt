@@ -1,20 +1,19 @@
 -- What the inner functions of `slice` are told and say.
-use Rattle.std.specs.Prelude.{ℕ, ◌+◌, ◌≤◌, ◌<◌, ◌≡◌, List, length, get_or}
+use Rattle.std.specs.Prelude.{ℕ, ◌+◌, ◌≤◌, ◌<◌, ◌≡◌, List, length, get_or, Result, Ok, Err}
 use Rattle.note.specs.Refusals.{verdict, unless_refused}
 use Rattle.note.specs.Notes.{Note}
 use Rattle.convert.specs.declared.Range.{Range}
-use Rattle.convert.specs.declared.Converted.{Converted}
 use Rattle.convert.specs.Converting.{start_in}
-use Rattle.slice.specs.declared.Sliced.{Sliced}
-use Rattle.slice.specs.declared.Sliced.TheVariants.{Cut, Refused}
 use Rattle.slice.specs.Slicing.{sliced, slice_faults}
+use Rattle.note.specs.declared.Refusal.{Refusal}
+use Rattle.slice.specs.declared.NoteSlice.{NoteSlice}
 
 -- what is said before anything is written
-pub record SliceJudged (most : ℕ) (n : Note) (range : Range) (room : ℕ) (r : Sliced) : Type 0 where
-  pub answer : r ≡ unless_refused Refused (verdict (slice_faults most n range room)) (Cut (sliced n range))
+pub record SliceJudged (most : ℕ) (n : Note) (range : Range) (room : ℕ) (r : Result NoteSlice Refusal) : Type 0 where
+  pub answer : r ≡ unless_refused Err (verdict (slice_faults most n range room)) (Ok (sliced n range))
 
 -- a shift that can grow by what is before a range
-pub record Shiftable (most : ℕ) (in_original : Converted) (shift : ℕ) : Type 0 where
+pub record Shiftable (most : ℕ) (in_original : Result Range Refusal) (shift : ℕ) : Type 0 where
   pub near : start_in in_original ≤ most
   pub low : shift ≤ most
 

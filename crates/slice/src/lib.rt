@@ -1,18 +1,17 @@
 // Slicing (RULES 6; Rust: `validate_range`, `slice`): the part of a note that a range of either text names.
 #![tactic(auto)]
 
-ghost use Rattle.std.specs.Prelude.{◌≡◌, cond};
+ghost use Rattle.std.specs.Prelude.{◌≡◌, cond, Ok, Err};
 ghost use Rattle.buffers.specs.Splice.{splice};
-ghost use Rattle.note.specs.Notes.{lent, limit};
+ghost use Rattle.note.specs.Notes.{limit, passed};
 ghost use Rattle.note.specs.declared.Refusal.TheVariants.{Missing};
-ghost use Rattle.slice.specs.declared.Sliced.TheVariants.{Cut, Refused};
 ghost use Rattle.slice.specs.Slicing.{Slicing, lowered, slice_of, unplaced, valid_range};
 ghost use Rattle.slice.specs.Writing.{Lowerable, Shiftable, SliceJudged};
 
 use buffers::Offset;
 use checks::{check_note, least_of_two};
-use convert::{Converted, Range, as_normalized, as_original, end_of, start_of};
-use note::{NormalizedByte, OriginalByte, Refusal, Verdict};
+use convert::{Range, as_normalized, as_original, end_of, start_of};
+use note::{NormalizedByte, NormalizedString, OriginalByte, Refusal};
 use utf8::is_char_boundary;
 
 // A slice of a note: which bytes of the transcript and which of the cleaned text it has, and its own shift.
@@ -23,13 +22,6 @@ pub struct NoteSlice {
     pub normalized_start: NormalizedByte,
     pub normalized_end: NormalizedByte,
     pub original_shift: u32,
-}
-
-// What `slice` says: the slice, whose alignments it has written; or why there is none.
-#[derive(Clone, Copy)]
-pub enum Sliced {
-    Cut(NoteSlice),
-    Refused(Refusal),
 }
 
 // Whether both ends of the range are boundaries of the text that it names.
@@ -48,21 +40,26 @@ pub fn validate_range(original: &[u8], normalized: &[u8], range: Range) -> bool
 
 // The slice of a range, by the range in each text; or `Missing`. An inner function: the shift and the range were judged
 // before.
-fn slice_of(in_original: Converted, in_normalized: Converted, shift: u32, size: usize) -> Sliced
+fn slice_of(
+    in_original: Result<Range, Refusal>,
+    in_normalized: Result<Range, Refusal>,
+    shift: u32,
+    size: usize,
+) -> Result<NoteSlice, Refusal>
     requires { Shiftable limit in_original shift }
-    ensures { result ≡ cond (unplaced in_original in_normalized size) (Refused Missing)
-        (Cut (slice_of in_original in_normalized shift)) }
+    ensures { result ≡ cond (unplaced in_original in_normalized size) (Err Missing)
+        (Ok (slice_of in_original in_normalized shift)) }
 {
-    let Converted::Found(o) = in_original else {
-        return Sliced::Refused(Refusal::Missing);
+    let Ok(o) = in_original else {
+        return Err(Refusal::Missing);
     };
-    let Converted::Found(n) = in_normalized else {
-        return Sliced::Refused(Refusal::Missing);
+    let Ok(n) = in_normalized else {
+        return Err(Refusal::Missing);
     };
     if size < end_of(n) as usize {
-        return Sliced::Refused(Refusal::Missing);
+        return Err(Refusal::Missing);
     }
-    Sliced::Cut(NoteSlice {
+    Ok(NoteSlice {
         original_start: OriginalByte(start_of(o)),
         original_end: OriginalByte(end_of(o)),
         normalized_start: NormalizedByte(start_of(n)),
@@ -72,38 +69,30 @@ fn slice_of(in_original: Converted, in_normalized: Converted, shift: u32, size: 
 }
 
 // What `slice` says of a note and a range beside the room that is passed.
-fn check_slice(
-    original: &[u8],
-    normalized: &[u8],
-    starts: &[Offset],
-    ends: &[Offset],
-    original_shift: u32,
-    range: Range,
-    room: usize,
-) -> Sliced
+fn check_slice(note: &NormalizedString, range: Range, room: usize) -> Result<NoteSlice, Refusal>
     ensures { SliceJudged limit
-        (lent original.now normalized.now
-        starts.now ends.now original_shift) range room result }
+        (passed note.now) range room result }
 {
-    if let Verdict::Refused(k) = check_note(original, normalized, starts, ends, original_shift) {
-        return Sliced::Refused(k);
-    }
+    let NormalizedString {
+        original,
+        normalized,
+        starts,
+        ends,
+        original_shift,
+    } = *note;
+    check_note(note)?;
     if !validate_range(original, normalized, range) {
-        return Sliced::Refused(Refusal::NotBoundary);
+        return Err(Refusal::NotBoundary);
     }
     let in_original = as_original(starts, ends, range);
     let in_normalized = as_normalized(starts, ends, range);
-    match slice_of(in_original, in_normalized, original_shift, normalized.len()) {
-        Sliced::Refused(k) => Sliced::Refused(k),
-        Sliced::Cut(s) => {
-            let from = s.normalized_start;
-            let to = s.normalized_end;
-            if room < (to.0 - from.0) as usize {
-                return Sliced::Refused(Refusal::NoRoom);
-            }
-            Sliced::Cut(s)
-        }
+    let s = slice_of(in_original, in_normalized, original_shift, normalized.len())?;
+    let from = s.normalized_start;
+    let to = s.normalized_end;
+    if room < (to.0 - from.0) as usize {
+        return Err(Refusal::NoRoom);
     }
+    Ok(s)
 }
 
 // The numbers of `column`, each less `base`, stand in `out` from `at` on; all else is as it was. An inner function: the
@@ -112,51 +101,33 @@ pub fn write_lowered(column: &[Offset], base: Offset, out: &mut [Offset], at: us
     requires { Lowerable column.now base out.old at }
     ensures { out.new ≡ splice out.old at (lowered base column.now) }
 {
-    let mut j = 0;
-    while j < column.len() {
-        out[at + j] = column[j] - base;
-        j += 1;
+    for (j, x) in column.iter().enumerate() {
+        out[at + j] = *x - base;
     }
 }
 
 // The part of a note that a range names, as a note of its own: it answers the slice and writes its alignments.
 // Refusals: those of a note, then `NotBoundary`, `Missing`, `NoRoom`.
 pub fn slice(
-    original: &[u8],
-    normalized: &[u8],
-    starts: &[Offset],
-    ends: &[Offset],
-    original_shift: u32,
+    note: &NormalizedString,
     range: Range,
     out_starts: &mut [Offset],
     out_ends: &mut [Offset],
-) -> Sliced
+) -> Result<NoteSlice, Refusal>
     ensures { Slicing limit
-        (lent original.now normalized.now
-        starts.now ends.now original_shift) range
+        (passed note.now) range
         out_starts.old out_ends.old
         result out_starts.new out_ends.new }
 {
+    let NormalizedString { starts, ends, .. } = *note;
     let room = least_of_two(out_starts.len(), out_ends.len());
-    match check_slice(
-        original,
-        normalized,
-        starts,
-        ends,
-        original_shift,
-        range,
-        room,
-    ) {
-        Sliced::Refused(k) => Sliced::Refused(k),
-        Sliced::Cut(s) => {
-            let base = s.original_start;
-            let first = s.normalized_start;
-            let past = s.normalized_end;
-            let from = first.0 as usize;
-            let to = past.0 as usize;
-            write_lowered(&starts[from..to], base.0 as Offset, out_starts, 0);
-            write_lowered(&ends[from..to], base.0 as Offset, out_ends, 0);
-            Sliced::Cut(s)
-        }
-    }
+    let s = check_slice(note, range, room)?;
+    let base = s.original_start;
+    let first = s.normalized_start;
+    let past = s.normalized_end;
+    let from = first.0 as usize;
+    let to = past.0 as usize;
+    write_lowered(&starts[from..to], base.0 as Offset, out_starts, 0);
+    write_lowered(&ends[from..to], base.0 as Offset, out_ends, 0);
+    Ok(s)
 }

@@ -5,11 +5,10 @@ use mathlib.Core.Bool.{Bool, true, false, not}
 use mathlib.Core.List.{List, [], ◌∷◌, ◌++◌, append-nil, map}
 use native.Mathlib.Omega.{arith}
 use lib.ListN.{length, set, drop, length-append, length-map, drop_of_length-le}
+use Rattle.std.specs.Prelude.{Option, Some}
 use Rattle.buffers.specs.Splice.{splice}
 use Rattle.buffers.proofs.Splice.{Laying, none-laid, piece-laid, all_laid, laying-size, splice-nil, store-one}
 use Rattle.pattern.specs.declared.Place.{Place}
-use Rattle.pattern.specs.declared.Entry.{Entry}
-use Rattle.pattern.specs.declared.Entry.TheVariants.{At}
 use Rattle.pattern.specs.Entries.{entry_at, places_of}
 use Rattle.pattern.specs.Places.{covers_from}
 use Rattle.pattern.proofs.Entries.{entry-step}
@@ -131,7 +130,7 @@ pub record Placing (most : ℕ) (list : List ℕ) (b : SplitDelimiterBehavior) (
   pub laid : Laying (packed_of (list_pieces b e list)) (packed_of (runs_from b e run (places_of (drop i list)))) spans₀ at spans
 
 module _ {most : ℕ} {list : List ℕ} {b : SplitDelimiterBehavior} {e : EmptyPieces} {spans₀ : List ℕ} (l : PackedRoom most list b e spans₀) where
-  pub none-placed : {entry : Entry} {p : Place} {next : ℕ} → entry ≡ entry_at list 0 → entry ≡ At p next → Placing most list b e spans₀ p next 0 spans₀
+  pub none-placed : {entry : Option (Place × ℕ)} {p : Place} {next : ℕ} → entry ≡ entry_at list 0 → entry ≡ Some (p, next) → Placing most list b e spans₀ p next 0 spans₀
   none-placed is there =
       record {
         opened = first-open l.listed is there;
@@ -143,7 +142,7 @@ module _ {most : ℕ} {list : List ℕ} {b : SplitDelimiterBehavior} {e : EmptyP
 
 module _ {most : ℕ} {list : List ℕ} {b : SplitDelimiterBehavior} {e : EmptyPieces} {spans₀ : List ℕ} {run : Place} {i at : ℕ} {spans : List ℕ} (k : Placing most list b e spans₀ run i at spans) where
   -- before a place
-  module _ {entry : Entry} {p : Place} {next : ℕ} (is : entry ≡ entry_at list i) (there : entry ≡ At p next) {t : Bool} (met : t ≡ over b e run p) where
+  module _ {entry : Option (Place × ℕ)} {p : Place} {next : ℕ} (is : entry ≡ entry_at list i) (there : entry ≡ Some (p, next)) {t : Bool} (met : t ≡ over b e run p) where
     abbrev rest : List Place
     rest = runs_from b e (extended_run b run p) (places_of (drop next list))
 

@@ -14,7 +14,7 @@ use behaviors::{
 };
 use buffers::Offset;
 use note::LIMIT;
-use pattern::{Entry, Place, entry_at, most_places, place_at};
+use pattern::{Place, entry_at, most_places, place_at};
 
 // One more than any position of a text within the limit.
 const BASE: u32 = LIMIT as u32 + 1;
@@ -54,11 +54,9 @@ fn write_places(list: &[u8], empty: EmptyPieces, spans: &mut [u32]) -> usize
 {
     let count = most_places(list);
     let mut at = 0;
-    let mut k = 0;
-    while k < count {
+    for k in 0..count {
         let place = place_at(list, k);
         at = write_run(!is_dropped(empty, place), place, spans, at);
-        k += 1;
     }
     at
 }
@@ -74,7 +72,7 @@ fn write_runs(
     ensures { PackedLaid (list_pieces behavior empty list.now)
         spans.old result spans.new }
 {
-    let Entry::At(first, second) = entry_at(list, 0) else {
+    let Some((first, second)) = entry_at(list, 0) else {
         return 0;
     };
     let table = join_table(behavior);
@@ -82,15 +80,13 @@ fn write_runs(
     let mut i = second;
     let mut at = 0;
     while i < list.len() {
-        match entry_at(list, i) {
-            Entry::At(place, next) => {
-                let joins = joined(&table, run.matched, place.matched);
-                at = write_run(!joins & is_kept_run(behavior, empty, run), run, spans, at);
-                run = extend_run(joins, run, place);
-                i = next;
-            }
-            Entry::Broken => break,
-        }
+        let Some((place, next)) = entry_at(list, i) else {
+            break;
+        };
+        let joins = joined(&table, run.matched, place.matched);
+        at = write_run(!joins & is_kept_run(behavior, empty, run), run, spans, at);
+        run = extend_run(joins, run, place);
+        i = next;
     }
     write_run(is_kept_run(behavior, empty, run), run, spans, at)
 }
@@ -118,11 +114,9 @@ fn unpack(spans: &[u32], starts: &mut [Offset], ends: &mut [Offset])
     ensures { Unpacked spans.now starts.old ends.old
         starts.new ends.new }
 {
-    let mut k = 0;
-    while k < spans.len() {
-        starts[k] = span_start(spans[k]) as Offset;
-        ends[k] = span_end(spans[k]) as Offset;
-        k += 1;
+    for (k, span) in spans.iter().enumerate() {
+        starts[k] = span_start(*span) as Offset;
+        ends[k] = span_end(*span) as Offset;
     }
 }
 

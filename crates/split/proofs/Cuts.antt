@@ -6,12 +6,12 @@ use mathlib.Core.List.{List, [], ◌∷◌, map, flat_map}
 use native.Mathlib.Omega.{arith}
 use lib.ListN.{length, get_or, length-append, length-map}
 use borrow.Author.Tests.{eqb-true}
+use Rattle.std.specs.Prelude.{Ok}
 use Rattle.buffers.specs.Splice.{part}
 use Rattle.buffers.proofs.Cases.{true-or-false, le-or-lt}
 use Rattle.buffers.proofs.Splice.{length_part}
 use Rattle.note.specs.Notes.{Note, start_at, end_at, Sound}
 use Rattle.note.proofs.Sound.{length-starts, length-ends, inside-at}
-use Rattle.convert.specs.declared.Converted.TheVariants.{Found}
 use Rattle.convert.specs.Converting.{in_original, in_normalized}
 use Rattle.convert.proofs.Conversions.{expanded-inside}
 use Rattle.convert.specs.Converting.{as_original}
@@ -34,19 +34,19 @@ use Rattle.split.proofs.Joined.{start-empty, start-read, end_empty, end_read}
 
 -- the slice of cleaned bytes a..b
 module _ (n : Note) (sound : Sound n) (a b : ℕ) (i : RangeInside (length n.normalized) a b) where
-  pub in-original : as_original n.starts n.ends (in_normalized a b) ≡ Found (in_original (from_start n.starts a b) (to_end n.ends a b))
+  pub in-original : as_original n.starts n.ends (in_normalized a b) ≡ Ok (in_original (from_start n.starts a b) (to_end n.ends a b))
   in-original =
       let past : b ≤ length n.ends = omega (arith, i.most, length-ends n sound) in
       le-or-lt b a
       (λ empty.
       let same : a ≡ b = omega (arith, i.forward) in
-      original-empty n.starts n.ends a b same ∙ (λ j. Found (in_original (start-empty n.starts a b same j) (end_empty n.ends a b same j))))
+      original-empty n.starts n.ends a b same ∙ (λ j. Ok (in_original (start-empty n.starts a b same j) (end_empty n.ends a b same j))))
       (λ some.
       let other : a ≡ b → ⊥ = λ e. omega arith in
       original-found n.starts n.ends a b some past ∙ sym (expanded-inside n.starts n.ends a b past)
-      ∙ (λ j. Found (in_original (start-read n.starts a b other j) (end_read n.ends a b other j))))
+      ∙ (λ j. Ok (in_original (start-read n.starts a b other j) (end_read n.ends a b other j))))
 
-  pub sliced-as : sliced n (in_normalized a b) ≡ slice_of (Found (in_original (from_start n.starts a b) (to_end n.ends a b))) (Found (in_normalized a b)) n.original_shift
+  pub sliced-as : sliced n (in_normalized a b) ≡ slice_of (Ok (in_original (from_start n.starts a b) (to_end n.ends a b))) (Ok (in_normalized a b)) n.original_shift
   unfolding sliced
   sliced-as = rw (in-original, normalized-own n.starts n.ends a b)
 

@@ -6,12 +6,12 @@ use mathlib.Core.List.{List}
 use native.Mathlib.Omega.{arith}
 use lib.ListN.{length, take, length-map}
 use borrow.Author.Tests.{not-true, not-false, le-leb, lt-leb}
+use Rattle.std.specs.Prelude.{Result, Ok, Err}
+use Rattle.buffers.proofs.Cases.{ok-parts}
 use Rattle.buffers.proofs.Splice.{take-overlay, overlay-long, length-overlay, overlay-overlay}
 use Rattle.note.specs.declared.Refusal.{Refusal}
 use Rattle.note.specs.declared.Refusal.TheVariants.{BadMatches, NoRoom, Misaligned}
-use Rattle.note.specs.declared.Verdict.{Verdict}
-use Rattle.note.specs.declared.Verdict.TheVariants.{Accepted, Refused as Rejected}
-use Rattle.note.specs.Refusals.{also, verdict, unless_refused}
+use Rattle.note.specs.Refusals.{also, verdict, unless_refused, Verdict, Accepted}
 use Rattle.note.specs.Notes.{Note, fits, Sound}
 use Rattle.note.specs.Faults.{note_faults, room_faults}
 use Rattle.note.specs.Rank.{up_to}
@@ -30,8 +30,6 @@ use Rattle.behaviors.specs.Joining.{starts_of, ends_of}
 use Rattle.behaviors.specs.Runs.{total_length, sizes_with, list_pieces, Listed}
 use Rattle.behaviors.proofs.Runs.{pieces-few}
 use Rattle.spans.specs.Packing.{packed_span, packed_of, SpansRoom, SpansLaid}
-use Rattle.split.specs.declared.Pieces.{Pieces}
-use Rattle.split.specs.declared.Pieces.TheVariants.{Cut, Refused}
 use Rattle.split.specs.Splitting.{PieceColumns, cut_by, split_faults, cut_sizes, piece_room, alignment_room, Splitting}
 use Rattle.split.specs.PieceSlices.{bytes_before}
 use Rattle.split.specs.Writing.{PieceSpans, ColumnsRoom, ColumnsLaid, Countable, CutInto}
@@ -42,16 +40,16 @@ module _ (text list : List ℕ) (pieces alignments for_pieces for_alignments : �
   abbrev results : Refusal → Bool
   results = also (list_faults text list) (also (room_faults pieces for_pieces) (room_faults alignments for_alignments))
 
-  bad-list : covers text list ≡ false → Rejected BadMatches ≡ verdict results
+  bad-list : covers text list ≡ false → Err BadMatches ≡ verdict results
   unfolding verdict
   bad-list c = rw c
 
   module _ (c : covers text list ≡ true) where
-    bad-pieces : for_pieces < pieces → Rejected NoRoom ≡ verdict results
+    bad-pieces : for_pieces < pieces → Err NoRoom ≡ verdict results
     unfolding verdict
     bad-pieces h = rw (c, lt-leb pieces for_pieces h)
 
-    bad-alignments : pieces ≤ for_pieces → for_alignments < alignments → Rejected NoRoom ≡ verdict results
+    bad-alignments : pieces ≤ for_pieces → for_alignments < alignments → Err NoRoom ≡ verdict results
     unfolding verdict
     bad-alignments fits h = rw (c, le-leb pieces for_pieces fits, lt-leb alignments for_alignments h)
 
@@ -76,15 +74,15 @@ module _ (most : ℕ) (n : Note) (list : List ℕ) (b : SplitDelimiterBehavior) 
   abbrev said : Verdict
   said = verdict (split_faults most n list b e for_pieces for_alignments)
 
-  pub note-refused : {k : Refusal} → v ≡ Rejected k → Rejected k ≡ said
+  pub note-refused : {k : Refusal} → v ≡ Err k → Err k ≡ said
   note-refused is = refused-then (up_to Misaligned) (note_faults most n) listed refl refl noted is
 
   module _ (ok : v ≡ Accepted) {t : Bool} (covering : t ≡ covers n.normalized list) where
     by-list : (u : Verdict) → u ≡ verdict listed → u ≡ said
     by-list u w = accepted-then (up_to Misaligned) (note_faults most n) listed refl refl noted ok w
 
-    pub list-refused : not t ≡ true → Rejected BadMatches ≡ said
-    list-refused is = by-list (Rejected BadMatches) (bad-list n.normalized list _ _ for_pieces for_alignments (sym covering ∙ not-true t is))
+    pub list-refused : not t ≡ true → Err BadMatches ≡ said
+    list-refused is = by-list (Err BadMatches) (bad-list n.normalized list _ _ for_pieces for_alignments (sym covering ∙ not-true t is))
 
     module _ (is : not t ≡ false) where
       covers-it : covers n.normalized list ≡ true
@@ -116,12 +114,12 @@ module _ (most : ℕ) (n : Note) (list : List ℕ) (b : SplitDelimiterBehavior) 
             let z : s.bytes ≡ 0 + total_length (list_pieces b e list) = ap (λ (x : Sizes). x.bytes) sizes in
             omega (arith, z, bytes-long)
 
-        pub no-piece-room : for_pieces < s.pieces → Rejected NoRoom ≡ said
-        no-piece-room h = by-list (Rejected NoRoom) (bad-pieces n.normalized list _ _ for_pieces for_alignments covers-it (omega (arith, count_is)))
+        pub no-piece-room : for_pieces < s.pieces → Err NoRoom ≡ said
+        no-piece-room h = by-list (Err NoRoom) (bad-pieces n.normalized list _ _ for_pieces for_alignments covers-it (omega (arith, count_is)))
 
-        pub no-alignment-room : s.pieces ≤ for_pieces → for_alignments < s.bytes → Rejected NoRoom ≡ said
+        pub no-alignment-room : s.pieces ≤ for_pieces → for_alignments < s.bytes → Err NoRoom ≡ said
         no-alignment-room fits h =
-            by-list (Rejected NoRoom) (bad-alignments n.normalized list _ _ for_pieces for_alignments covers-it (omega (arith, count_is)) (omega (arith, bytes_are)))
+            by-list (Err NoRoom) (bad-alignments n.normalized list _ _ for_pieces for_alignments covers-it (omega (arith, count_is)) (omega (arith, bytes_are)))
 
         pub all-accepted : s.pieces ≤ for_pieces → s.bytes ≤ for_alignments → Accepted ≡ said
         all-accepted fits short =
@@ -272,12 +270,12 @@ module _ (most : ℕ) (n : Note) (list : List ℕ) (b : SplitDelimiterBehavior) 
 
       pub all-cut : {shifts lengths alignment_starts alignment_ends : List ℕ}
           → ColumnsLaid n.starts n.ends (take count starts) (take count ends) n.original_shift packings c.lengths c.alignment_starts c.alignment_ends shifts lengths alignment_starts alignment_ends
-          → CutInto n list b e c (Cut count alignments) (record { starts = starts; ends = ends; shifts = shifts; lengths = lengths; alignment_starts = alignment_starts; alignment_ends = alignment_ends })
+          → CutInto n list b e c (Ok (count, alignments)) (record { starts = starts; ends = ends; shifts = shifts; lengths = lengths; alignment_starts = alignment_starts; alignment_ends = alignment_ends })
       all-cut w =
           let counts : count ≡ length (cut_by n list b e).starts = l.reach ∙ sym (pieces-long n ps) in
           let bytes : alignments ≡ length (cut_by n list b e).alignment_starts = total_is ∙ sym (alignments-long n good ps inside) in
           record {
-            answer = λ i. Cut (counts i) (bytes i);
+            answer = λ i. Ok (counts i, bytes i);
             starts_are = l.starts_are ∙ rw (starts_are n ps);
             ends_are = l.ends_are ∙ rw (ends_are n ps);
             shifts_are = w.shifts_are ∙ rw (from_is, to_is, shifts_are n good ps inside, l.spans_are) (overlay-overlay _ (packed_of ps) c.shifts (ap length (sym (shifts_are n good ps inside)) ∙ shifts-long n ps packed_span));
@@ -287,12 +285,12 @@ module _ (most : ℕ) (n : Note) (list : List ℕ) (b : SplitDelimiterBehavior) 
           }
 
 -- THE CALL
-pub cut-told : (v : Verdict) (c : PieceColumns) {x y : ℕ} → Cut x y ≡ unless_refused Refused v (cut_sizes c) → v ≡ Accepted
-cut-told Accepted c e = refl
-cut-told (Rejected k) c e = let z : ◌≡◌ {A = ℕ} 0 1 = cc in absurd (omega arith)
+pub cut-told : (v : Verdict) (c : PieceColumns) {x y : ℕ} → ◌≡◌ {A = Result (ℕ × ℕ) Refusal} (Ok (x, y)) (unless_refused Err v (cut_sizes c)) → v ≡ Accepted
+cut-told (Ok tt) c e = refl
+cut-told (Err k) c e = let z : ◌≡◌ {A = ℕ} 0 1 = cc in absurd (omega arith)
 
-pub count-told : {v : Verdict} (c : PieceColumns) {x y : ℕ} → v ≡ Accepted → Cut x y ≡ unless_refused Refused v (cut_sizes c) → x ≡ length c.starts
-count-told c {x = x} {y = y} a e = let z : Cut x y ≡ Cut (length c.starts) (length c.alignment_starts) = rw a at e in cc
+pub count-told : {v : Verdict} (c : PieceColumns) {x y : ℕ} → v ≡ Accepted → ◌≡◌ {A = Result (ℕ × ℕ) Refusal} (Ok (x, y)) (unless_refused Err v (cut_sizes c)) → x ≡ length c.starts
+count-told c {x = x} {y = y} a e = let z : ◌≡◌ {A = Result (ℕ × ℕ) Refusal} (Ok (x, y)) (Ok (length c.starts, length c.alignment_starts)) = rw a at e in (ok-parts z).0
 
 module _ (most : ℕ) (n : Note) (list : List ℕ) (b : SplitDelimiterBehavior) (e : EmptyPieces) (c : PieceColumns) {v : Verdict} {spans numbers for_pieces for_alignments : ℕ}
     (first : spans ≡ min (length c.starts) (length c.ends)) (second : numbers ≡ min (length c.shifts) (length c.lengths)) (third : for_pieces ≡ min spans numbers) (fourth : for_alignments ≡ alignment_room c)
@@ -300,10 +298,10 @@ module _ (most : ℕ) (n : Note) (list : List ℕ) (b : SplitDelimiterBehavior) 
   whole : v ≡ verdict (split_faults most n list b e (piece_room c) (alignment_room c))
   whole = says ∙ rw (third, first, second, fourth)
 
-  pub split-refused : {k : Refusal} → v ≡ Rejected k → Splitting most n list b e c (Refused k) c
+  pub split-refused : {k : Refusal} → v ≡ Err k → Splitting most n list b e c (Err k) c
   split-refused {k} is =
       record {
-        says = Rejected k;
+        says = Err k;
         says_is = sym is ∙ whole;
         answer = refl;
         starts_are = refl;
@@ -318,7 +316,7 @@ module _ (most : ℕ) (n : Note) (list : List ℕ) (b : SplitDelimiterBehavior) 
     pub split-accepted : verdict (split_faults most n list b e (piece_room c) (alignment_room c)) ≡ Accepted
     split-accepted = sym whole ∙ is
 
-    pub split-cut : {r : Pieces} {c₁ : PieceColumns} → CutInto n list b e c r c₁ → Splitting most n list b e c r c₁
+    pub split-cut : {r : Result (ℕ × ℕ) Refusal} {c₁ : PieceColumns} → CutInto n list b e c r c₁ → Splitting most n list b e c r c₁
     split-cut w =
         record {
           says = Accepted;

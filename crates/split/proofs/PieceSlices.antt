@@ -7,15 +7,14 @@ use native.Mathlib.Omega.{arith}
 use lib.ListN.{length, get_or, length-map}
 use lib.Seq.{take_at, drop_at, drop-drop}
 use borrow.Author.Tests.{le-ltb}
+use Rattle.std.specs.Prelude.{Result, Ok, Err}
 use Rattle.buffers.specs.Splice.{part, overlay}
 use Rattle.buffers.proofs.Cases.{true-or-false}
 use Rattle.buffers.proofs.Splice.{getD-overlay, length_part}
 use Rattle.utf8.specs.Formed.{boundary}
 use Rattle.utf8.proofs.Boundaries.{boundary-zero}
 use Rattle.note.specs.declared.Refusal.TheVariants.{NotBoundary, Missing}
-use Rattle.note.specs.declared.Verdict.{Verdict}
-use Rattle.note.specs.declared.Verdict.TheVariants.{Accepted}
-use Rattle.note.specs.Refusals.{none, meets, verdict, after, unless_refused}
+use Rattle.note.specs.Refusals.{none, meets, verdict, after, unless_refused, Verdict, Accepted}
 use Rattle.note.specs.Notes.{Note, Sound}
 use Rattle.note.specs.Faults.{note_faults}
 use Rattle.note.proofs.FirstMet.{accepted-first, both-accepted}
@@ -27,8 +26,6 @@ use Rattle.pattern.specs.Places.{covers_from}
 use Rattle.pattern.specs.Entries.{places_of}
 use Rattle.pattern.proofs.Places.{Span, covers-span, covers-rest}
 use Rattle.slice.specs.declared.NoteSlice.{NoteSlice}
-use Rattle.slice.specs.declared.Sliced.{Sliced}
-use Rattle.slice.specs.declared.Sliced.TheVariants.{Cut as Slice, Refused as Unsliced}
 use Rattle.slice.specs.Slicing.{valid_range, slice_of, sliced, sliced_column, slice_size, unplaced, slice_missing, slice_faults, normalized_start_of, normalized_end_of, Slicing}
 use Rattle.slice.proofs.Lowered.{length-lowered}
 use Rattle.slice.proofs.Cutting.{normalized-own}
@@ -38,12 +35,12 @@ use Rattle.behaviors.specs.Splits.{is_piece, remaining, splits, pieces}
 use Rattle.behaviors.specs.Joining.{starts_of, ends_of}
 use Rattle.behaviors.specs.Runs.{list_pieces}
 use Rattle.behaviors.proofs.Gathered.{splits-cover}
-use Rattle.split.specs.declared.Pieces.TheVariants.{Cut}
 use Rattle.split.specs.Splitting.{PieceColumns, piece_of, original_length, cut, cut_by, split_faults, piece_room, alignment_room, Splitting}
 use Rattle.split.specs.PieceSlices.{bytes_before, stretch_of, Answers, PieceIsSlice}
 use Rattle.split.specs.Writing.{from_start, RangeInside, PieceSpans}
 use Rattle.split.proofs.Cuts.{in-original, sliced-as, spans-first, spans-rest}
 use Rattle.split.proofs.Judged.{cut-told, count-told, cut-sound, cut-covered, cut-spans}
+use Rattle.note.specs.declared.Refusal.{Refusal}
 
 -- each piece is on boundaries of the text
 abbrev Standing : List ℕ → List Place → Type 0
@@ -148,13 +145,13 @@ before-front (a ∷ from) [] d e (suc k) l h = absurd (omega arith)
 before-front (a ∷ from) (b ∷ to) d e (suc k) l h = rw (before-front from to d e k (omega arith) (omega arith))
 
 -- THE CLAIM
-slice-told : {v : Verdict} {s : NoteSlice} {r : Sliced} → v ≡ Accepted → r ≡ unless_refused Unsliced v (Slice s) → r ≡ Slice s
+slice-told : {v : Verdict} {s : NoteSlice} {r : Result NoteSlice Refusal} → v ≡ Accepted → r ≡ unless_refused Err v (Ok s) → r ≡ Ok s
 slice-told a e = e ∙ rw a
 
 after-told : {v : Verdict} (x d : List ℕ) {y : List ℕ} → v ≡ Accepted → y ≡ after v x d → y ≡ overlay x d
 after-told x d a e = e ∙ rw a
 
-module _ (most : ℕ) (n : Note) (list : List ℕ) (b : SplitDelimiterBehavior) (e : EmptyPieces) (c₀ c : PieceColumns) (count alignments : ℕ) (call : Splitting most n list b e c₀ (Cut count alignments) c) where
+module _ (most : ℕ) (n : Note) (list : List ℕ) (b : SplitDelimiterBehavior) (e : EmptyPieces) (c₀ c : PieceColumns) (count alignments : ℕ) (call : Splitting most n list b e c₀ (Ok (count, alignments)) c) where
   abbrev all : List Place
   all = list_pieces b e list
 
@@ -232,7 +229,7 @@ module _ (most : ℕ) (n : Note) (list : List ℕ) (b : SplitDelimiterBehavior) 
         (λ i. part (alignment-ends-now i) (before k (omega (arith, counted)) i) (before (suc k) (omega (arith, counted)) i))
         ∙ stretch-at n good n.ends (length-ends n good) all spans _ k (omega (arith, counted))
 
-    piece-answers : (starts₀ ends₀ : List ℕ) (r : Sliced) (starts ends : List ℕ) → get_or c.ends k 0 - get_or c.starts k 0 ≤ length starts₀ → get_or c.ends k 0 - get_or c.starts k 0 ≤ length ends₀
+    piece-answers : (starts₀ ends₀ : List ℕ) (r : Result NoteSlice Refusal) (starts ends : List ℕ) → get_or c.ends k 0 - get_or c.starts k 0 ≤ length starts₀ → get_or c.ends k 0 - get_or c.starts k 0 ≤ length ends₀
         → Slicing most n (in_normalized (get_or c.starts k 0) (get_or c.ends k 0)) starts₀ ends₀ r starts ends → Answers c k starts₀ ends₀ r starts ends
     piece-answers starts₀ ends₀ r starts ends rs re w =
         let at : k < length (starts_of all) = omega (arith, counted, length-map all (λ (p : Place). p.start.0)) in

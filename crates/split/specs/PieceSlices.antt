@@ -1,16 +1,14 @@
 -- RULES 11.7: each piece is what `slice` answers for its cleaned range.
-use Rattle.std.specs.Prelude.{ℕ, zero, suc, ◌+◌, ◌-◌, ◌≤◌, ◌<◌, ◌≡◌, List, [], ◌∷◌, length, get_or}
+use Rattle.std.specs.Prelude.{ℕ, zero, suc, ◌+◌, ◌-◌, ◌≤◌, ◌<◌, ◌≡◌, List, [], ◌∷◌, length, get_or, Result, Ok}
 use Rattle.buffers.specs.Splice.{part, overlay}
 use Rattle.note.specs.Notes.{Note}
 use Rattle.convert.specs.Converting.{in_normalized}
 use Rattle.slice.specs.declared.NoteSlice.{NoteSlice}
-use Rattle.slice.specs.declared.Sliced.{Sliced}
-use Rattle.slice.specs.declared.Sliced.TheVariants.{Cut as Slice}
 use Rattle.slice.specs.Slicing.{normalized_start_of, normalized_end_of, Slicing}
 use Rattle.behaviors.specs.declared.SplitDelimiterBehavior.{SplitDelimiterBehavior}
 use Rattle.behaviors.specs.declared.EmptyPieces.{EmptyPieces}
-use Rattle.split.specs.declared.Pieces.TheVariants.{Cut}
 use Rattle.split.specs.Splitting.{PieceColumns, original_length, Splitting}
+use Rattle.note.specs.declared.Refusal.{Refusal}
 
 -- how many bytes the first k pieces have together, by their starts and ends; so where the next one's alignments begin
 unfoldable pub bytes_before : List ℕ → List ℕ → ℕ → ℕ
@@ -35,10 +33,10 @@ pub record IsPiece (c : PieceColumns) (k : ℕ) (starts₀ ends₀ : List ℕ) (
   pub ends_are : ends ≡ overlay (stretch_of c k c.alignment_ends) ends₀
 
 -- an answer of `slice` is that slice
-pub record Answers (c : PieceColumns) (k : ℕ) (starts₀ ends₀ : List ℕ) (r : Sliced)
+pub record Answers (c : PieceColumns) (k : ℕ) (starts₀ ends₀ : List ℕ) (r : Result NoteSlice Refusal)
     (starts ends : List ℕ) : Type 0 where
   pub slice : NoteSlice
-  pub answer : r ≡ Slice slice
+  pub answer : r ≡ Ok slice
   pub is_piece : IsPiece c k starts₀ ends₀ slice starts ends
 
 -- CLAIM: take a call of `split` that cut a note, and any of its pieces. A call of `slice` on the note, with the piece's
@@ -46,8 +44,8 @@ pub record Answers (c : PieceColumns) (k : ℕ) (starts₀ ends₀ : List ℕ) (
 abbrev pub PieceIsSlice : Type 0
 PieceIsSlice =
     (most : ℕ) (n : Note) (list : List ℕ) (behavior : SplitDelimiterBehavior) (empty : EmptyPieces)
-    (c₀ c : PieceColumns) (pieces alignments : ℕ) → Splitting most n list behavior empty c₀ (Cut pieces alignments) c
-    → (k : ℕ) → k < pieces → (starts₀ ends₀ : List ℕ) (r : Sliced) (starts ends : List ℕ)
+    (c₀ c : PieceColumns) (pieces alignments : ℕ) → Splitting most n list behavior empty c₀ (Ok (pieces, alignments)) c
+    → (k : ℕ) → k < pieces → (starts₀ ends₀ : List ℕ) (r : Result NoteSlice Refusal) (starts ends : List ℕ)
     → get_or c.ends k 0 - get_or c.starts k 0 ≤ length starts₀
     → get_or c.ends k 0 - get_or c.starts k 0 ≤ length ends₀
     → Slicing most n (in_normalized (get_or c.starts k 0) (get_or c.ends k 0)) starts₀ ends₀ r starts ends

@@ -1,10 +1,9 @@
 -- RULES 11.5, 11.6: what a list and a behaviour cut a note into, when that is refused, and the call (Rust:
 -- `NormalizedString::split`, `PreTokenizedString::split`).
-use Rattle.std.specs.Prelude.{ℕ, ◌-◌, min, ◌≡◌, Bool, length}
+use Rattle.std.specs.Prelude.{ℕ, ◌-◌, min, ◌≡◌, Bool, length, Result, Ok, Err}
 use mathlib.Core.List.{List, map, flat_map}
 use Rattle.note.specs.declared.Refusal.{Refusal}
-use Rattle.note.specs.declared.Verdict.{Verdict}
-use Rattle.note.specs.Refusals.{also, verdict, after, unless_refused}
+use Rattle.note.specs.Refusals.{also, verdict, after, unless_refused, Verdict}
 use Rattle.note.specs.Notes.{Note}
 use Rattle.note.specs.Faults.{note_faults, room_faults}
 use Rattle.convert.specs.declared.Range.TheVariants.{Normalized}
@@ -17,8 +16,6 @@ use Rattle.behaviors.specs.declared.SplitDelimiterBehavior.{SplitDelimiterBehavi
 use Rattle.behaviors.specs.declared.EmptyPieces.{EmptyPieces}
 use Rattle.behaviors.specs.Splits.{pieces}
 use Rattle.behaviors.specs.Joining.{starts_of, ends_of}
-use Rattle.split.specs.declared.Pieces.{Pieces}
-use Rattle.split.specs.declared.Pieces.TheVariants.{Cut, Refused}
 
 -- RULES 11.5: a piece is the slice of its cleaned range (6)
 unfoldable pub piece_of : Note → Place → NoteSlice
@@ -69,8 +66,8 @@ split_faults most n list behavior empty for_pieces for_alignments =
     (room_faults (length (cut_by n list behavior empty).alignment_starts) for_alignments)))
 
 -- how many pieces there are, and how many alignments
-abbrev pub cut_sizes : PieceColumns → Pieces
-cut_sizes c = Cut (length c.starts) (length c.alignment_starts)
+abbrev pub cut_sizes : PieceColumns → Result (ℕ × ℕ) Refusal
+cut_sizes c = Ok (length c.starts, length c.alignment_starts)
 
 -- the room that they have for pieces, and the room for alignments
 abbrev pub piece_room : PieceColumns → ℕ
@@ -82,10 +79,10 @@ alignment_room c = min (length c.alignment_starts) (length c.alignment_ends)
 -- THE CALL: limit, note, list, behaviour, what becomes of empty pieces, the passed columns before, the answer, the
 -- columns after
 pub record Splitting (most : ℕ) (n : Note) (list : List ℕ) (behavior : SplitDelimiterBehavior) (empty : EmptyPieces)
-    (c₀ : PieceColumns) (r : Pieces) (c : PieceColumns) : Type 0 where
+    (c₀ : PieceColumns) (r : Result (ℕ × ℕ) Refusal) (c : PieceColumns) : Type 0 where
   pub says : Verdict
   pub says_is : says ≡ verdict (split_faults most n list behavior empty (piece_room c₀) (alignment_room c₀))
-  pub answer : r ≡ unless_refused Refused says (cut_sizes (cut_by n list behavior empty))
+  pub answer : r ≡ unless_refused Err says (cut_sizes (cut_by n list behavior empty))
   pub starts_are : c.starts ≡ after says (cut_by n list behavior empty).starts c₀.starts
   pub ends_are : c.ends ≡ after says (cut_by n list behavior empty).ends c₀.ends
   pub shifts_are : c.shifts ≡ after says (cut_by n list behavior empty).shifts c₀.shifts

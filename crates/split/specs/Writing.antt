@@ -1,14 +1,14 @@
 -- What the inner functions of `split` are told and say: the pieces' columns by their cleaned starts and ends.
-use Rattle.std.specs.Prelude.{ℕ, ◌+◌, ◌-◌, ◌≤◌, ◌<◌, ◌≡◌, cond, List, [], ◌∷◌, ◌++◌, eqb, length, get_or}
+use Rattle.std.specs.Prelude.{ℕ, ◌+◌, ◌-◌, ◌≤◌, ◌<◌, ◌≡◌, cond, List, [], ◌∷◌, ◌++◌, eqb, length, get_or, Result}
 use Rattle.buffers.specs.Splice.{part, overlay}
 use Rattle.buffers.specs.Over.{Source}
 use Rattle.note.specs.Notes.{Note}
 use Rattle.slice.specs.Slicing.{lowered}
 use Rattle.behaviors.specs.declared.SplitDelimiterBehavior.{SplitDelimiterBehavior}
 use Rattle.behaviors.specs.declared.EmptyPieces.{EmptyPieces}
-use Rattle.split.specs.declared.Pieces.{Pieces}
 use Rattle.split.specs.Splitting.{PieceColumns, cut_by, cut_sizes}
 use Rattle.split.specs.PieceSlices.{bytes_before}
+use Rattle.note.specs.declared.Refusal.{Refusal}
 
 -- where the transcript of the cleaned bytes a..b starts and where it ends; an empty range is its own numbers
 unfoldable pub from_start : List ℕ → ℕ → ℕ → ℕ
@@ -111,7 +111,7 @@ pub record BothRoom (starts ends : List ℕ) (from to base : ℕ) (out_starts ou
 
 -- the pieces stand in front of the six columns, and are counted
 pub record CutInto (n : Note) (list : List ℕ) (behavior : SplitDelimiterBehavior) (empty : EmptyPieces)
-    (c₀ : PieceColumns) (r : Pieces) (c : PieceColumns) : Type 0 where
+    (c₀ : PieceColumns) (r : Result (ℕ × ℕ) Refusal) (c : PieceColumns) : Type 0 where
   pub answer : r ≡ cut_sizes (cut_by n list behavior empty)
   pub starts_are : c.starts ≡ overlay (cut_by n list behavior empty).starts c₀.starts
   pub ends_are : c.ends ≡ overlay (cut_by n list behavior empty).ends c₀.ends

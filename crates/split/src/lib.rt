@@ -5,9 +5,8 @@
 ghost use Rattle.std.specs.Prelude.{◌≡◌, true, ◌+◌, ◌^◌, ◌≤◌, ◌<◌, length};
 ghost use Rattle.buffers.specs.Over.{Over};
 ghost use Rattle.buffers.specs.Splice.{part, splice};
-ghost use Rattle.note.specs.declared.Verdict.TheVariants.{Accepted};
-ghost use Rattle.note.specs.Notes.{lent, limit};
-ghost use Rattle.note.specs.Refusals.{verdict};
+ghost use Rattle.note.specs.Notes.{limit, passed};
+ghost use Rattle.note.specs.Refusals.{verdict, Accepted};
 ghost use Rattle.slice.specs.Slicing.{lowered};
 ghost use Rattle.split.specs.PieceSlices.{bytes_before};
 ghost use Rattle.split.specs.Splitting.{alignment_room, columns, piece_room, split_faults, Splitting};
@@ -15,19 +14,12 @@ ghost use Rattle.split.specs.Writing.{BlockFits, LoweredBlockRoom, BothRoom, Col
 ghost use Rattle.split.specs.Writing.{CutInto, from_start, RangeInside, to_end};
 
 use behaviors::{EmptyPieces, SplitDelimiterBehavior, measure};
-use buffers::{Offset, copy_offsets};
+use buffers::{Offset, copy};
 use checks::{check_note, least_of_two};
-use note::{Refusal, Verdict};
+use note::{NormalizedString, Refusal};
 use pattern::{covers, most_places};
 use slice::write_lowered;
 use spans::write_spans;
-
-// What `split` says: how many pieces there are, and how many alignments they have; or why there are none.
-#[derive(Clone, Copy)]
-pub enum Pieces {
-    Cut(usize, usize),
-    Refused(Refusal),
-}
 
 // Where the transcript of the cleaned bytes from..to starts. An inner function, as the next one: the bytes are there.
 fn original_start(starts: &[Offset], from: Offset, to: Offset) -> Offset
@@ -57,10 +49,8 @@ fn byte_count(from: &[Offset], to: &[Offset]) -> usize
     ensures { result ≡ bytes_before from.now to.now (length from.now) }
 {
     let mut sum: u32 = 0;
-    let mut k = 0;
-    while k < from.len() {
+    for k in 0..from.len() {
         sum += (to[k] - from[k]) as u32;
-        k += 1;
     }
     sum as usize
 }
@@ -74,7 +64,7 @@ fn lower_block(column: &[Offset], i: usize, base: Offset, out: &mut [Offset], at
 {
     let mut block = [0u16; 16];
     write_lowered(&column[i..i + 16], base, &mut block, 0);
-    copy_offsets(&block, out, at);
+    copy(&block, out, at);
 }
 
 // Whether the piece from..to of a text of `size` bytes has some, and can be laid as the front of a block: the text has
@@ -145,8 +135,7 @@ fn write_columns(
         shifts.new lengths.new out_starts.new out_ends.new }
 {
     let mut at = 0;
-    let mut k = 0;
-    while k < from.len() {
+    for k in 0..from.len() {
         let first = from[k];
         let past = to[k];
         let start = original_start(starts, first, past);
@@ -157,56 +146,44 @@ fn write_columns(
         let b = past as usize;
         lower_piece(starts, ends, a, b, start, out_starts, out_ends, at, until);
         at += b - a;
-        k += 1;
     }
 }
 
 // What `split` says of a note and a list beside the room that is passed for pieces and for their alignments.
 fn check_split(
-    original: &[u8],
-    normalized: &[u8],
-    starts: &[Offset],
-    ends: &[Offset],
-    original_shift: u32,
+    note: &NormalizedString,
     list: &[u8],
     behavior: SplitDelimiterBehavior,
     empty: EmptyPieces,
     for_pieces: usize,
     for_alignments: usize,
-) -> Verdict
+) -> Result<(), Refusal>
     ensures { result ≡ verdict (split_faults limit
-        (lent original.now normalized.now
-        starts.now ends.now original_shift)
+        (passed note.now)
         list.now behavior empty for_pieces for_alignments) }
 {
-    if let Verdict::Refused(k) = check_note(original, normalized, starts, ends, original_shift) {
-        return Verdict::Refused(k);
-    }
-    if !covers(normalized, list) {
-        return Verdict::Refused(Refusal::BadMatches);
+    check_note(note)?;
+    if !covers(note.normalized, list) {
+        return Err(Refusal::BadMatches);
     }
     if most_places(list) <= for_pieces {
-        if normalized.len() <= for_alignments {
-            return Verdict::Accepted;
+        if note.normalized.len() <= for_alignments {
+            return Ok(());
         }
     }
     let sizes = measure(list, behavior, empty);
     if for_pieces < sizes.pieces {
-        return Verdict::Refused(Refusal::NoRoom);
+        return Err(Refusal::NoRoom);
     }
     if for_alignments < sizes.bytes {
-        return Verdict::Refused(Refusal::NoRoom);
+        return Err(Refusal::NoRoom);
     }
-    Verdict::Accepted
+    Ok(())
 }
 
 // The pieces of an accepted note, in front of the six columns.
 fn write_pieces(
-    original: &[u8],
-    normalized: &[u8],
-    starts: &[Offset],
-    ends: &[Offset],
-    original_shift: u32,
+    note: &NormalizedString,
     list: &[u8],
     behavior: SplitDelimiterBehavior,
     empty: EmptyPieces,
@@ -216,23 +193,28 @@ fn write_pieces(
     piece_lengths: &mut [Offset],
     out_starts: &mut [Offset],
     out_ends: &mut [Offset],
-) -> Pieces
+) -> Result<(usize, usize), Refusal>
     requires { verdict (split_faults limit
-        (lent original.now normalized.now starts.now ends.now original_shift)
+        (passed note.now)
         list.now behavior empty
         (piece_room (columns piece_starts.old piece_ends.old piece_shifts.old piece_lengths.old
         out_starts.old out_ends.old))
         (alignment_room (columns piece_starts.old piece_ends.old piece_shifts.old piece_lengths.old
         out_starts.old out_ends.old))) ≡ Accepted }
     ensures { CutInto
-        (lent original.now normalized.now
-        starts.now ends.now original_shift) list.now behavior empty
+        (passed note.now) list.now behavior empty
         (columns piece_starts.old piece_ends.old piece_shifts.old
         piece_lengths.old out_starts.old out_ends.old)
         result
         (columns piece_starts.new piece_ends.new piece_shifts.new
         piece_lengths.new out_starts.new out_ends.new) }
 {
+    let NormalizedString {
+        starts,
+        ends,
+        original_shift,
+        ..
+    } = *note;
     let count = write_spans(
         list,
         behavior,
@@ -256,17 +238,13 @@ fn write_pieces(
         out_starts,
         out_ends,
     );
-    Pieces::Cut(count, alignments)
+    Ok((count, alignments))
 }
 
 // The note cut into pieces: their cleaned starts and ends, their shifts and transcript lengths stand in front of the
 // four columns for pieces, and their alignments, end to end, in front of the last two.
 pub fn split(
-    original: &[u8],
-    normalized: &[u8],
-    starts: &[Offset],
-    ends: &[Offset],
-    original_shift: u32,
+    note: &NormalizedString,
     list: &[u8],
     behavior: SplitDelimiterBehavior,
     empty: EmptyPieces,
@@ -276,10 +254,9 @@ pub fn split(
     piece_lengths: &mut [Offset],
     out_starts: &mut [Offset],
     out_ends: &mut [Offset],
-) -> Pieces
+) -> Result<(usize, usize), Refusal>
     ensures { Splitting limit
-        (lent original.now normalized.now
-        starts.now ends.now original_shift) list.now behavior empty
+        (passed note.now) list.now behavior empty
         (columns piece_starts.old piece_ends.old piece_shifts.old
         piece_lengths.old out_starts.old out_ends.old)
         result
@@ -290,34 +267,17 @@ pub fn split(
     let numbers = least_of_two(piece_shifts.len(), piece_lengths.len());
     let for_pieces = least_of_two(spans, numbers);
     let for_alignments = least_of_two(out_starts.len(), out_ends.len());
-    match check_split(
-        original,
-        normalized,
-        starts,
-        ends,
-        original_shift,
+    check_split(note, list, behavior, empty, for_pieces, for_alignments)?;
+    write_pieces(
+        note,
         list,
         behavior,
         empty,
-        for_pieces,
-        for_alignments,
-    ) {
-        Verdict::Refused(k) => Pieces::Refused(k),
-        Verdict::Accepted => write_pieces(
-            original,
-            normalized,
-            starts,
-            ends,
-            original_shift,
-            list,
-            behavior,
-            empty,
-            piece_starts,
-            piece_ends,
-            piece_shifts,
-            piece_lengths,
-            out_starts,
-            out_ends,
-        ),
-    }
+        piece_starts,
+        piece_ends,
+        piece_shifts,
+        piece_lengths,
+        out_starts,
+        out_ends,
+    )
 }

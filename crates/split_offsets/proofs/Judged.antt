@@ -7,12 +7,11 @@ use native.Mathlib.Omega.{arith}
 use lib.Dec.{ltb}
 use lib.ListN.{length}
 use borrow.Author.Tests.{not-false, lt-ltb, le-ltb}
+use Rattle.std.specs.Prelude.{Err}
 use Rattle.buffers.proofs.Cases.{le-or-lt}
 use Rattle.note.specs.declared.Refusal.{Refusal}
 use Rattle.note.specs.declared.Refusal.TheVariants.{BadMatches, NoRoom, Misaligned}
-use Rattle.note.specs.declared.Verdict.{Verdict}
-use Rattle.note.specs.declared.Verdict.TheVariants.{Accepted, Refused as Rejected}
-use Rattle.note.specs.Refusals.{none, meets, also, verdict}
+use Rattle.note.specs.Refusals.{none, meets, also, verdict, Verdict, Accepted}
 use Rattle.note.specs.Notes.{Note, fits, Sound}
 use Rattle.note.specs.Faults.{note_faults, room_faults}
 use Rattle.note.specs.Rank.{up_to}
@@ -32,7 +31,7 @@ use Rattle.split_offsets.specs.SplitOffsets.{split_pieces, splits_faults}
 no_more : (a : ℕ) → 0 + a ≡ a
 no_more a = omega arith
 
-uncovered : {t : Bool} → t ≡ false → Rejected BadMatches ≡ verdict (meets BadMatches (not t) none)
+uncovered : {t : Bool} → t ≡ false → Err BadMatches ≡ verdict (meets BadMatches (not t) none)
 unfolding verdict
 uncovered e = rw e
 
@@ -40,7 +39,7 @@ covered : {t : Bool} → t ≡ true → Accepted ≡ verdict (meets BadMatches (
 unfolding verdict
 covered e = rw e
 
-room-verdict : (size room : ℕ) → cond (ltb room size) (Rejected NoRoom) Accepted ≡ verdict (room_faults size room)
+room-verdict : (size room : ℕ) → cond (ltb room size) (Err NoRoom) Accepted ≡ verdict (room_faults size room)
 room-verdict size room =
     le-or-lt size room (λ h. rw (le-ltb room size h) (enough-room h)) (λ h. rw (lt-ltb room size h) (no_room h))
 
@@ -50,15 +49,15 @@ module _ (most : ℕ) (n : Note) (list : List ℕ) (behavior : SplitDelimiterBeh
 
   -- WHAT IS SAID
   module _ {v : Verdict} (noted : v ≡ verdict (note_faults most n)) where
-    pub judged-note : {k : Refusal} → v ≡ Rejected k → Rejected k ≡ verdict (splits_faults most n list behavior room)
+    pub judged-note : {k : Refusal} → v ≡ Err k → Err k ≡ verdict (splits_faults most n list behavior room)
     judged-note is = refused-then (up_to Misaligned) (note_faults most n) (also (list_faults n.normalized list) small) refl refl noted is
 
     module _ (ok : v ≡ Accepted) {t : Bool} (tested : t ≡ covers n.normalized list) where
       past-note : {w : Verdict} → w ≡ verdict (also (list_faults n.normalized list) small) → w ≡ verdict (splits_faults most n list behavior room)
       past-note e = accepted-then (up_to Misaligned) (note_faults most n) (also (list_faults n.normalized list) small) refl refl noted ok e
 
-      pub judged-list : t ≡ false → Rejected BadMatches ≡ verdict (splits_faults most n list behavior room)
-      judged-list u = past-note (refused-then (up_to BadMatches) (list_faults n.normalized list) small refl refl {v = Rejected BadMatches} (uncovered (sym tested ∙ u)) refl)
+      pub judged-list : t ≡ false → Err BadMatches ≡ verdict (splits_faults most n list behavior room)
+      judged-list u = past-note (refused-then (up_to BadMatches) (list_faults n.normalized list) small refl refl {v = Err BadMatches} (uncovered (sym tested ∙ u)) refl)
 
       pub listed : t ≡ true → Listed most list
       listed y =
@@ -68,7 +67,7 @@ module _ (most : ℕ) (n : Note) (list : List ℕ) (behavior : SplitDelimiterBeh
             covered = covers-places n.normalized list (sym tested ∙ y);
           }
 
-      pub judged-room : {s : Sizes} {w : Verdict} → t ≡ true → s ≡ sizes_with (record { pieces = 0; bytes = 0 }) (split_pieces list behavior) → w ≡ cond (ltb room s.pieces) (Rejected NoRoom) Accepted → w ≡ verdict (splits_faults most n list behavior room)
+      pub judged-room : {s : Sizes} {w : Verdict} → t ≡ true → s ≡ sizes_with (record { pieces = 0; bytes = 0 }) (split_pieces list behavior) → w ≡ cond (ltb room s.pieces) (Err NoRoom) Accepted → w ≡ verdict (splits_faults most n list behavior room)
       unfolding sizes_with
       judged-room {s = s} y sum is =
           let size : s.pieces ≡ length (split_pieces list behavior) = ap (λ (x : Sizes). x.pieces) sum ∙ no_more (length (split_pieces list behavior)) in

@@ -8,17 +8,15 @@ use native.Mathlib.Omega.{arith}
 use lib.Dec.{leb, ltb, eqb}
 use lib.ListN.{length, take}
 use borrow.Author.Tests.{le-leb, lt-ltb, eqb-false, not-true}
+use Rattle.std.specs.Prelude.{Ok, Err}
 use Rattle.buffers.proofs.Cases.{true-or-false}
 use Rattle.buffers.proofs.Splice.{overlay-overlay}
 use Rattle.note.specs.declared.Refusal.{Refusal}
-use Rattle.note.specs.declared.Verdict.{Verdict}
-use Rattle.note.specs.declared.Verdict.TheVariants.{Accepted, Refused as Rejected}
-use Rattle.note.specs.Refusals.{verdict}
+use Rattle.note.specs.Refusals.{verdict, Verdict, Accepted}
 use Rattle.note.specs.Notes.{Note, start_at, end_at, Sound}
 use Rattle.note.proofs.Sound.{length-starts, length-ends}
 use Rattle.convert.specs.declared.OffsetReferential.{OffsetReferential}
 use Rattle.convert.specs.declared.OffsetReferential.TheVariants.{Original, Normalized}
-use Rattle.convert.specs.declared.Converted.TheVariants.{Found}
 use Rattle.convert.specs.Converting.{in_original, in_normalized}
 use Rattle.utf8.proofs.Boundaries.{Between}
 use Rattle.convert.proofs.Inside.{expanded-inside}
@@ -38,7 +36,6 @@ use Rattle.spans.proofs.Packing.{packed-long, packed-front}
 use Rattle.behaviors.proofs.Gathered.{splits-cover}
 use Rattle.split.specs.Splitting.{piece_of, original_length}
 use Rattle.char_columns.specs.declared.OffsetType.{OffsetType}
-use Rattle.split_offsets.specs.declared.Splits.TheVariants.{Listed as Offered, Refused}
 use Rattle.char_columns.specs.Numbers.{start_number, end_number}
 use Rattle.split_offsets.specs.SplitOffsets.{split_pieces, place_length, start_byte, end_byte, each_piece, splits_faults, GetSplits}
 use Rattle.split_offsets.specs.Steps.{from_byte, to_byte, in_order, each_span, SpansReady, SpansConverted}
@@ -76,7 +73,7 @@ module _ (n : Note) (sound : Sound n) (p : Place) (some : p.start.0 < p.end.0) (
   in_ends : p.end.0 ≤ length n.ends
   in_ends = omega (arith, length-starts n sound, length-ends n sound)
 
-  piece_is : piece_of n p ≡ slice_of (Found (in_original (start_at n p.start.0) (end_at n (p.end.0 - 1)))) (Found (in_normalized p.start.0 p.end.0)) n.original_shift
+  piece_is : piece_of n p ≡ slice_of (Ok (in_original (start_at n p.start.0) (end_at n (p.end.0 - 1)))) (Ok (in_normalized p.start.0 p.end.0)) n.original_shift
   unfolding piece_of
   piece_is = normalized-sliced n p.start.0 p.end.0 some in_ends
 
@@ -116,8 +113,8 @@ module _ (most : ℕ) (n : Note) (list : List ℕ) (behavior : SplitDelimiterBeh
   said : v ≡ verdict (splits_faults most n list behavior (min (length starts₀) (length ends₀)))
   said = says ∙ ap (λ (m : ℕ). verdict (splits_faults most n list behavior m)) rooms
 
-  pub refused : {k : Refusal} → v ≡ Rejected k → GetSplits most n list behavior side unit starts₀ ends₀ (Refused k) starts₀ ends₀
-  refused {k} e = record { says = Rejected k; says_is = sym e ∙ said; answer = refl; starts_are = refl; ends_are = refl }
+  pub refused : {k : Refusal} → v ≡ Err k → GetSplits most n list behavior side unit starts₀ ends₀ (Err k) starts₀ ends₀
+  refused {k} e = record { says = Err k; says_is = sym e ∙ said; answer = refl; starts_are = refl; ends_are = refl }
 
   module _ (ok : v ≡ Accepted) where
     abbrev ps : List Place
@@ -173,14 +170,14 @@ module _ (most : ℕ) (n : Note) (list : List ℕ) (behavior : SplitDelimiterBeh
             ordered = rw (from_is, to_is) order;
           }
 
-      pub listed : {starts ends : List ℕ} → SpansConverted n.original n.starts n.ends n.original_shift side unit count spans ends₀ starts ends → GetSplits most n list behavior side unit starts₀ ends₀ (Offered count) starts ends
+      pub listed : {starts ends : List ℕ} → SpansConverted n.original n.starts n.ends n.original_shift side unit count spans ends₀ starts ends → GetSplits most n list behavior side unit starts₀ ends₀ (Ok count) starts ends
       listed c =
           let first = each-pieces (start_number n.original unit) n sound side 0 0 ps order in
           let last = each-pieces (end_number n.original unit) n sound side 0 0 ps order in
           record {
             says = Accepted;
             says_is = sym accepted;
-            answer = ap Offered laid.reach;
+            answer = ap Ok laid.reach;
             starts_are = c.starts_are ∙ rw (from_is, to_is, first, laid.spans_are) (overlay-overlay _ (packed_of ps) starts₀ (length-pieces (start_number n.original unit) n side 0 ps packed_span));
             ends_are = c.ends_are ∙ rw (from_is, to_is, last);
           }

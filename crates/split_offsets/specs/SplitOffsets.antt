@@ -1,10 +1,8 @@
 -- RULES 13 (Rust: `PreTokenizedString::get_splits`, without tokens): where the pieces of a note stand, in bytes or in
 -- characters.
-use Rattle.std.specs.Prelude.{ℕ, ◌+◌, ◌-◌, min, ◌≡◌, Bool, false, List, [], ◌∷◌, map, length}
+use Rattle.std.specs.Prelude.{ℕ, ◌+◌, ◌-◌, min, ◌≡◌, Bool, false, List, [], ◌∷◌, map, length, Result, Ok, Err}
 use Rattle.note.specs.declared.Refusal.{Refusal}
-use Rattle.note.specs.declared.Verdict.{Verdict}
-use Rattle.note.specs.declared.Verdict.TheVariants.{Accepted}
-use Rattle.note.specs.Refusals.{also, verdict, unless_refused, after}
+use Rattle.note.specs.Refusals.{also, verdict, unless_refused, after, Verdict, Accepted}
 use Rattle.note.specs.Notes.{Note, start_at, end_at}
 use Rattle.note.specs.Faults.{note_faults, room_faults}
 use Rattle.convert.specs.declared.OffsetReferential.{OffsetReferential}
@@ -20,8 +18,6 @@ use Rattle.split.specs.Splitting.{piece_of, original_length}
 use Rattle.char_columns.specs.declared.OffsetType.{OffsetType}
 use Rattle.char_columns.specs.declared.OffsetType.TheVariants.{Byte}
 use Rattle.char_columns.specs.Numbers.{start_number, end_number}
-use Rattle.split_offsets.specs.declared.Splits.{Splits}
-use Rattle.split_offsets.specs.declared.Splits.TheVariants.{Listed, Refused}
 
 -- RULES 13.1: the pieces of a list, of which those without a byte are dropped
 abbrev pub split_pieces : List ℕ → SplitDelimiterBehavior → List Place
@@ -61,11 +57,11 @@ splits_faults most n list behavior room =
 
 -- THE CALL: limit, note, list, behaviour, what is asked, the passed columns before, the answer, the passed columns after
 pub record GetSplits (most : ℕ) (n : Note) (list : List ℕ) (behavior : SplitDelimiterBehavior)
-    (side : OffsetReferential) (unit : OffsetType) (starts₀ ends₀ : List ℕ) (r : Splits)
+    (side : OffsetReferential) (unit : OffsetType) (starts₀ ends₀ : List ℕ) (r : Result ℕ Refusal)
     (starts ends : List ℕ) : Type 0 where
   pub says : Verdict
   pub says_is : says ≡ verdict (splits_faults most n list behavior (min (length starts₀) (length ends₀)))
-  pub answer : r ≡ unless_refused Refused says (Listed (length (split_pieces list behavior)))
+  pub answer : r ≡ unless_refused Err says (Ok (length (split_pieces list behavior)))
   pub starts_are : starts ≡ after says (split_starts n side unit (split_pieces list behavior)) starts₀
   pub ends_are : ends ≡ after says (split_ends n side unit (split_pieces list behavior)) ends₀
 

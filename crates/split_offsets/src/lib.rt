@@ -2,7 +2,7 @@
 #![tactic(auto)]
 
 ghost use Rattle.std.specs.Prelude.{◌≡◌, ◌≤◌, length};
-ghost use Rattle.note.specs.Notes.{lent, limit};
+ghost use Rattle.note.specs.Notes.{limit, passed};
 ghost use Rattle.note.specs.Refusals.{verdict};
 ghost use Rattle.convert.specs.Converting.{range_of};
 ghost use Rattle.split_offsets.specs.SplitOffsets.{GetSplits, splits_faults};
@@ -14,16 +14,9 @@ use char_columns::{OffsetType, write_chars};
 use checks::{check_note, least_of_two};
 use convert::{OffsetReferential, Range, end_of, start_of};
 use note::verdicts::refused_if;
-use note::{NormalizedByte, OriginalByte, Refusal, Verdict};
+use note::{NormalizedByte, NormalizedString, OriginalByte, Refusal};
 use pattern::{covers, most_places};
 use spans::{span_end, span_start, write_packed};
-
-// What `get_splits` says: how many pieces there are; or why there are none.
-#[derive(Clone, Copy)]
-pub enum Splits {
-    Listed(usize),
-    Refused(Refusal),
-}
 
 // The bytes of the piece from..to of the cleaned text: in the transcript, from the shift on; or in the cleaned text,
 // after pieces of `sum` bytes.
@@ -72,8 +65,7 @@ fn write_bytes(
         out_starts.new out_ends.new }
 {
     let mut sum = NormalizedByte(0);
-    let mut k = 0;
-    while k < count {
+    for k in 0..count {
         let span = out_starts[k];
         let from = NormalizedByte(span_start(span));
         let to = NormalizedByte(span_end(span));
@@ -81,7 +73,6 @@ fn write_bytes(
         out_starts[k] = start_of(bytes);
         out_ends[k] = end_of(bytes);
         sum = NormalizedByte(sum.0 + (to.0 - from.0));
-        k += 1;
     }
 }
 
@@ -121,27 +112,20 @@ fn convert_spans(
 
 // What `get_splits` says of a note and a list beside the room that is given.
 fn check_splits(
-    original: &[u8],
-    normalized: &[u8],
-    starts: &[Offset],
-    ends: &[Offset],
-    original_shift: u32,
+    note: &NormalizedString,
     list: &[u8],
     behavior: SplitDelimiterBehavior,
     room: usize,
-) -> Verdict
+) -> Result<(), Refusal>
     ensures { result ≡ verdict (splits_faults limit
-        (lent original.now normalized.now
-        starts.now ends.now original_shift) list.now behavior room) }
+        (passed note.now) list.now behavior room) }
 {
-    if let Verdict::Refused(k) = check_note(original, normalized, starts, ends, original_shift) {
-        return Verdict::Refused(k);
-    }
-    if !covers(normalized, list) {
-        return Verdict::Refused(Refusal::BadMatches);
+    check_note(note)?;
+    if !covers(note.normalized, list) {
+        return Err(Refusal::BadMatches);
     }
     if most_places(list) <= room {
-        return Verdict::Accepted;
+        return Ok(());
     }
     let sizes = measure(list, behavior, EmptyPieces::Dropped);
     refused_if(room < sizes.pieces, Refusal::NoRoom)
@@ -150,50 +134,39 @@ fn check_splits(
 // The offsets of the pieces that a list and a behaviour give, of which empty ones are dropped, are written in
 // front of the two columns. Refusals: those of a note, then `BadMatches`, `NoRoom`.
 pub fn get_splits(
-    original: &[u8],
-    normalized: &[u8],
-    starts: &[Offset],
-    ends: &[Offset],
-    original_shift: u32,
+    note: &NormalizedString,
     list: &[u8],
     behavior: SplitDelimiterBehavior,
     side: OffsetReferential,
     unit: OffsetType,
     out_starts: &mut [u32],
     out_ends: &mut [u32],
-) -> Splits
+) -> Result<usize, Refusal>
     ensures { GetSplits limit
-        (lent original.now normalized.now
-        starts.now ends.now original_shift) list.now behavior side unit
+        (passed note.now) list.now behavior side unit
         out_starts.old out_ends.old
         result out_starts.new out_ends.new }
 {
-    let room = least_of_two(out_starts.len(), out_ends.len());
-    match check_splits(
+    let NormalizedString {
         original,
-        normalized,
         starts,
         ends,
         original_shift,
-        list,
-        behavior,
-        room,
-    ) {
-        Verdict::Refused(k) => Splits::Refused(k),
-        Verdict::Accepted => {
-            let count = write_packed(list, behavior, EmptyPieces::Dropped, out_starts);
-            convert_spans(
-                original,
-                starts,
-                ends,
-                original_shift,
-                side,
-                unit,
-                count,
-                out_starts,
-                out_ends,
-            );
-            Splits::Listed(count)
-        }
-    }
+        ..
+    } = *note;
+    let room = least_of_two(out_starts.len(), out_ends.len());
+    check_splits(note, list, behavior, room)?;
+    let count = write_packed(list, behavior, EmptyPieces::Dropped, out_starts);
+    convert_spans(
+        original,
+        starts,
+        ends,
+        original_shift,
+        side,
+        unit,
+        count,
+        out_starts,
+        out_ends,
+    );
+    Ok(count)
 }

@@ -2,18 +2,13 @@
 // many at most, and that reading ends, is proved.
 #![tactic(auto)]
 
-ghost use Rattle.std.specs.Prelude.{◌≡◌, length};
-ghost use Rattle.standard_input.specs.Counting.{Within};
+ghost use Rattle.std.specs.Prelude.{◌≡◌, ◌≤◌, IfOk, length};
 
+use std::fs::File;
 use std::io;
 use std::io::Read;
-
-// What reading answers: how many bytes there are, or why they cannot be read.
-#[derive(Clone, Copy)]
-pub enum Input {
-    Bytes(usize),
-    Unread(io::Error),
-}
+use std::rt::Files;
+use std::str::from_utf8;
 
 // Room for a chunk of an input.
 pub fn large_buffer() -> [u8; 65536]
@@ -22,21 +17,27 @@ pub fn large_buffer() -> [u8; 65536]
     [0; 65536]
 }
 
+// The file of this name.
+pub fn open<R: Files>(rt: &R, name: &[u8]) -> io::Result<R::File> {
+    match from_utf8(name) {
+        Ok(path) => File::open(rt, path),
+        Err(_) => Err(io::Error::new(io::ErrorKind::InvalidFilename, "its name is not UTF-8")),
+    }
+}
+
 // The bytes of `input` from where it was left, from the start of `buf` on: up to its end, or until the buffer is full.
-pub fn fill<R: Read>(input: &mut R, buf: &mut [u8]) -> Input
-    ensures { Within result buf.old buf.new }
+// How many bytes there are, or why they cannot be read.
+pub fn fill<R: Read>(input: &mut R, buf: &mut [u8]) -> io::Result<usize>
+    ensures counted { IfOk result (λ n. n ≤ length buf.new) }
+    ensures same_len { length buf.new ≡ length buf.old }
 {
     let mut done = 0;
     while done < buf.len() {
-        match input.read(&mut buf[done..]) {
-            Ok(n) => {
-                if n == 0 {
-                    return Input::Bytes(done);
-                }
-                done += n;
-            }
-            Err(error) => return Input::Unread(error),
+        let n = input.read(&mut buf[done..])?;
+        if n == 0 {
+            break;
         }
+        done += n;
     }
-    Input::Bytes(done)
+    Ok(done)
 }

@@ -5,4 +5,3 @@ pub mod Framing
 pub mod Packing
 pub mod Differences
 pub mod Lending
-pub mod Calls

@@ -1,59 +1,95 @@
-// The calls by their numbers: a call's number is the place of its name in the file `calls`.
-pub const WELL_FORMED: u8 = 0;
+// The calls that are replayed, by what they take.
 
-pub const LETTER_COUNT: u8 = 1;
+// One on a note and a range.
+#[derive(Clone, Copy)]
+pub enum RangeCall {
+    ConvertOffsets,
+    GetRange,
+    GetRangeOriginal,
+}
 
-pub const CHAR_OFFSETS: u8 = 2;
+// One on a list of pairs.
+#[derive(Clone, Copy)]
+pub enum PairsCall {
+    CharOffsetsAll,
+    ConvertAll,
+}
 
-pub const CHAR_OFFSETS_ALL: u8 = 3;
+// One that publishes a note, and answers with its length.
+#[derive(Clone, Copy)]
+pub enum EditCall {
+    Replace,
+    Redact,
+    TransformRange,
+    Transform,
+    Map,
+    Filter,
+    Append,
+    Prepend,
+    Lowercase,
+    ReplaceByEdits,
+}
 
-pub const FROM_TEXT: u8 = 4;
+// One that publishes a note: clearing answers with two lengths.
+#[derive(Clone, Copy)]
+pub enum PublishingCall {
+    Clear,
+    Edit(EditCall),
+}
 
-pub const CHECK_NOTE: u8 = 5;
+// One on a note.
+#[derive(Clone, Copy)]
+pub enum NoteCall {
+    CheckNote,
+    PublishedAlike,
+    Slice,
+    Split,
+    GetSplits,
+    Range(RangeCall),
+    Pairs(PairsCall),
+    Publishing(PublishingCall),
+}
 
-pub const CONVERT_OFFSETS: u8 = 6;
+#[derive(Clone, Copy)]
+pub enum Call {
+    WellFormed,
+    LetterCount,
+    CharOffsets,
+    FromText,
+    Part,
+    FindMatches,
+    Pieces,
+    OnNote(NoteCall),
+}
 
-pub const GET_RANGE: u8 = 7;
-
-pub const GET_RANGE_ORIGINAL: u8 = 8;
-
-pub const CONVERT_ALL: u8 = 9;
-
-pub const REPLACE: u8 = 10;
-
-pub const PUBLISHED_ALIKE: u8 = 11;
-
-pub const PART: u8 = 12;
-
-pub const FIND_MATCHES: u8 = 13;
-
-pub const REDACT: u8 = 14;
-
-pub const SLICE: u8 = 15;
-
-pub const SPLIT: u8 = 16;
-
-pub const GET_SPLITS: u8 = 17;
-
-pub const PIECES: u8 = 18;
-
-pub const TRANSFORM_RANGE: u8 = 19;
-
-pub const TRANSFORM: u8 = 20;
-
-pub const MAP: u8 = 21;
-
-pub const FILTER: u8 = 22;
-
-pub const APPEND: u8 = 23;
-
-pub const PREPEND: u8 = 24;
-
-pub const CLEAR: u8 = 25;
-
-pub const LOWERCASE: u8 = 26;
-
-pub const REPLACE_BY_EDITS: u8 = 27;
-
-// How many calls there are.
-pub const CALLS: u8 = 28;
+// All of them, in the order of their names in the file `calls`.
+pub const CALLS: [Call; 28] = [
+    Call::WellFormed,
+    Call::LetterCount,
+    Call::CharOffsets,
+    Call::OnNote(NoteCall::Pairs(PairsCall::CharOffsetsAll)),
+    Call::FromText,
+    Call::OnNote(NoteCall::CheckNote),
+    Call::OnNote(NoteCall::Range(RangeCall::ConvertOffsets)),
+    Call::OnNote(NoteCall::Range(RangeCall::GetRange)),
+    Call::OnNote(NoteCall::Range(RangeCall::GetRangeOriginal)),
+    Call::OnNote(NoteCall::Pairs(PairsCall::ConvertAll)),
+    Call::OnNote(NoteCall::Publishing(PublishingCall::Edit(EditCall::Replace))),
+    Call::OnNote(NoteCall::PublishedAlike),
+    Call::Part,
+    Call::FindMatches,
+    Call::OnNote(NoteCall::Publishing(PublishingCall::Edit(EditCall::Redact))),
+    Call::OnNote(NoteCall::Slice),
+    Call::OnNote(NoteCall::Split),
+    Call::OnNote(NoteCall::GetSplits),
+    Call::Pieces,
+    Call::OnNote(NoteCall::Publishing(PublishingCall::Edit(EditCall::TransformRange))),
+    Call::OnNote(NoteCall::Publishing(PublishingCall::Edit(EditCall::Transform))),
+    Call::OnNote(NoteCall::Publishing(PublishingCall::Edit(EditCall::Map))),
+    Call::OnNote(NoteCall::Publishing(PublishingCall::Edit(EditCall::Filter))),
+    Call::OnNote(NoteCall::Publishing(PublishingCall::Edit(EditCall::Append))),
+    Call::OnNote(NoteCall::Publishing(PublishingCall::Edit(EditCall::Prepend))),
+    Call::OnNote(NoteCall::Publishing(PublishingCall::Clear)),
+    Call::OnNote(NoteCall::Publishing(PublishingCall::Edit(EditCall::Lowercase))),
+    Call::OnNote(NoteCall::Publishing(PublishingCall::Edit(EditCall::ReplaceByEdits))),
+];

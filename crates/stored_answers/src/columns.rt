@@ -9,9 +9,8 @@ ghost use Rattle.stored_answers.specs.Framing.{field_of};
 ghost use Rattle.stored_answers.specs.Differences.{number_column, offset_column, numbers_of};
 
 use crate::fields::{field, number};
-use buffers::equality::same_offsets;
-use buffers::{Offset, copy_bytes};
-use checks::least_of_two;
+use buffers::equality::same;
+use buffers::{Offset, copy};
 use note::LIMIT;
 
 // The most elements that a call is passed in one buffer.
@@ -27,13 +26,6 @@ pub fn zeros() -> [Offset; ROOM]
     [0; ROOM]
 }
 
-// A text to fill, likewise.
-pub fn large_buffer() -> [u8; ROOM]
-    ensures { limit + 1 ≡ length result }
-{
-    [0; ROOM]
-}
-
 // A field's bytes at the start of the buffer, as far as there is room; how many.
 pub fn bytes(case: &[u8], index: usize, dst: &mut [u8]) -> usize
     ensures prefix_len { IsPrefixLen result dst.new }
@@ -41,24 +33,24 @@ pub fn bytes(case: &[u8], index: usize, dst: &mut [u8]) -> usize
         dst.new }
 {
     let field = field(case, index);
-    let n = least_of_two(field.len(), dst.len());
-    copy_bytes(&field[..n], dst, 0);
+    let n = field.len().min(dst.len());
+    copy(&field[..n], dst, 0);
     n
 }
 
+// Of `Offset`, and `numbers` of `u32`: a generic function would take the modulus and the cast as parameters, and be no
+// plainer than both.
 pub fn offsets(case: &[u8], index: usize, dst: &mut [Offset]) -> usize
     ensures prefix_len { IsPrefixLen result dst.new }
     ensures laid { Laid (number_column (limit + 1) (length dst.old) (field_of index case.now))
         dst.old 0 result dst.new }
 {
     let field = field(case, index);
-    let n = least_of_two(field.len() / 4, dst.len());
+    let n = (field.len() / 4).min(dst.len());
     let mut last: u64 = 0;
-    let mut i = 0;
-    while i < n {
+    for i in 0..n {
         last = (last + number(field, i * 4) as u64) % (LIMIT as u64 + 1);
         dst[i] = last as Offset;
-        i += 1;
     }
     n
 }
@@ -69,13 +61,11 @@ pub fn numbers(case: &[u8], index: usize, dst: &mut [u32]) -> usize
         dst.old 0 result dst.new }
 {
     let field = field(case, index);
-    let n = least_of_two(field.len() / 4, dst.len());
+    let n = (field.len() / 4).min(dst.len());
     let mut last: u64 = 0;
-    let mut i = 0;
-    while i < n {
+    for i in 0..n {
         last = (last + number(field, i * 4) as u64) % 4294967296;
         dst[i] = last as u32;
-        i += 1;
     }
     n
 }
@@ -86,22 +76,7 @@ pub fn are_offsets(case: &[u8], index: usize, column: &[Offset]) -> bool
 {
     let mut expected = zeros();
     let n = offsets(case, index, &mut expected);
-    same_offsets(column, &expected[..n])
-}
-
-fn same_numbers(a: &[u32], b: &[u32]) -> bool
-    ensures { result ≡ same a.now b.now }
-{
-    if a.len() != b.len() {
-        return false;
-    }
-    let mut ok = true;
-    let mut i = 0;
-    while i < a.len() {
-        ok = ok & (a[i] == b[i]);
-        i += 1;
-    }
-    ok
+    same(column, &expected[..n])
 }
 
 pub fn are_numbers(case: &[u8], index: usize, column: &[u32]) -> bool
@@ -109,5 +84,5 @@ pub fn are_numbers(case: &[u8], index: usize, column: &[u32]) -> bool
 {
     let mut expected = [0; FEW];
     let n = numbers(case, index, &mut expected);
-    same_numbers(column, &expected[..n])
+    same(column, &expected[..n])
 }

@@ -5,7 +5,7 @@ ghost use Rattle.std.specs.Prelude.{◌≡◌, ◌+◌, ◌≤◌, min, length, 
 ghost use Rattle.buffers.specs.Same.{same};
 ghost use Rattle.stored_answers.specs.Framing.{leading_number, field_of, is_number};
 
-use buffers::equality::same_bytes;
+use buffers::equality::same;
 use numbers::little_endian::get_u32_le;
 
 // The number at a byte; 0 where its 4 bytes are not all there.
@@ -27,10 +27,7 @@ pub fn after(list: &[u8], at: usize, n: usize) -> usize
     requires { at ≤ length list.now }
     ensures { result ≡ min (at + n) (length list.now) }
 {
-    if list.len() - at < n {
-        return list.len();
-    }
-    at + n
+    at + n.min(list.len() - at)
 }
 
 // The field of this index; an empty one past the last.
@@ -38,10 +35,8 @@ pub fn field(list: &[u8], index: usize) -> &[u8]
     ensures { result.now ≡ field_of index list.now }
 {
     let mut at = 0;
-    let mut i = 0;
-    while i < index {
+    for _ in 0..index {
         at = after(list, after(list, at, 4), number(list, at) as usize);
-        i += 1;
     }
     let from = after(list, at, 4);
     let to = after(list, from, number(list, at) as usize);
@@ -76,5 +71,5 @@ pub fn is_number(list: &[u8], index: usize, n: u32) -> bool
 pub fn is_text(list: &[u8], index: usize, text: &[u8]) -> bool
     ensures { result ≡ same (field_of index list.now) text.now }
 {
-    same_bytes(field(list, index), text)
+    same(field(list, index), text)
 }

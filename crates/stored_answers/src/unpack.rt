@@ -5,7 +5,7 @@ ghost use Rattle.stored_answers.specs.Counts.{IsPrefixLen};
 ghost use Rattle.stored_answers.specs.Packing.{part_laid, unpacked};
 
 use crate::fields::{after, field, number};
-use buffers::copy_bytes;
+use buffers::copy;
 
 // A part, its times in 4 bytes and then its unit, put into the buffer from `at` on as far as there is room; the byte
 // after it.
@@ -18,14 +18,12 @@ fn lay(part: &[u8], dst: &mut [u8], at: usize) -> usize
     let from = after(part, 0, 4);
     let unit = &part[from..];
     let mut end = at;
-    let mut k: u32 = 0;
-    while k < times {
+    for _ in 0..times {
         if dst.len() - end < unit.len() {
             break;
         }
-        copy_bytes(unit, dst, end);
+        copy(unit, dst, end);
         end += unit.len();
-        k += 1;
     }
     end
 }
@@ -38,10 +36,8 @@ pub fn unpack(packed: &[u8], dst: &mut [u8]) -> usize
 {
     let parts = packed.len() / 8;
     let mut end = 0;
-    let mut k = 0;
-    while k < parts {
+    for k in 0..parts {
         end = lay(field(packed, k), dst, end);
-        k += 1;
     }
     end
 }

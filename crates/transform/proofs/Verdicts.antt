@@ -9,6 +9,7 @@ use native.Mathlib.Omega.{arith}
 use lib.Dec.{leb}
 use lib.ListN.{length, drop}
 use borrow.Author.Tests.{not-true, not-false, le-leb, lt-leb, leb-true}
+use Rattle.std.specs.Prelude.{Result, Ok, Err, Option, Some, None}
 use Rattle.buffers.specs.Splice.{overlay}
 use Rattle.buffers.proofs.Cases.{true-or-false}
 use Rattle.buffers.proofs.Booleans.{and-false-l, and_false_r}
@@ -16,9 +17,7 @@ use Rattle.utf8.specs.Formed.{well_formed, boundary}
 use Rattle.utf8.proofs.Boundaries.{boundary-most}
 use Rattle.note.specs.declared.Refusal.{Refusal}
 use Rattle.note.specs.declared.Refusal.TheVariants.{TooLong, NotBoundary, BadScript, Exhausted, NoRoom, CountMismatch, Misaligned}
-use Rattle.note.specs.declared.Verdict.{Verdict}
-use Rattle.note.specs.declared.Verdict.TheVariants.{Accepted, Refused as Rejected}
-use Rattle.note.specs.Refusals.{order, least, also, verdict}
+use Rattle.note.specs.Refusals.{order, least, also, verdict, Verdict, Accepted}
 use Rattle.note.specs.Notes.{Note, lent, fits, Sound}
 use Rattle.note.specs.Faults.{note_faults}
 use Rattle.note.specs.Rank.{up_to}
@@ -26,18 +25,12 @@ use Rattle.note.proofs.FirstMet.{accepted-meets, unmet, refused-then, accepted-t
 use Rattle.note.proofs.Sound.{length-starts, length-ends, normalized-formed}
 use Rattle.note.proofs.Faults.{accepted-sound}
 use Rattle.convert.specs.declared.Range.{Range}
-use Rattle.convert.specs.declared.Converted.{Converted}
-use Rattle.convert.specs.declared.Converted.TheVariants.{Found, Refused}
 use Rattle.convert.specs.Converting.{start_of, end_of}
 use Rattle.convert.specs.Blocks.{OrderedColumns}
 use Rattle.convert.proofs.Answered.{accepted-columns}
 use Rattle.numbers.specs.Entries.{read_from}
 use Rattle.script.specs.declared.Command.{Command}
 use Rattle.script.specs.Scripts.{commands_of, whole, script_faults}
-use Rattle.transform.specs.declared.Editing.{Editing}
-use Rattle.transform.specs.declared.Editing.TheVariants.{Edited, Refused as Refusing}
-use Rattle.edit_steps.specs.declared.walking.Extent.{Extent}
-use Rattle.edit_steps.specs.declared.walking.Extent.TheVariants.{Size, Starved}
 use Rattle.utf8.specs.Formed.{char_range}
 use Rattle.edit_steps.specs.Edits.{skipped, characters, starved, Edit, first_position, edited, transformed}
 use Rattle.edit_steps.specs.Walking.{Standing, commands_size, measured}
@@ -77,16 +70,16 @@ module _ (most : ℕ) (s : List ℕ) (e : Edit) (room : ℕ) (a : verdict (edit_
 
 -- the edit's part of the verdict, by what the code tests
 module _ (most : ℕ) (s : List ℕ) (e : Edit) (room : ℕ) where
-  pub not-boundary : char_range s e.from e.to ≡ false → Rejected NotBoundary ≡ verdict (edit_faults most s e room)
+  pub not-boundary : char_range s e.from e.to ≡ false → Err NotBoundary ≡ verdict (edit_faults most s e room)
   unfolding verdict
   not-boundary p = rw p
 
-  pub starving : char_range s e.from e.to ≡ true → starved s e.to (first_position s e) e.commands ≡ true → Rejected Exhausted ≡ verdict (edit_faults most s e room)
+  pub starving : char_range s e.from e.to ≡ true → starved s e.to (first_position s e) e.commands ≡ true → Err Exhausted ≡ verdict (edit_faults most s e room)
   unfolding verdict
   starving p f = rw (p, f)
 
   module _ (p : char_range s e.from e.to ≡ true) (f : starved s e.to (first_position s e) e.commands ≡ false) where
-    pub too_large : min most room < length (edited characters s e s) → Rejected NoRoom ≡ verdict (edit_faults most s e room)
+    pub too_large : min most room < length (edited characters s e s) → Err NoRoom ≡ verdict (edit_faults most s e room)
     unfolding verdict
     too_large h = rw (p, f, lt-leb _ _ h)
 
@@ -95,14 +88,14 @@ module _ (most : ℕ) (s : List ℕ) (e : Edit) (room : ℕ) where
     small-enough h = rw (p, f, le-leb _ _ h)
 
 -- what a verdict leaves
-pub refused-rewritten : {v : Verdict} {made : Note} {out starts ends : List ℕ} {k : Refusal} → Rejected k ≡ v → Rewritten v made out starts ends (Refusing k) out starts ends
+pub refused-rewritten : {v : Verdict} {made : Note} {out starts ends : List ℕ} {k : Refusal} → Err k ≡ v → Rewritten v made out starts ends (Err k) out starts ends
 refused-rewritten {made = made} {out} {starts} {ends} e =
     rw (← e) (record { answer = refl; text_is = refl; starts_are = refl; ends_are = refl })
 
 pub accepted-rewritten : {v : Verdict} {made : Note} {out₀ starts₀ ends₀ : List ℕ} {size : ℕ} {out starts ends : List ℕ} → Accepted ≡ v
     → size ≡ length made.normalized → out ≡ overlay made.normalized out₀ → starts ≡ overlay made.starts starts₀
-    → ends ≡ overlay made.ends ends₀ → Rewritten v made out₀ starts₀ ends₀ (Edited size) out starts ends
-accepted-rewritten e long o s t = rw (← e) (record { answer = ap Edited long; text_is = o; starts_are = s; ends_are = t })
+    → ends ≡ overlay made.ends ends₀ → Rewritten v made out₀ starts₀ ends₀ (Ok size) out starts ends
+accepted-rewritten e long o s t = rw (← e) (record { answer = ap Ok long; text_is = o; starts_are = s; ends_are = t })
 
 -- AN EDIT of an accepted note, as the code goes through it
 module _ (most : ℕ) {s starts ends : List ℕ} (ed : Editable s starts ends) (a b skip : ℕ) (cs : List Command) (out₀ starts₀ ends₀ : List ℕ) {t : Bool} (is : t ≡ char_range s a b) where
@@ -112,13 +105,13 @@ module _ (most : ℕ) {s starts ends : List ℕ} (ed : Editable s starts ends) (
   rooms : ℕ
   rooms = least (length out₀) (length starts₀) (length ends₀)
 
-  abbrev Made : Editing → List ℕ → List ℕ → List ℕ → Type 0
+  abbrev Made : Result ℕ Refusal → List ℕ → List ℕ → List ℕ → Type 0
   Made r out starts₁ ends₁ =
       Rewritten (verdict (edit_faults most s (record { from = a; to = b; skip = skip; commands = cs }) (least (length out₀) (length starts₀) (length ends₀))))
       (transformed (lent [] s starts ends 0) (record { from = a; to = b; skip = skip; commands = cs }))
       out₀ starts₀ ends₀ r out starts₁ ends₁
 
-  pub not-placed : not t ≡ true → Made (Refusing NotBoundary) out₀ starts₀ ends₀
+  pub not-placed : not t ≡ true → Made (Err NotBoundary) out₀ starts₀ ends₀
   unfolding e rooms
   not-placed u = refused-rewritten (not-boundary most s e rooms (sym is ∙ not-true t u))
 
@@ -137,13 +130,13 @@ module _ (most : ℕ) {s starts ends : List ℕ} (ed : Editable s starts ends) (
       pub begun-standing : Standing s b p
       begun-standing = rw begun (standing-skipped skip from-standing).0
 
-      module _ {x : Extent} (m : x ≡ measured s b p cs) where
-        pub starved-refused : x ≡ Starved → Made (Refusing Exhausted) out₀ starts₀ ends₀
+      module _ {x : Option ℕ} (m : x ≡ measured s b p cs) where
+        pub starved-refused : x ≡ None → Made (Err Exhausted) out₀ starts₀ ends₀
         unfolding e rooms first_position
         starved-refused st =
             refused-rewritten (starving most s e rooms is-placed (rw (← begun) (measured-starved s b p cs (sym m ∙ st))))
 
-        module _ {size : ℕ} (some : x ≡ Size size) {low room : ℕ} (lowest : low ≡ least (length out₀) (length starts₀) (length ends₀)) (r : room ≡ min most low) where
+        module _ {size : ℕ} (some : x ≡ Some size) {low room : ℕ} (lowest : low ≡ least (length out₀) (length starts₀) (length ends₀)) (r : room ≡ min most low) where
           told : (starved s b p cs ≡ false) × (size ≡ commands_size cs)
           told = measured-size s b p cs (sym m ∙ some)
 
@@ -158,11 +151,11 @@ module _ (most : ℕ) {s starts ends : List ℕ} (ed : Editable s starts ends) (
           unfolding e first_position
           here-fed = rw (← begun) told.0
 
-          pub refused-kept : room < a + (length s - b) → Made (Refusing NoRoom) out₀ starts₀ ends₀
+          pub refused-kept : room < a + (length s - b) → Made (Err NoRoom) out₀ starts₀ ends₀
           unfolding e rooms
           refused-kept h = refused-rewritten (too_large most s e rooms is-placed here-fed (omega (arith, long, lowest, r)))
 
-          pub refused-size : a + (length s - b) ≤ room → room - (a + (length s - b)) < size → Made (Refusing NoRoom) out₀ starts₀ ends₀
+          pub refused-size : a + (length s - b) ≤ room → room - (a + (length s - b)) < size → Made (Err NoRoom) out₀ starts₀ ends₀
           unfolding e rooms
           refused-size k h = refused-rewritten (too_large most s e rooms is-placed here-fed (omega (arith, long, lowest, r)))
 
@@ -181,7 +174,7 @@ module _ (most : ℕ) {s starts ends : List ℕ} (ed : Editable s starts ends) (
                   ends_room = omega (arith, told.1, lowest, r);
                 }
 
-            pub edit-made : {n : ℕ} {out starts₁ ends₁ : List ℕ} → EditLaid s starts ends a b p cs out₀ starts₀ ends₀ n out starts₁ ends₁ → Made (Edited n) out starts₁ ends₁
+            pub edit-made : {n : ℕ} {out starts₁ ends₁ : List ℕ} → EditLaid s starts ends a b p cs out₀ starts₀ ends₀ n out starts₁ ends₁ → Made (Ok n) out starts₁ ends₁
             unfolding e rooms transformed edited first_position
             edit-made {n} {out} {starts₁} {ends₁} d =
                 let fine = small-enough most s e rooms is-placed here-fed (omega (arith, long, lowest, r)) in
@@ -193,15 +186,15 @@ module _ (most : ℕ) (n : Note) (inputs : Refusal → Bool) (low : unmet (drop 
   rest : Refusal → Bool
   rest = edit_faults most n.normalized e (least (length out₀) (length starts₀) (length ends₀))
 
-  abbrev Behind : Editing → List ℕ → List ℕ → List ℕ → Type 0
+  abbrev Behind : Result ℕ Refusal → List ℕ → List ℕ → List ℕ → Type 0
   Behind r out starts ends =
       Rewritten (verdict (also inputs (edit_faults most n.normalized e (least (length out₀) (length starts₀) (length ends₀))))) (transformed n e) out₀ starts₀ ends₀ r out starts ends
 
-  pub inputs-refused : {k : Refusal} → v ≡ Rejected k → Behind (Refusing k) out₀ starts₀ ends₀
+  pub inputs-refused : {k : Refusal} → v ≡ Err k → Behind (Err k) out₀ starts₀ ends₀
   unfolding rest
   inputs-refused is = refused-rewritten (refused-then (up_to CountMismatch) inputs rest low refl judged is)
 
-  pub inputs-accepted : v ≡ Accepted → {d : Edit} → d ≡ e → {r : Editing} {out starts ends : List ℕ}
+  pub inputs-accepted : v ≡ Accepted → {d : Edit} → d ≡ e → {r : Result ℕ Refusal} {out starts ends : List ℕ}
       → Rewritten (verdict (edit_faults most n.normalized d (least (length out₀) (length starts₀) (length ends₀)))) (transformed (lent [] n.normalized n.starts n.ends 0) d) out₀ starts₀ ends₀ r out starts ends
       → Behind r out starts ends
   unfolding rest transformed
@@ -222,35 +215,35 @@ module _ (most : ℕ) (n : Note) {v : Verdict} (noted : v ≡ verdict (note_faul
 
 -- THE CALL, as the code goes through it: note and script
 module _ (most : ℕ) (n : Note) (l : List ℕ) {v : Verdict} (noted : v ≡ verdict (note_faults most n)) where
-  pub note-refused : {k : Refusal} → v ≡ Rejected k → Rejected k ≡ verdict (also (note_faults most n) (script_faults l))
+  pub note-refused : {k : Refusal} → v ≡ Err k → Err k ≡ verdict (also (note_faults most n) (script_faults l))
   note-refused e = refused-then (up_to Misaligned) (note_faults most n) (script_faults l) refl refl noted e
 
   module _ (ok : v ≡ Accepted) {t : Bool} (is : t ≡ whole l) where
-    script-verdict : verdict (script_faults l) ≡ cond t Accepted (Rejected BadScript)
+    script-verdict : verdict (script_faults l) ≡ cond t Accepted (Err BadScript)
     unfolding verdict
     script-verdict = rw (← is) (true-or-false t (λ y. rw y) (λ z. rw z))
 
-    pub script-refused : not t ≡ true → Rejected BadScript ≡ verdict (also (note_faults most n) (script_faults l))
+    pub script-refused : not t ≡ true → Err BadScript ≡ verdict (also (note_faults most n) (script_faults l))
     script-refused u = accepted-then (up_to Misaligned) (note_faults most n) (script_faults l) refl refl noted ok (sym (script-verdict ∙ rw (not-true t u)))
 
     pub script-accepted : not t ≡ false → Accepted ≡ verdict (also (note_faults most n) (script_faults l))
     script-accepted u = accepted-then (up_to Misaligned) (note_faults most n) (script_faults l) refl refl noted ok (sym (script-verdict ∙ rw (not-false t u)))
 
 -- the edit of the range that was found
-pub edit-found : {x y : Converted} {r : Range} {a b : ℕ} (skip : ℕ) (cs : List Command) → x ≡ y → x ≡ Found r → a ≡ start_of r → b ≡ end_of r → record { from = a; to = b; skip = skip; commands = cs } ≡ edit_of y skip cs
+pub edit-found : {x y : Result Range Refusal} {r : Range} {a b : ℕ} (skip : ℕ) (cs : List Command) → x ≡ y → x ≡ Ok r → a ≡ start_of r → b ≡ end_of r → record { from = a; to = b; skip = skip; commands = cs } ≡ edit_of y skip cs
 edit-found skip cs is found from to = rw (sym is ∙ found, from, to)
 
-pub edit-none : {x y : Converted} {k : Refusal} (skip : ℕ) (cs : List Command) → x ≡ y → x ≡ Refused k → record { from = 0; to = 0; skip = 0; commands = commands_of [] } ≡ edit_of y skip cs
+pub edit-none : {x y : Result Range Refusal} {k : Refusal} (skip : ℕ) (cs : List Command) → x ≡ y → x ≡ Err k → record { from = 0; to = 0; skip = 0; commands = commands_of [] } ≡ edit_of y skip cs
 unfolding commands_of read_from
 edit-none skip cs is none = rw (sym is ∙ none)
 
 -- a transcript or a cleaned text over the limit
-pub long-refused : (most : ℕ) (n : Note) → most < length n.original → verdict (note_faults most n) ≡ Rejected TooLong
+pub long-refused : (most : ℕ) (n : Note) → most < length n.original → verdict (note_faults most n) ≡ Err TooLong
 unfolding verdict fits
 long-refused most n h =
     rw (and-false-l _ (leb (n.original_shift + length n.original) most) (and-false-l _ (leb (length n.normalized) most) (lt-leb (length n.original) most h)))
 
-pub long-text-refused : (most : ℕ) (n : Note) → most < length n.normalized → verdict (note_faults most n) ≡ Rejected TooLong
+pub long-text-refused : (most : ℕ) (n : Note) → most < length n.normalized → verdict (note_faults most n) ≡ Err TooLong
 unfolding verdict fits
 long-text-refused most n h =
     rw (and-false-l _ (leb (n.original_shift + length n.original) most) (and_false_r (leb (length n.original) most) _ (lt-leb (length n.normalized) most h)))

@@ -1,27 +1,21 @@
 -- RULES 7: which range a call edits, when it is refused, and what it leaves (Rust: `transform_range`, `transform`).
-use Rattle.std.specs.Prelude.{ℕ, min, ◌≡◌, Bool, true, not, List, [], length}
+use Rattle.std.specs.Prelude.{ℕ, min, ◌≡◌, Bool, true, not, List, [], length, Result, Ok, Err}
 use Rattle.note.specs.declared.Refusal.{Refusal}
 use Rattle.note.specs.declared.Refusal.TheVariants.{NotBoundary, Exhausted}
-use Rattle.note.specs.declared.Verdict.{Verdict}
-use Rattle.note.specs.declared.Verdict.TheVariants.{Accepted}
-use Rattle.note.specs.Refusals.{meets, also, verdict, unless_refused, least, after, OnThree}
+use Rattle.note.specs.Refusals.{meets, also, verdict, unless_refused, least, after, OnThree, Verdict, Accepted}
 use Rattle.note.specs.Notes.{Note, lent, limit, fits, Sound}
 use Rattle.note.specs.Faults.{note_faults, room_faults}
 use Rattle.convert.specs.declared.Range.{Range}
-use Rattle.convert.specs.declared.Converted.{Converted}
-use Rattle.convert.specs.declared.Converted.TheVariants.{Found, Refused}
 use Rattle.convert.specs.Converting.{start_of, end_of, as_normalized, in_original}
 use Rattle.script.specs.declared.Command.{Command}
 use Rattle.script.specs.Scripts.{commands_of, script_faults}
-use Rattle.transform.specs.declared.Editing.{Editing}
-use Rattle.transform.specs.declared.Editing.TheVariants.{Edited, Refused as Refusing}
 use Rattle.utf8.specs.Formed.{char_range}
 use Rattle.edit_steps.specs.Edits.{characters, starved, Edit, edit, first_position, edited, transformed, unchanging}
 
 -- RULES 7.2: the edit of a range as it lies in the cleaned text; where it lies nowhere, the note stays as it is
-abbrev pub edit_of : Converted → ℕ → List Command → Edit
-edit_of (Found r) skip cs = edit (start_of r) (end_of r) skip cs
-edit_of (Refused k) skip cs = unchanging
+abbrev pub edit_of : Result Range Refusal → ℕ → List Command → Edit
+edit_of (Ok r) skip cs = edit (start_of r) (end_of r) skip cs
+edit_of (Err k) skip cs = unchanging
 
 abbrev pub range_edit : Note → Range → ℕ → List Command → Edit
 range_edit n range skip cs = edit_of (as_normalized n.starts n.ends range) skip cs
@@ -35,15 +29,15 @@ edit_faults most s e room =
 
 -- what an edit of a note answers and leaves in the three buffers: the verdict, the note that it makes, the buffers
 -- before, the answer, the buffers after
-pub record Rewritten (says : Verdict) (made : Note) (out₀ starts₀ ends₀ : List ℕ) (r : Editing)
+pub record Rewritten (says : Verdict) (made : Note) (out₀ starts₀ ends₀ : List ℕ) (r : Result ℕ Refusal)
     (out starts ends : List ℕ) : Type 0 where
-  pub answer : r ≡ unless_refused Refusing says (Edited (length made.normalized))
+  pub answer : r ≡ unless_refused Err says (Ok (length made.normalized))
   pub text_is : out ≡ after says made.normalized out₀
   pub starts_are : starts ≡ after says made.starts starts₀
   pub ends_are : ends ≡ after says made.ends ends₀
 
 -- A CALL THAT EDITS A NOTE: its refusals by the room of the buffers, the note and the edit
-abbrev pub EditCall : (ℕ → Refusal → Bool) → Note → Edit → OnThree Editing
+abbrev pub EditCall : (ℕ → Refusal → Bool) → Note → Edit → OnThree (Result ℕ Refusal)
 EditCall faults n e out₀ starts₀ ends₀ =
     Rewritten (verdict (faults (least (length out₀) (length starts₀) (length ends₀)))) (transformed n e)
     out₀ starts₀ ends₀
@@ -52,18 +46,18 @@ EditCall faults n e out₀ starts₀ ends₀ =
 abbrev pub call_faults : ℕ → Note → (Refusal → Bool) → Edit → ℕ → Refusal → Bool
 call_faults most n given e room = also (also (note_faults most n) given) (edit_faults most n.normalized e room)
 
-abbrev pub NoteCall : Note → (Refusal → Bool) → Edit → OnThree Editing
+abbrev pub NoteCall : Note → (Refusal → Bool) → Edit → OnThree (Result ℕ Refusal)
 NoteCall n given e = EditCall (call_faults limit n given e) n e
 
 -- an inner call, after the checks: the transcript plays no part
-abbrev pub TextCall : ℕ → List ℕ → List ℕ → List ℕ → Edit → OnThree Editing
+abbrev pub TextCall : ℕ → List ℕ → List ℕ → List ℕ → Edit → OnThree (Result ℕ Refusal)
 TextCall most s starts ends e = EditCall (edit_faults most s e) (lent [] s starts ends 0) e
 
 -- `transform_range`: the note's refusals and the script's, then the edit's
 abbrev pub script_edit : Note → Range → List ℕ → ℕ → Edit
 script_edit n range script skip = range_edit n range skip (commands_of script)
 
-abbrev pub TransformCall : Note → Range → List ℕ → ℕ → OnThree Editing
+abbrev pub TransformCall : Note → Range → List ℕ → ℕ → OnThree (Result ℕ Refusal)
 TransformCall n range script skip = NoteCall n (script_faults script) (script_edit n range script skip)
 
 -- the whole transcript, which `transform` takes

@@ -104,9 +104,6 @@ pub record EndAhead (s : List ℕ) (i k : ℕ) : Type 0 where
   pub past : i < k
   pub most : k ≤ length s
 
-pub end_none : (s : List ℕ) (i : ℕ) → i < length s → EndAhead s i (i + 1)
-end_none s i h = let back : i + 1 - 1 ≡ i = omega arith in record { here = rw back; past = omega arith; most = omega arith }
-
 pub end-last : {s : List ℕ} {i k : ℕ} → well_formed s ≡ true → EndAhead s i k → length s ≤ k → k ≡ char_end s i
 end-last {s} {i} {k} p w h = let r : Ranged s (k - 1) = ranged s (k - 1) p (omega (arith, w.past, w.most)) in omega (arith, w.here, w.past, w.most, r.past, r.most)
 

@@ -9,11 +9,9 @@ fn block_leads(s: &[u8]) -> u8
     requires { length s.now ≤ 255 }
     ensures { result ≡ leads s.now }
 {
-    let mut n: u8 = 0;
-    let mut i = 0;
-    while i < s.len() {
-        n += (!continues(s[i])) as u8;
-        i += 1;
+    let mut n = 0;
+    for b in s {
+        n += !continues(*b) as u8;
     }
     n
 }
@@ -22,11 +20,10 @@ fn block_leads(s: &[u8]) -> u8
 pub fn count_leads(s: &[u8]) -> usize
     ensures { result ≡ leads s.now }
 {
-    let mut n: usize = 0;
-    let mut i = 0;
-    while i + 128 <= s.len() {
-        n += block_leads(&s[i..i + 128]) as usize;
-        i += 128;
+    let blocks = s.len() / 128;
+    let mut n = 0;
+    for k in 0..blocks {
+        n += block_leads(&s[128 * k..128 * k + 128]) as usize;
     }
-    n + (block_leads(&s[i..]) as usize)
+    n + block_leads(&s[128 * blocks..]) as usize
 }

@@ -5,8 +5,6 @@ ghost use Rattle.utf8.specs.Formed.{announced};
 ghost use Rattle.utf8.specs.Lengths.{CharBegins, CharLen, lead_len};
 ghost use Rattle.utf8.specs.Scalar.{len_utf8};
 
-use buffers::lanes::{max_u8, min_u8, saturating_sub_u8};
-
 // How many bytes a byte announces as a lead byte; 0 where it begins no character (RULES 3.2). To be read beside Table
 // 3-7: one comparison after the other, in the order of the table's rows.
 #[tactic(auto, unfolding(crate::specs::Formed::announced))]
@@ -64,8 +62,8 @@ pub fn lead_len(b: u8) -> usize
 pub fn lead_len_lane(b: u8) -> u8
     ensures { result ≡ lead_len b }
 {
-    let lead = saturating_sub_u8(b / 16, 11);
-    max_u8(lead, min_u8(lead, 1) + 1)
+    let lead = (b / 16).saturating_sub(11);
+    lead.max(lead.min(1) + 1)
 }
 
 // How many bytes a character has; 0 for a number that is no scalar value (Rust: `char::len_utf8`).

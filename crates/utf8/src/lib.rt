@@ -46,6 +46,7 @@ fn is_scalar(c: u32) -> bool
 
 // A scalar value's bytes (the Unicode Standard, Table 3-6): the first `len` of `bytes`, the rest 0.
 // A number that is no scalar value has none.
+// Not std's `char::encode_utf8`: it does not say what the buffer holds after the bytes, and `EncodedAs` does.
 #[derive(Clone, Copy)]
 pub struct Encoded {
     pub len: usize,

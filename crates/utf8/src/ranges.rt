@@ -10,12 +10,10 @@ pub fn char_start(text: &[u8], i: usize) -> usize
     requires { i < length text.now }
     ensures { result ≡ char_start text.now i }
 {
-    let mut k = i;
-    while 0 < k {
+    for k in (1..=i).rev() {
         if !continues(text[k]) {
             return k;
         }
-        k -= 1;
     }
     0
 }
@@ -24,12 +22,10 @@ pub fn char_end(text: &[u8], i: usize) -> usize
     requires { (well_formed text.now ≡ true) × (i < length text.now) }
     ensures { result ≡ char_end text.now i }
 {
-    let mut k = i + 1;
-    while k < text.len() {
+    for k in i + 1..text.len() {
         if !continues(text[k]) {
             return k;
         }
-        k += 1;
     }
-    k
+    text.len()
 }

@@ -10,18 +10,21 @@ use validity_blocks::blocks::{valid_block, valid_four};
 use validity_blocks::bytes::invalid;
 use validity_blocks::extremes::largest;
 
+// A block is as long as a loop over lanes likes, and is judged as a whole before the next.
+const ASCII_BLOCK: usize = 1024;
+
+const BLOCK: usize = 384;
+
 // Whether every byte is below 80 (RULES 3; Rust: `<[u8]>::is_ascii`).
 pub fn is_ascii(s: &[u8]) -> bool
     ensures { result ≡ ascii s.now }
 {
-    let mut i = 0;
-    while 1024 <= s.len() - i {
-        if 0x80 <= largest(&s[i..i + 1024]) {
+    for block in s.chunks(ASCII_BLOCK) {
+        if 0x80 <= largest(block) {
             return false;
         }
-        i += 1024;
     }
-    largest(&s[i..]) < 0x80
+    true
 }
 
 // The byte at `k` of the text after three bytes 0; past its end is 0 too.
@@ -56,12 +59,10 @@ fn valid_between(s: &[u8], from: usize, to: usize) -> bool
     requires { (from ≤ to) × (to ≤ length s.now + 3) }
     ensures { result ≡ valid_from s.now from (to - from) }
 {
-    let mut i = from;
-    while i < to {
+    for i in from..to {
         if !valid_at(s, i) {
             return false;
         }
-        i += 1;
     }
     true
 }
@@ -90,12 +91,12 @@ pub fn well_formed(s: &[u8]) -> bool
     if !valid_between(s, 0, 3) {
         return false;
     }
-    let mut i = 3;
-    while i + 384 <= s.len() {
-        if !valid_block(&s[i - 3..i + 384]) {
+    let blocks = s.len().saturating_sub(3) / BLOCK;
+    for k in 0..blocks {
+        let i = 3 + k * BLOCK;
+        if !valid_block(&s[i - 3..i + BLOCK]) {
             return false;
         }
-        i += 384;
     }
-    valid_rest(s, i)
+    valid_rest(s, 3 + blocks * BLOCK)
 }

@@ -1,7 +1,7 @@
 -- Laws of `pending` and `invalid`: the tests without branches, shorter where there are no long characters.
 -- A byte too far back to lead a long character counts as 0.
 use Rattle.std.proofs.Common.{◌≡◌, ℕ, ◌+◌, ◌-◌, ◌<◌, ◌≤◌, max, Bool, true, false, cond, not, ◌&&◌, ◌||◌, eqb, ltb, leb, sym, refl, ◌∙◌, add-zero, arith, le-ltb, lt-ltb, eq-eqb, ne_eqb, eqb-true, le-leb}
-use mathlib.Core.Bool.{xor, and-true, and-false, or-false, or-true}
+use mathlib.Core.Bool.{xor, and-true, and-false, or-false}
 use mathlib.Mathlib.Data.Bool.Basic.{or-eq-false-eq-eq-false-and-eq-false}
 use borrow.Author.Tests.{lt-leb}
 use Rattle.buffers.proofs.Cases.{clash, true-or-false, le-or-lt}
@@ -231,12 +231,8 @@ standing-near {far} lead b0 e small t =
     (λ h. rw (lt-leb 0xC0 lead h) (le-ltb (0xFF - far) 0x80 (omega arith))))
 
 -- the flag of b0 after b2 and b1, and whether E0 and ED are followed by what they do not have for their second byte
-module _ {b1 b0 m t : ℕ} {f : Bool} (b2 : ℕ) (p1 : LeadBetween 2 0xF0 b1) (p0 : LeadBetween 2 0xF0 b0) (larger : m ≡ max b1 (b2 - 0x20)) (is : f ≡ xor (leb 0xC0 m) (within trail b0)) (added : t ≡ cond (within (bytes 0x80 0x9F) b0) 0x0D 0) where
-  flag-three : (f || eqb (b1 + t) 0xED) ≡ invalid 0 b2 b1 b0
-  flag-three = rw (is, added, three-odd b1 (within (bytes 0x80 0x9F) b0)) (invalid-three b2 p1 p0 larger)
-
-  pub three-if-odd : b1 + t ≡ 0xED → true ≡ invalid 0 b2 b1 b0
-  three-if-odd e = simp (eq-eqb (b1 + t) 0xED e, or-true) at flag-three
-
-  pub three-else : ((b1 + t ≡ 0xED) → ⊥) → f ≡ invalid 0 b2 b1 b0
-  three-else n = simp (ne_eqb (b1 + t) 0xED n, or-false) at flag-three
+pub flag-three : {b1 b0 m t : ℕ} {f : Bool} (b3 b2 : ℕ) → b3 < 0xF0 → LeadBetween 2 0xF0 b1 → LeadBetween 2 0xF0 b0
+    → m ≡ max b1 (b2 - 0x20) → f ≡ xor (leb 0xC0 m) (within trail b0) → t ≡ cond (within (bytes 0x80 0x9F) b0) 0x0D 0
+    → (f || eqb (b1 + t) 0xED) ≡ invalid b3 b2 b1 b0
+flag-three {b1} {b0} b3 b2 p3 p1 p0 larger is added =
+    rw (is, added, three-odd b1 (within (bytes 0x80 0x9F) b0)) (invalid-three b2 p1 p0 larger) ∙ no_third b3 b2 b1 b0 p3

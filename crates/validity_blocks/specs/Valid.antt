@@ -1,5 +1,5 @@
 -- The fast form of well-formedness: a byte is judged by itself and the three before it, so many are judged at once.
-use Rattle.std.specs.Prelude.{ℕ, Bool, not, ◌&&◌, ◌||◌, List, drop, nat_le, nat_lt, slice_index}
+use Rattle.std.specs.Prelude.{ℕ, ◌+◌, ◌<◌, Bool, not, ◌&&◌, ◌||◌, List, length, drop, nat_le, nat_lt, slice_index}
 use Rattle.std.specs.Bool.{xor}
 use Rattle.buffers.specs.Every.{every_below}
 use Rattle.utf8.specs.Formed.{second}
@@ -24,3 +24,9 @@ valid s = not (invalid (slice_index s 0) (slice_index s 1) (slice_index s 2) (sl
 -- each of the n bytes after the first three of s can stand where it does
 unfoldable pub valid_first : List ℕ → ℕ → Bool
 valid_first s n = every_below n (λ i. valid (drop i s))
+
+-- P holds of each byte of s but the first three, and of the three before it
+abbrev pub AtEach : (ℕ → ℕ → ℕ → ℕ → Type 0) → List ℕ → Type 0
+AtEach P s =
+    (j : ℕ) → j + 3 < length s
+    → P (slice_index s j) (slice_index s (j + 1)) (slice_index s (j + 2)) (slice_index s (j + 3))

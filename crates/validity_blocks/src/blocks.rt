@@ -1,29 +1,37 @@
 // A block of the text is judged at once, by the test that its largest byte and its least lead byte ask for: the
 // fewer kinds of characters, the shorter. Each function is an inner one: a block begins with the three bytes before it.
-ghost use Rattle.std.specs.Prelude.{◌≡◌, ◌-◌, ◌<◌, ◌≤◌, length};
+ghost use Rattle.std.specs.Prelude.{◌≡◌, Bool, ◌-◌, ◌<◌, ◌≤◌, length};
 ghost use Rattle.validity_blocks.specs.Extremes.{largest, least_lead};
-ghost use Rattle.validity_blocks.specs.Valid.{valid_first};
+ghost use Rattle.validity_blocks.specs.Valid.{AtEach, invalid, valid_first};
 
-use crate::bytes::{invalid, invalid_plain_four, standing_plain, standing_three, standing_two};
-use crate::extremes::bounds_of;
-use buffers::lanes::{max_u8, min_u8};
+use crate::bytes::{invalid, invalid_plain, invalid_plain_four, invalid_three, invalid_two};
+use crate::extremes::{Bounds, bounds_of};
 
-// Whether each byte of `s` but the first three can stand where it does.
-// The parts are cut once: read at one index, they are loaded apart.
-pub fn valid_four(s: &[u8]) -> bool
-    requires { 3 ≤ length s.now }
+// Whether each byte of `s` but the first three can stand where it does, by a test that tells where one cannot.
+// No way out stands in the loop, so that it is vectorised. The parts are cut once: read at one index, they are loaded
+// apart.
+fn all_stand<F: Fn(u8, u8, u8, u8) -> bool>(s: &[u8], cannot: F) -> bool
+    requires long { 3 ≤ length s.now }
+    requires callable { AtEach (F.pre cannot) s.now }
+    requires tells { AtEach (λ b3 b2 b1 b0. (bad : Bool) → F.post cannot b3 b2 b1 b0 bad → bad ≡ invalid b3 b2 b1 b0) s.now }
     ensures { result ≡ valid_first s.now (length s.now - 3) }
 {
     let s2 = &s[1..];
     let s1 = &s[2..];
     let s0 = &s[3..];
     let mut bad = false;
-    let mut j = 0;
-    while j < s0.len() {
-        bad = bad | invalid(s[j], s2[j], s1[j], s0[j]);
-        j += 1;
+    for j in 0..s0.len() {
+        bad = bad | cannot(s[j], s2[j], s1[j], s0[j]);
     }
     !bad
+}
+
+// Whether each byte of `s` but the first three can stand where it does.
+pub fn valid_four(s: &[u8]) -> bool
+    requires { 3 ≤ length s.now }
+    ensures { result ≡ valid_first s.now (length s.now - 3) }
+{
+    all_stand(s, invalid)
 }
 
 // `valid_four` of bytes without C0, C1 and characters of four bytes.
@@ -31,16 +39,7 @@ fn valid_three(s: &[u8]) -> bool
     requires { (3 ≤ length s.now) × (largest s.now < 0xF0) × (2 ≤ least_lead s.now) }
     ensures { result ≡ valid_first s.now (length s.now - 3) }
 {
-    let s2 = &s[1..];
-    let s1 = &s[2..];
-    let s0 = &s[3..];
-    let mut flag: u8 = 0xFF;
-    let mut j = 0;
-    while j < s0.len() {
-        flag = min_u8(flag, standing_three(s2[j], s1[j], s0[j]));
-        j += 1;
-    }
-    0x80 <= flag
+    all_stand(s, invalid_three)
 }
 
 // `valid_four` of bytes without C0, C1 and characters of three or four bytes.
@@ -48,15 +47,7 @@ fn valid_two(s: &[u8]) -> bool
     requires { (3 ≤ length s.now) × (largest s.now < 0xE0) × (2 ≤ least_lead s.now) }
     ensures { result ≡ valid_first s.now (length s.now - 3) }
 {
-    let s1 = &s[2..];
-    let s0 = &s[3..];
-    let mut flag: u8 = 0xFF;
-    let mut j = 0;
-    while j < s0.len() {
-        flag = min_u8(flag, standing_two(s1[j], s0[j]));
-        j += 1;
-    }
-    0x80 <= flag
+    all_stand(s, invalid_two)
 }
 
 // `valid_four` where every lead byte is between E1 and EC.
@@ -64,16 +55,7 @@ fn valid_plain(s: &[u8]) -> bool
     requires { (3 ≤ length s.now) × (largest s.now < 0xED) × (0x21 ≤ least_lead s.now) }
     ensures { result ≡ valid_first s.now (length s.now - 3) }
 {
-    let s2 = &s[1..];
-    let s1 = &s[2..];
-    let s0 = &s[3..];
-    let mut flag: u8 = 0xFF;
-    let mut j = 0;
-    while j < s0.len() {
-        flag = min_u8(flag, standing_plain(s2[j], s1[j], s0[j]));
-        j += 1;
-    }
-    0x80 <= flag
+    all_stand(s, invalid_plain)
 }
 
 // `valid_four` where every lead byte is between E1 and F3.
@@ -81,16 +63,20 @@ fn valid_plain_four(s: &[u8]) -> bool
     requires { (3 ≤ length s.now) × (largest s.now < 0xF4) × (0x21 ≤ least_lead s.now) }
     ensures { result ≡ valid_first s.now (length s.now - 3) }
 {
-    let s2 = &s[1..];
-    let s1 = &s[2..];
-    let s0 = &s[3..];
-    let mut bad = false;
-    let mut j = 0;
-    while j < s0.len() {
-        bad = bad | invalid_plain_four(s[j], s2[j], s1[j], s0[j]);
-        j += 1;
+    all_stand(s, invalid_plain_four)
+}
+
+// The bounds of a block: of its first three bytes, and of the rest, which is as long as a loop over lanes likes.
+fn block_bounds(s: &[u8]) -> Bounds
+    requires { 3 ≤ length s.now }
+    ensures { (result.most ≡ largest s.now) × (result.least ≡ least_lead s.now) }
+{
+    let front = bounds_of(&s[..3]);
+    let back = bounds_of(&s[3..]);
+    Bounds {
+        most: front.most.max(back.most),
+        least: front.least.min(back.least),
     }
-    !bad
 }
 
 // Whether each byte of `s` but the first three can stand where it does, by the test that the largest byte and the
@@ -99,31 +85,24 @@ pub fn valid_block(s: &[u8]) -> bool
     requires { 3 ≤ length s.now }
     ensures { result ≡ valid_first s.now (length s.now - 3) }
 {
-    let front = bounds_of(&s[..3]);
-    let back = bounds_of(&s[3..]);
-    let most = max_u8(front.most, back.most);
+    let Bounds { most, least } = block_bounds(s);
     if most < 0x80 {
         return true;
     }
-    let least = min_u8(front.least, back.least);
     if least < 2 {
         return valid_four(s);
     }
     if most < 0xE0 {
         return valid_two(s);
     }
-    if most < 0xED {
-        if 0x21 <= least {
-            return valid_plain(s);
-        }
+    if most < 0xED && 0x21 <= least {
+        return valid_plain(s);
     }
     if most < 0xF0 {
         return valid_three(s);
     }
-    if most < 0xF4 {
-        if 0x21 <= least {
-            return valid_plain_four(s);
-        }
+    if most < 0xF4 && 0x21 <= least {
+        return valid_plain_four(s);
     }
     valid_four(s)
 }

@@ -2,17 +2,13 @@
 ghost use Rattle.std.specs.Prelude.{◌≡◌};
 ghost use Rattle.validity_blocks.specs.Extremes.{largest, least_lead};
 
-use buffers::lanes::{max_u8, min_u8};
-
 // The largest byte, or 0.
 pub fn largest(s: &[u8]) -> u8
     ensures { result ≡ largest s.now }
 {
     let mut most: u8 = 0;
-    let mut i = 0;
-    while i < s.len() {
-        most = max_u8(most, s[i]);
-        i += 1;
+    for b in s {
+        most = most.max(*b);
     }
     most
 }
@@ -31,11 +27,9 @@ pub fn bounds_of(s: &[u8]) -> Bounds
 {
     let mut most: u8 = 0;
     let mut least: u8 = 0x40;
-    let mut i = 0;
-    while i < s.len() {
-        most = max_u8(most, s[i]);
-        least = min_u8(least, std::num::wrapping_add_u8(s[i], 0x40));
-        i += 1;
+    for b in s {
+        most = most.max(*b);
+        least = least.min(b.wrapping_add(0x40));
     }
     Bounds { most, least }
 }

@@ -7,13 +7,12 @@ use native.Mathlib.Omega.{arith}
 use lib.Dec.{eqb}
 use lib.ListN.{length, drop, get_or, drop_of_length-le}
 use borrow.Author.Tests.{eq-eqb, ne_eqb, le-leb, lt-leb}
+use Rattle.std.specs.Prelude.{Err}
 use Rattle.buffers.specs.Splice.{part}
 use Rattle.utf8.specs.Formed.{well_formed}
 use Rattle.note.specs.Notes.{limit}
-use Rattle.note.specs.Refusals.{verdict}
+use Rattle.note.specs.Refusals.{verdict, Verdict, Accepted}
 use Rattle.note.specs.declared.Refusal.TheVariants.{IllFormed, TooLong, LengthMismatch}
-use Rattle.note.specs.declared.Verdict.{Verdict}
-use Rattle.note.specs.declared.Verdict.TheVariants.{Accepted, Refused}
 use Rattle.word_pairs.specs.Words.{words_of, total, even_words, all_formed, word_faults}
 use Rattle.word_pairs.specs.Judging.{words_judged}
 use Rattle.word_pairs.proofs.Words.{words-at, total-at}
@@ -47,7 +46,7 @@ module _ {bytes sizes : List ℕ} {formed : Bool} {at i : ℕ} (j : Judging byte
             ∙ j.formed_is;
       }
 
-  pub words-short : length bytes - at < get_or sizes i 0 → Refused LengthMismatch ≡ words_judged bytes sizes
+  pub words-short : length bytes - at < get_or sizes i 0 → Err LengthMismatch ≡ words_judged bytes sizes
   unfolding words_judged
   words-short less = rw (ne_eqb (total sizes) (length bytes) (λ e. absurd (omega (arith, j.most, j.total_is, total-at bytes sizes at i h, e))))
 
@@ -64,7 +63,7 @@ module _ {bytes sizes : List ℕ} {formed : Bool} {at i : ℕ} (j : Judging byte
   unfolding all_formed words_of
   all-formed = sym (and-true formed) ∙ ap (λ (ss : List ℕ). formed && all_formed (words_of (drop at bytes) ss)) (sym (drop_of_length-le sizes h)) ∙ j.formed_is
 
-  pub words_long : at < length bytes → Refused LengthMismatch ≡ words_judged bytes sizes
+  pub words_long : at < length bytes → Err LengthMismatch ≡ words_judged bytes sizes
   unfolding words_judged
   words_long more = rw (ne_eqb (total sizes) (length bytes) (λ e. absurd (omega (arith, all-total, e))))
 
@@ -72,7 +71,7 @@ module _ {bytes sizes : List ℕ} {formed : Bool} {at i : ℕ} (j : Judging byte
     whole : eqb (total sizes) (length bytes) ≡ true
     whole = eq-eqb (total sizes) (length bytes) (omega (arith, all-total, j.most))
 
-    pub words-torn : formed ≡ false → Refused IllFormed ≡ words_judged bytes sizes
+    pub words-torn : formed ≡ false → Err IllFormed ≡ words_judged bytes sizes
     unfolding words_judged
     words-torn is = rw (whole, ← all-formed, is)
 
@@ -80,19 +79,19 @@ module _ {bytes sizes : List ℕ} {formed : Bool} {at i : ℕ} (j : Judging byte
     unfolding words_judged
     words-formed is = rw (whole, ← all-formed, is)
 
-both-judged : (x y : Bool) → cond x (cond y Accepted (Refused IllFormed)) (Refused LengthMismatch) ≡ cond (not x) (Refused LengthMismatch) (cond (not y) (Refused IllFormed) Accepted)
+both-judged : (x y : Bool) → cond x (cond y Accepted (Err IllFormed)) (Err LengthMismatch) ≡ cond (not x) (Err LengthMismatch) (cond (not y) (Err IllFormed) Accepted)
 both-judged true true = refl
 both-judged true false = refl
 both-judged false y = refl
 
 -- the number of sizes, judged before
 module _ (bytes sizes : List ℕ) where
-  pub many-refused : 2 * limit < length sizes → Refused TooLong ≡ verdict (word_faults limit bytes sizes)
+  pub many-refused : 2 * limit < length sizes → Err TooLong ≡ verdict (word_faults limit bytes sizes)
   unfolding verdict
   many-refused h = rw (lt-leb (length sizes) (2 * limit) h)
 
   module _ (few : length sizes ≤ 2 * limit) where
-    pub odd_refused : (length sizes % 2 ≡ 0 → ⊥) → Refused LengthMismatch ≡ verdict (word_faults limit bytes sizes)
+    pub odd_refused : (length sizes % 2 ≡ 0 → ⊥) → Err LengthMismatch ≡ verdict (word_faults limit bytes sizes)
     unfolding verdict even_words
     odd_refused h = rw (le-leb (length sizes) (2 * limit) few, ne_eqb (length sizes % 2) 0 h)
 

@@ -1,5 +1,5 @@
 -- RULES 15.10: how often the literals, or the fillers, of a list of pairs are in a text.
-use Rattle.std.specs.Prelude.{ℕ, ◌+◌, ◌-◌, ◌/◌, ◌≤◌, ◌≡◌, true, cond, List, [], ◌∷◌, map, eqb, length}
+use Rattle.std.specs.Prelude.{ℕ, ◌-◌, ◌/◌, ◌≤◌, ◌≡◌, ◌==◌, true, List, map, count_by, length}
 use Rattle.note.specs.Notes.{limit}
 use Rattle.find.specs.Matching.{found_places}
 use Rattle.redact_note.specs.Redacting.{match_count}
@@ -18,9 +18,8 @@ unfoldable pub word_counts : Word → List ℕ → List Pair → List ℕ
 word_counts which text ps = map (λ p. match_count (found_places text (word_in which p))) ps
 
 -- how many numbers are 0, and how many are not
-unfoldable pub zero_count : List ℕ → ℕ
-zero_count [] = 0
-zero_count (x ∷ xs) = cond (eqb x 0) 1 0 + zero_count xs
+abbrev pub zero_count : List ℕ → ℕ
+zero_count xs = count_by (λ x. x == 0) xs
 
 abbrev pub some_count : List ℕ → ℕ
 some_count xs = length xs - zero_count xs

@@ -13,7 +13,7 @@ ghost use Rattle.word_pairs.specs.Counts.{Countable, word_counts, word_in, zero_
 ghost use Rattle.word_pairs.specs.Judging.{words_judged};
 
 use find::search::first_match;
-use note::{LIMIT, Refusal, Verdict};
+use note::{LIMIT, Refusal};
 use redact_note::count_matches;
 use validity::well_formed;
 
@@ -25,40 +25,38 @@ pub enum Word {
 }
 
 // Whether the sizes add up to all the bytes, and each word is UTF-8.
-fn judge_words(bytes: &[u8], sizes: &[u32]) -> Verdict
+fn judge_words(bytes: &[u8], sizes: &[u32]) -> Result<(), Refusal>
     ensures { result ≡ words_judged bytes.now sizes.now }
 {
     let mut formed = true;
     let mut at = 0;
-    let mut i = 0;
-    while i < sizes.len() {
-        let size = sizes[i] as usize;
+    for size in sizes {
+        let size = *size as usize;
         if bytes.len() - at < size {
-            return Verdict::Refused(Refusal::LengthMismatch);
+            return Err(Refusal::LengthMismatch);
         }
         let end = at + size;
         formed = formed & well_formed(&bytes[at..end]);
         at = end;
-        i += 1;
     }
     if at < bytes.len() {
-        return Verdict::Refused(Refusal::LengthMismatch);
+        return Err(Refusal::LengthMismatch);
     }
     if !formed {
-        return Verdict::Refused(Refusal::IllFormed);
+        return Err(Refusal::IllFormed);
     }
-    Verdict::Accepted
+    Ok(())
 }
 
 // Whether these are pairs. It judges, in this order: `TooLong`, `LengthMismatch`, `IllFormed`.
-pub fn check_words(bytes: &[u8], sizes: &[u32]) -> Verdict
+pub fn check_words(bytes: &[u8], sizes: &[u32]) -> Result<(), Refusal>
     ensures { result ≡ verdict (word_faults limit bytes.now sizes.now) }
 {
     if 2 * LIMIT < sizes.len() {
-        return Verdict::Refused(Refusal::TooLong);
+        return Err(Refusal::TooLong);
     }
     if sizes.len() % 2 != 0 {
-        return Verdict::Refused(Refusal::LengthMismatch);
+        return Err(Refusal::LengthMismatch);
     }
     judge_words(bytes, sizes)
 }
@@ -93,13 +91,11 @@ pub fn count_words(text: &[u8], bytes: &[u8], sizes: &[u32], which: Word, column
         column.old }
 {
     let mut at = 0;
-    let mut k = 0;
-    while k < sizes.len() / 2 {
+    for k in 0..sizes.len() / 2 {
         let middle = at + sizes[2 * k] as usize;
         let end = middle + sizes[2 * k + 1] as usize;
         column[k] = count_pair(text, bytes, at, middle, end, which);
         at = end;
-        k += 1;
     }
 }
 
@@ -110,13 +106,5 @@ const NONE: u32 = 0;
 pub fn zeros(column: &[u32]) -> usize
     ensures { result ≡ zero_count column.now }
 {
-    let mut count = 0;
-    let mut i = 0;
-    while i < column.len() {
-        if column[i] == NONE {
-            count += 1;
-        }
-        i += 1;
-    }
-    count
+    column.iter().filter(|x| **x == NONE).count()
 }

@@ -8,31 +8,31 @@ use Rattle.edits.specs.Whole.{AppendCall, ClearCall, FilterCall, MapCall, Prepen
 use Rattle.lowercase.specs.Lowering.{LowercaseCall}
 use Rattle.zulmyren.specs.declared.answers.Written.{Written}
 use Rattle.zulmyren.specs.declared.answers.Lengths.{Lengths}
-use Rattle.zulmyren.specs.Calls.{cleared_of, edited_of}
+use Rattle.zulmyren.specs.Calls.{cleared_of, written_of}
 use Rattle.zulmyren.specs.Promised.{ToldThree}
 
 -- a range, a script, an initial offset
 abbrev pub TransformTold : Note → Range → List ℕ → ℕ → OnThree Written
-TransformTold n range script offset = ToldThree edited_of (TransformCall n range script offset)
+TransformTold n range script offset = ToldThree written_of (TransformCall n range script offset)
 
 -- code points
 abbrev pub MapTold : Note → List ℕ → OnThree Written
-MapTold n codes = ToldThree edited_of (MapCall n codes)
+MapTold n codes = ToldThree written_of (MapCall n codes)
 
 -- flags
 abbrev pub FilterTold : Note → List ℕ → OnThree Written
-FilterTold n flags = ToldThree edited_of (FilterCall n flags)
+FilterTold n flags = ToldThree written_of (FilterCall n flags)
 
 -- a string
 abbrev pub AppendTold : Note → List ℕ → OnThree Written
-AppendTold n string = ToldThree edited_of (AppendCall n string)
+AppendTold n string = ToldThree written_of (AppendCall n string)
 
 abbrev pub PrependTold : Note → List ℕ → OnThree Written
-PrependTold n string = ToldThree edited_of (PrependCall n string)
+PrependTold n string = ToldThree written_of (PrependCall n string)
 
 -- nothing; of `clear` the answer has two lengths
 abbrev pub LowercaseTold : Note → OnThree Written
-LowercaseTold n = ToldThree edited_of (LowercaseCall n)
+LowercaseTold n = ToldThree written_of (LowercaseCall n)
 
 abbrev pub ClearTold : Note → OnThree Lengths
 ClearTold n = ToldThree cleared_of (ClearCall n)

@@ -23,7 +23,7 @@ use Rattle.zulmyren.specs.declared.answers.BlankedAll.{BlankedAll}
 use Rattle.zulmyren.specs.declared.answers.Cut.{Cut}
 use Rattle.zulmyren.specs.declared.answers.Slice.{Slice}
 use Rattle.zulmyren.specs.declared.answers.Written.{Written}
-use Rattle.zulmyren.specs.Calls.{Told, all_blanked_of, blanked_of, cut_numbers, published_of, slice_numbers, splits_numbers}
+use Rattle.zulmyren.specs.Calls.{Told, all_blanked_of, blanked_of, cut_numbers, written_of, slice_numbers}
 
 -- a contract on three buffers, its answer told in numbers
 abbrev pub ToldThree : {A N : Type 0} → (A → N) → OnThree A → OnThree N
@@ -39,13 +39,13 @@ ConvertAllCall n side from to = ToldThree answer_of (ConvertedList limit n side 
 
 -- a note, a list, a content
 abbrev pub ReplaceCall : Note → List ℕ → List ℕ → OnThree Written
-ReplaceCall n list content = ToldThree published_of (Replacing limit n list content)
+ReplaceCall n list content = ToldThree written_of (Replacing limit n list content)
 
 -- a note, a list, a content; three buffers, and two sets of scratch
 abbrev pub ReplaceByEditsCall : Note → List ℕ → List ℕ → List ℕ → List ℕ → List ℕ → Scratch → Scratch
     → Written → List ℕ → List ℕ → List ℕ → Scratch → Scratch → Type 0
 ReplaceByEditsCall n list content out₀ starts₀ ends₀ a₀ b₀ r out starts ends a b =
-    Told published_of (λ v. ReplacingByEdits limit n list content out₀ starts₀ ends₀ a₀ b₀ v out starts ends a b) r
+    Told written_of (λ v. ReplacingByEdits limit n list content out₀ starts₀ ends₀ a₀ b₀ v out starts ends a b) r
 
 -- a text, a literal, a content
 abbrev pub RedactCall : List ℕ → List ℕ → List ℕ → OnThree Blanked
@@ -74,4 +74,4 @@ SplitCall n list behavior empty c₀ r c = Told cut_numbers (λ v. Splitting lim
 abbrev pub GetSplitsCall : Note → List ℕ → SplitDelimiterBehavior → OffsetReferential → OffsetType
     → List ℕ → List ℕ → Written → List ℕ → List ℕ → Type 0
 GetSplitsCall n list behavior side unit starts₀ ends₀ r starts ends =
-    Told splits_numbers (λ v. GetSplits limit n list behavior side unit starts₀ ends₀ v starts ends) r
+    Told written_of (λ v. GetSplits limit n list behavior side unit starts₀ ends₀ v starts ends) r

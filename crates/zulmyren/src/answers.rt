@@ -1,22 +1,13 @@
-// What exported calls answer: plain numbers, and the refusal's number beside them, 0 where the call accepts.
+// What exported calls answer: plain numbers, and the refusal's number beside them, 0 where the call accepts. The structs
+// keep that form for the C interface.
 ghost use Rattle.std.specs.Prelude.{◌≡◌};
 ghost use Rattle.zulmyren.specs.Calls.{all_blanked_of, blanked_of, chars_of, cleared_of, compared_of, cut_numbers};
-ghost use Rattle.zulmyren.specs.Calls.{edited_of, letters_of, listed_of, offsets_of, published_of, slice_numbers};
-ghost use Rattle.zulmyren.specs.Calls.{splits_numbers};
+ghost use Rattle.zulmyren.specs.Calls.{letters_of, offsets_of, slice_numbers, written_of};
 
-use char_offsets::CharOffsets;
-use char_offsets::letters::LetterCount;
-use convert::{Converted, end_of, start_of};
-use edits::Clearing;
-use find::Matches;
-use note::verdicts::number;
-use redact_all::Redactions;
-use redact_note::Redaction;
-use replace::Publication;
-use slice::Sliced;
-use split::Pieces;
-use split_offsets::Splits;
-use transform::Editing;
+use convert::{Range, end_of, start_of};
+use note::{CharIndex, Refusal};
+use redact_all::Report;
+use slice::NoteSlice;
 
 // A count, 0 where the call is refused.
 #[repr(C)]
@@ -102,209 +93,187 @@ pub struct BlankedAll {
     pub fillers_found: usize,
 }
 
-pub fn edited_to_c(answer: Editing) -> Written
-    ensures { result ≡ edited_of answer }
-{
-    match answer {
-        Editing::Edited(len) => Written { refusal: 0, len },
-        Editing::Refused(k) => Written {
-            refusal: number(k),
-            len: 0,
-        },
-    }
-}
+impl From<Result<usize, Refusal>> for Written {
+    ghost from_gives = { λ answer it. it ≡ written_of answer };
 
-pub fn cleared_to_c(answer: Clearing) -> Lengths
-    ensures { result ≡ cleared_of answer }
-{
-    match answer {
-        Clearing::Cleared(before_len, len) => Lengths {
-            refusal: 0,
-            before_len,
-            len,
-        },
-        Clearing::Refused(k) => Lengths {
-            refusal: number(k),
-            before_len: 0,
-            len: 0,
-        },
-    }
-}
-
-pub fn letters_to_c(answer: LetterCount) -> Count
-    ensures { result ≡ letters_of answer }
-{
-    match answer {
-        LetterCount::Letters(count) => Count { refusal: 0, count },
-        LetterCount::Refused(k) => Count {
-            refusal: number(k),
-            count: 0,
-        },
-    }
-}
-
-pub fn published_to_c(answer: Publication) -> Written
-    ensures { result ≡ published_of answer }
-{
-    match answer {
-        Publication::Published(len) => Written { refusal: 0, len },
-        Publication::Refused(k) => Written {
-            refusal: number(k),
-            len: 0,
-        },
-    }
-}
-
-pub fn blanked_to_c(answer: Redaction) -> Blanked
-    ensures { result ≡ blanked_of answer }
-{
-    match answer {
-        Redaction::Published(len, matches) => Blanked {
-            refusal: 0,
-            len,
-            matches,
-        },
-        Redaction::Refused(k) => Blanked {
-            refusal: number(k),
-            len: 0,
-            matches: 0,
-        },
-    }
-}
-
-pub fn all_blanked_to_c(answer: Redactions) -> BlankedAll
-    ensures { result ≡ all_blanked_of answer }
-{
-    match answer {
-        Redactions::Published(report) => BlankedAll {
-            refusal: 0,
-            len: report.len,
-            not_found: report.not_found,
-            left: report.left,
-            fillers_found: report.fillers_found,
-        },
-        Redactions::Refused(k) => BlankedAll {
-            refusal: number(k),
-            len: 0,
-            not_found: 0,
-            left: 0,
-            fillers_found: 0,
-        },
-    }
-}
-
-pub fn chars_to_c(answer: CharOffsets) -> Offsets
-    ensures { result ≡ chars_of answer }
-{
-    match answer {
-        CharOffsets::Chars(first, last) => Offsets {
-            refusal: 0,
-            start: first.0,
-            end: last.0,
-        },
-        CharOffsets::Refused(k) => Offsets {
-            refusal: number(k),
-            start: 0,
-            end: 0,
-        },
-    }
-}
-
-pub fn range_to_c(answer: Converted) -> Offsets
-    ensures { result ≡ offsets_of answer }
-{
-    match answer {
-        Converted::Found(range) => Offsets {
-            refusal: 0,
-            start: start_of(range),
-            end: end_of(range),
-        },
-        Converted::Refused(k) => Offsets {
-            refusal: number(k),
-            start: 0,
-            end: 0,
-        },
-    }
-}
-
-pub fn list_to_c(answer: Matches) -> Written
-    ensures { result ≡ listed_of answer }
-{
-    match answer {
-        Matches::Written(len) => Written { refusal: 0, len },
-        Matches::Refused(k) => Written {
-            refusal: number(k),
-            len: 0,
-        },
-    }
-}
-
-pub fn comparison_to_c(answer: published_alike::Comparison) -> Comparison
-    ensures { result ≡ compared_of answer }
-{
-    match answer {
-        published_alike::Comparison::Compared(alike) => Comparison { refusal: 0, alike },
-        published_alike::Comparison::Refused(k) => Comparison {
-            refusal: number(k),
-            alike: false,
-        },
-    }
-}
-
-pub fn slice_to_c(answer: Sliced) -> Slice
-    ensures { result ≡ slice_numbers answer }
-{
-    match answer {
-        Sliced::Cut(s) => {
-            let original_start = s.original_start;
-            let original_end = s.original_end;
-            let normalized_start = s.normalized_start;
-            let normalized_end = s.normalized_end;
-            Slice {
-                refusal: 0,
-                original_start: original_start.0,
-                original_end: original_end.0,
-                normalized_start: normalized_start.0,
-                normalized_end: normalized_end.0,
-                original_shift: s.original_shift,
-            }
+    fn from(answer: Result<usize, Refusal>) -> Written {
+        match answer {
+            Ok(len) => Written { refusal: 0, len },
+            Err(k) => Written {
+                refusal: u32::from(k),
+                len: 0,
+            },
         }
-        Sliced::Refused(k) => Slice {
-            refusal: number(k),
-            original_start: 0,
-            original_end: 0,
-            normalized_start: 0,
-            normalized_end: 0,
-            original_shift: 0,
-        },
     }
 }
 
-pub fn cut_to_c(answer: Pieces) -> Cut
-    ensures { result ≡ cut_numbers answer }
-{
-    match answer {
-        Pieces::Cut(len, alignments_len) => Cut {
-            refusal: 0,
-            len,
-            alignments_len,
-        },
-        Pieces::Refused(k) => Cut {
-            refusal: number(k),
-            len: 0,
-            alignments_len: 0,
-        },
+impl From<Result<(usize, usize), Refusal>> for Lengths {
+    ghost from_gives = { λ answer it. it ≡ cleared_of answer };
+
+    fn from(answer: Result<(usize, usize), Refusal>) -> Lengths {
+        match answer {
+            Ok((before_len, len)) => Lengths {
+                refusal: 0,
+                before_len,
+                len,
+            },
+            Err(k) => Lengths {
+                refusal: u32::from(k),
+                before_len: 0,
+                len: 0,
+            },
+        }
     }
 }
 
-pub fn splits_to_c(answer: Splits) -> Written
-    ensures { result ≡ splits_numbers answer }
-{
-    match answer {
-        Splits::Listed(len) => Written { refusal: 0, len },
-        Splits::Refused(k) => Written {
-            refusal: number(k),
-            len: 0,
-        },
+impl From<Result<u32, Refusal>> for Count {
+    ghost from_gives = { λ answer it. it ≡ letters_of answer };
+
+    fn from(answer: Result<u32, Refusal>) -> Count {
+        match answer {
+            Ok(count) => Count { refusal: 0, count },
+            Err(k) => Count {
+                refusal: u32::from(k),
+                count: 0,
+            },
+        }
+    }
+}
+
+impl From<Result<(usize, usize), Refusal>> for Blanked {
+    ghost from_gives = { λ answer it. it ≡ blanked_of answer };
+
+    fn from(answer: Result<(usize, usize), Refusal>) -> Blanked {
+        match answer {
+            Ok((len, matches)) => Blanked {
+                refusal: 0,
+                len,
+                matches,
+            },
+            Err(k) => Blanked {
+                refusal: u32::from(k),
+                len: 0,
+                matches: 0,
+            },
+        }
+    }
+}
+
+impl From<Result<Report, Refusal>> for BlankedAll {
+    ghost from_gives = { λ answer it. it ≡ all_blanked_of answer };
+
+    fn from(answer: Result<Report, Refusal>) -> BlankedAll {
+        match answer {
+            Ok(report) => BlankedAll {
+                refusal: 0,
+                len: report.len,
+                not_found: report.not_found,
+                left: report.left,
+                fillers_found: report.fillers_found,
+            },
+            Err(k) => BlankedAll {
+                refusal: u32::from(k),
+                len: 0,
+                not_found: 0,
+                left: 0,
+                fillers_found: 0,
+            },
+        }
+    }
+}
+
+impl From<Result<(CharIndex, CharIndex), Refusal>> for Offsets {
+    ghost from_gives = { λ answer it. it ≡ chars_of answer };
+
+    fn from(answer: Result<(CharIndex, CharIndex), Refusal>) -> Offsets {
+        match answer {
+            Ok((first, last)) => Offsets {
+                refusal: 0,
+                start: first.0,
+                end: last.0,
+            },
+            Err(k) => Offsets {
+                refusal: u32::from(k),
+                start: 0,
+                end: 0,
+            },
+        }
+    }
+}
+
+impl From<Result<Range, Refusal>> for Offsets {
+    ghost from_gives = { λ answer it. it ≡ offsets_of answer };
+
+    fn from(answer: Result<Range, Refusal>) -> Offsets {
+        match answer {
+            Ok(range) => Offsets {
+                refusal: 0,
+                start: start_of(range),
+                end: end_of(range),
+            },
+            Err(k) => Offsets {
+                refusal: u32::from(k),
+                start: 0,
+                end: 0,
+            },
+        }
+    }
+}
+
+impl From<Result<bool, Refusal>> for Comparison {
+    ghost from_gives = { λ answer it. it ≡ compared_of answer };
+
+    fn from(answer: Result<bool, Refusal>) -> Comparison {
+        match answer {
+            Ok(alike) => Comparison { refusal: 0, alike },
+            Err(k) => Comparison {
+                refusal: u32::from(k),
+                alike: false,
+            },
+        }
+    }
+}
+
+impl From<Result<NoteSlice, Refusal>> for Slice {
+    ghost from_gives = { λ answer it. it ≡ slice_numbers answer };
+
+    fn from(answer: Result<NoteSlice, Refusal>) -> Slice {
+        match answer {
+            Ok(s) => Slice {
+                refusal: 0,
+                original_start: s.original_start.0,
+                original_end: s.original_end.0,
+                normalized_start: s.normalized_start.0,
+                normalized_end: s.normalized_end.0,
+                original_shift: s.original_shift,
+            },
+            Err(k) => Slice {
+                refusal: u32::from(k),
+                original_start: 0,
+                original_end: 0,
+                normalized_start: 0,
+                normalized_end: 0,
+                original_shift: 0,
+            },
+        }
+    }
+}
+
+impl From<Result<(usize, usize), Refusal>> for Cut {
+    ghost from_gives = { λ answer it. it ≡ cut_numbers answer };
+
+    fn from(answer: Result<(usize, usize), Refusal>) -> Cut {
+        match answer {
+            Ok((len, alignments_len)) => Cut {
+                refusal: 0,
+                len,
+                alignments_len,
+            },
+            Err(k) => Cut {
+                refusal: u32::from(k),
+                len: 0,
+                alignments_len: 0,
+            },
+        }
     }
 }

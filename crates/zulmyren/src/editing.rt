@@ -1,22 +1,19 @@
 // Editing: scripts, and the edits of a whole note.
-ghost use Rattle.note.specs.Notes.{lent};
+ghost use Rattle.note.specs.Notes.{passed};
 ghost use Rattle.convert.specs.Converting.{range_of};
 ghost use Rattle.transform.specs.Transforming.{whole_original};
 ghost use Rattle.zulmyren.specs.Calls.{side_of};
 ghost use Rattle.zulmyren.specs.Edits.{AppendTold, ClearTold, FilterTold, LowercaseTold, MapTold};
 ghost use Rattle.zulmyren.specs.Edits.{PrependTold, TransformTold};
 
-use crate::answers::{Lengths, Written, cleared_to_c, edited_to_c};
+use crate::answers::{Lengths, Written};
 use crate::ranges::side_of;
 use buffers::Offset;
 use convert::range_of;
+use note::NormalizedString;
 
 pub fn zulmyren_transform_range(
-    original: &[u8],
-    normalized: &[u8],
-    starts: &[Offset],
-    ends: &[Offset],
-    original_shift: u32,
+    note: &NormalizedString,
     of_original: bool,
     start: u32,
     end: u32,
@@ -27,19 +24,14 @@ pub fn zulmyren_transform_range(
     out_ends: &mut [Offset],
 ) -> Written
     ensures { TransformTold
-        (lent original.now normalized.now starts.now ends.now
-        original_shift)
+        (passed note.now)
         (range_of (side_of of_original) start end) script.now initial_offset
         out.old out_starts.old out_ends.old
         result out.new out_starts.new out_ends.new }
 {
     let range = range_of(side_of(of_original), start, end);
-    edited_to_c(transform::transform_range(
-        original,
-        normalized,
-        starts,
-        ends,
-        original_shift,
+    Written::from(transform::transform_range(
+        note,
         range,
         script,
         initial_offset,
@@ -50,11 +42,7 @@ pub fn zulmyren_transform_range(
 }
 
 pub fn zulmyren_transform(
-    original: &[u8],
-    normalized: &[u8],
-    starts: &[Offset],
-    ends: &[Offset],
-    original_shift: u32,
+    note: &NormalizedString,
     script: &[u8],
     initial_offset: u32,
     out: &mut [u8],
@@ -62,198 +50,98 @@ pub fn zulmyren_transform(
     out_ends: &mut [Offset],
 ) -> Written
     ensures { TransformTold
-        (lent original.now normalized.now starts.now ends.now
-        original_shift)
-        (whole_original original.now) script.now initial_offset
+        (passed note.now)
+        (whole_original note.now.original.now) script.now initial_offset
         out.old out_starts.old out_ends.old
         result out.new out_starts.new out_ends.new }
 {
-    edited_to_c(transform::transform(
-        original,
-        normalized,
-        starts,
-        ends,
-        original_shift,
-        script,
-        initial_offset,
-        out,
-        out_starts,
-        out_ends,
-    ))
+    Written::from(transform::transform(note, script, initial_offset, out, out_starts, out_ends))
 }
 
 pub fn zulmyren_map(
-    original: &[u8],
-    normalized: &[u8],
-    starts: &[Offset],
-    ends: &[Offset],
-    original_shift: u32,
+    note: &NormalizedString,
     codes: &[u32],
     out: &mut [u8],
     out_starts: &mut [Offset],
     out_ends: &mut [Offset],
 ) -> Written
     ensures { MapTold
-        (lent original.now normalized.now starts.now ends.now
-        original_shift) codes.now
+        (passed note.now) codes.now
         out.old out_starts.old out_ends.old
         result out.new out_starts.new out_ends.new }
 {
-    edited_to_c(edits::mapping::map(
-        original,
-        normalized,
-        starts,
-        ends,
-        original_shift,
-        codes,
-        out,
-        out_starts,
-        out_ends,
-    ))
+    Written::from(edits::mapping::map(note, codes, out, out_starts, out_ends))
 }
 
 pub fn zulmyren_lowercase(
-    original: &[u8],
-    normalized: &[u8],
-    starts: &[Offset],
-    ends: &[Offset],
-    original_shift: u32,
+    note: &NormalizedString,
     out: &mut [u8],
     out_starts: &mut [Offset],
     out_ends: &mut [Offset],
 ) -> Written
     ensures { LowercaseTold
-        (lent original.now normalized.now starts.now ends.now
-        original_shift)
+        (passed note.now)
         out.old out_starts.old out_ends.old
         result out.new out_starts.new out_ends.new }
 {
-    edited_to_c(lowercase::lowercase(
-        original,
-        normalized,
-        starts,
-        ends,
-        original_shift,
-        out,
-        out_starts,
-        out_ends,
-    ))
+    Written::from(lowercase::lowercase(note, out, out_starts, out_ends))
 }
 
 pub fn zulmyren_filter(
-    original: &[u8],
-    normalized: &[u8],
-    starts: &[Offset],
-    ends: &[Offset],
-    original_shift: u32,
+    note: &NormalizedString,
     flags: &[u8],
     out: &mut [u8],
     out_starts: &mut [Offset],
     out_ends: &mut [Offset],
 ) -> Written
     ensures { FilterTold
-        (lent original.now normalized.now starts.now ends.now
-        original_shift) flags.now
+        (passed note.now) flags.now
         out.old out_starts.old out_ends.old
         result out.new out_starts.new out_ends.new }
 {
-    edited_to_c(filters::filter(
-        original,
-        normalized,
-        starts,
-        ends,
-        original_shift,
-        flags,
-        out,
-        out_starts,
-        out_ends,
-    ))
+    Written::from(filters::filter(note, flags, out, out_starts, out_ends))
 }
 
 pub fn zulmyren_append(
-    original: &[u8],
-    normalized: &[u8],
-    starts: &[Offset],
-    ends: &[Offset],
-    original_shift: u32,
+    note: &NormalizedString,
     string: &[u8],
     out: &mut [u8],
     out_starts: &mut [Offset],
     out_ends: &mut [Offset],
 ) -> Written
     ensures { AppendTold
-        (lent original.now normalized.now starts.now ends.now
-        original_shift) string.now
+        (passed note.now) string.now
         out.old out_starts.old out_ends.old
         result out.new out_starts.new out_ends.new }
 {
-    edited_to_c(append_prepend::append(
-        original,
-        normalized,
-        starts,
-        ends,
-        original_shift,
-        string,
-        out,
-        out_starts,
-        out_ends,
-    ))
+    Written::from(append_prepend::append(note, string, out, out_starts, out_ends))
 }
 
 pub fn zulmyren_prepend(
-    original: &[u8],
-    normalized: &[u8],
-    starts: &[Offset],
-    ends: &[Offset],
-    original_shift: u32,
+    note: &NormalizedString,
     string: &[u8],
     out: &mut [u8],
     out_starts: &mut [Offset],
     out_ends: &mut [Offset],
 ) -> Written
     ensures { PrependTold
-        (lent original.now normalized.now starts.now ends.now
-        original_shift) string.now
+        (passed note.now) string.now
         out.old out_starts.old out_ends.old
         result out.new out_starts.new out_ends.new }
 {
-    edited_to_c(append_prepend::prepend(
-        original,
-        normalized,
-        starts,
-        ends,
-        original_shift,
-        string,
-        out,
-        out_starts,
-        out_ends,
-    ))
+    Written::from(append_prepend::prepend(note, string, out, out_starts, out_ends))
 }
 
 pub fn zulmyren_clear(
-    original: &[u8],
-    normalized: &[u8],
-    starts: &[Offset],
-    ends: &[Offset],
-    original_shift: u32,
+    note: &NormalizedString,
     out: &mut [u8],
     out_starts: &mut [Offset],
     out_ends: &mut [Offset],
 ) -> Lengths
     ensures { ClearTold
-        (lent original.now normalized.now starts.now ends.now
-        original_shift)
+        (passed note.now)
         out.old out_starts.old out_ends.old
         result out.new out_starts.new out_ends.new }
 {
-    cleared_to_c(edits::clear(
-        original,
-        normalized,
-        starts,
-        ends,
-        original_shift,
-        out,
-        out_starts,
-        out_ends,
-    ))
+    Lengths::from(edits::clear(note, out, out_starts, out_ends))
 }

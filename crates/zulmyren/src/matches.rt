@@ -1,28 +1,25 @@
 // Finding, replacing, by a second road too, and what can be told of what was replaced.
 ghost use Rattle.std.specs.Prelude.{◌≡◌};
-ghost use Rattle.note.specs.Notes.{lent, limit};
+ghost use Rattle.note.specs.Notes.{limit, passed};
 ghost use Rattle.find.specs.Finding.{Finding};
 ghost use Rattle.published_alike.specs.Alike.{alike_answer};
-ghost use Rattle.zulmyren.specs.Calls.{Told, compared_of, listed_of};
+ghost use Rattle.zulmyren.specs.Calls.{Told, compared_of, written_of};
 ghost use Rattle.replace_by_edits.specs.ByEdits.{scratch};
 ghost use Rattle.zulmyren.specs.Promised.{ReplaceByEditsCall, ReplaceCall};
 
-use crate::answers::{Comparison, Written, comparison_to_c, list_to_c, published_to_c};
+use crate::answers::{Comparison, Written};
 use buffers::Offset;
+use note::NormalizedString;
 
 pub fn zulmyren_find_matches(text: &[u8], literal: &[u8], out: &mut [u8]) -> Written
-    ensures { Told listed_of (λ v. Finding limit text.now literal.now out.old
+    ensures { Told written_of (λ v. Finding limit text.now literal.now out.old
         v out.new) result }
 {
-    list_to_c(find::find_matches(text, literal, out))
+    Written::from(find::find_matches(text, literal, out))
 }
 
 pub fn zulmyren_replace(
-    original: &[u8],
-    normalized: &[u8],
-    starts: &[Offset],
-    ends: &[Offset],
-    original_shift: u32,
+    note: &NormalizedString,
     list: &[u8],
     content: &[u8],
     out: &mut [u8],
@@ -30,32 +27,16 @@ pub fn zulmyren_replace(
     out_ends: &mut [Offset],
 ) -> Written
     ensures { ReplaceCall
-        (lent original.now normalized.now
-        starts.now ends.now original_shift)
+        (passed note.now)
         list.now content.now
         out.old out_starts.old out_ends.old
         result out.new out_starts.new out_ends.new }
 {
-    published_to_c(replace::replace(
-        original,
-        normalized,
-        starts,
-        ends,
-        original_shift,
-        list,
-        content,
-        out,
-        out_starts,
-        out_ends,
-    ))
+    Written::from(replace::replace(note, list, content, out, out_starts, out_ends))
 }
 
 pub fn zulmyren_replace_by_edits(
-    original: &[u8],
-    normalized: &[u8],
-    starts: &[Offset],
-    ends: &[Offset],
-    original_shift: u32,
+    note: &NormalizedString,
     list: &[u8],
     content: &[u8],
     out: &mut [u8],
@@ -69,8 +50,7 @@ pub fn zulmyren_replace_by_edits(
     second_ends: &mut [Offset],
 ) -> Written
     ensures { ReplaceByEditsCall
-        (lent original.now normalized.now
-        starts.now ends.now original_shift)
+        (passed note.now)
         list.now content.now
         out.old out_starts.old out_ends.old
         (scratch first.old first_starts.old first_ends.old)
@@ -79,12 +59,8 @@ pub fn zulmyren_replace_by_edits(
         (scratch first.new first_starts.new first_ends.new)
         (scratch second.new second_starts.new second_ends.new) }
 {
-    published_to_c(replace_by_edits::replace_by_edits(
-        original,
-        normalized,
-        starts,
-        ends,
-        original_shift,
+    Written::from(replace_by_edits::replace_by_edits(
+        note,
         list,
         content,
         out,
@@ -100,38 +76,15 @@ pub fn zulmyren_replace_by_edits(
 }
 
 pub fn zulmyren_published_alike(
-    original: &[u8],
-    normalized: &[u8],
-    starts: &[Offset],
-    ends: &[Offset],
-    original_shift: u32,
-    other_original: &[u8],
-    other: &[u8],
-    other_starts: &[Offset],
-    other_ends: &[Offset],
-    other_shift: u32,
+    note: &NormalizedString,
+    other: &NormalizedString,
     list: &[u8],
     content: &[u8],
 ) -> Comparison
     ensures { result ≡ compared_of (alike_answer limit
-        (lent original.now normalized.now
-        starts.now ends.now original_shift)
-        (lent other_original.now other.now
-        other_starts.now other_ends.now other_shift)
+        (passed note.now)
+        (passed other.now)
         list.now content.now) }
 {
-    comparison_to_c(published_alike::published_alike(
-        original,
-        normalized,
-        starts,
-        ends,
-        original_shift,
-        other_original,
-        other,
-        other_starts,
-        other_ends,
-        other_shift,
-        list,
-        content,
-    ))
+    Comparison::from(published_alike::published_alike(note, other, list, content))
 }

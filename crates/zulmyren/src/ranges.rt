@@ -1,15 +1,16 @@
 // Ranges of one text in the other, and reading.
 ghost use Rattle.std.specs.Prelude.{◌≡◌};
-ghost use Rattle.note.specs.Notes.{lent, limit};
+ghost use Rattle.note.specs.Notes.{limit, passed};
 ghost use Rattle.note.specs.Refusals.{answer_of, verdict};
 ghost use Rattle.convert.specs.Converting.{convert_offsets, range_of};
 ghost use Rattle.get_range.specs.Reading.{get_range, get_range_original, part_faults};
 ghost use Rattle.zulmyren.specs.Calls.{offsets_of, side_of};
 ghost use Rattle.zulmyren.specs.Promised.{ConvertAllCall};
 
-use crate::answers::{Offsets, range_to_c};
+use crate::answers::Offsets;
 use buffers::Offset;
 use convert::{OffsetReferential, range_of};
+use note::NormalizedString;
 
 // The text that a range is in.
 pub fn side_of(original: bool) -> OffsetReferential
@@ -22,67 +23,45 @@ pub fn side_of(original: bool) -> OffsetReferential
 }
 
 pub fn zulmyren_convert_offsets(
-    original: &[u8],
-    normalized: &[u8],
-    starts: &[Offset],
-    ends: &[Offset],
-    original_shift: u32,
+    note: &NormalizedString,
     of_original: bool,
     start: u32,
     end: u32,
 ) -> Offsets
     ensures { result ≡ offsets_of (convert_offsets limit
-        (lent original.now normalized.now
-        starts.now ends.now original_shift)
+        (passed note.now)
         (range_of (side_of of_original) start end)) }
 {
     let range = range_of(side_of(of_original), start, end);
-    range_to_c(convert::convert_offsets(original, normalized, starts, ends, original_shift, range))
+    Offsets::from(convert::convert_offsets(note, range))
 }
 
 pub fn zulmyren_get_range(
-    original: &[u8],
-    normalized: &[u8],
-    starts: &[Offset],
-    ends: &[Offset],
-    original_shift: u32,
+    note: &NormalizedString,
     of_original: bool,
     start: u32,
     end: u32,
 ) -> Offsets
     ensures { result ≡ offsets_of (get_range limit
-        (lent original.now normalized.now
-        starts.now ends.now original_shift)
+        (passed note.now)
         (range_of (side_of of_original) start end)) }
 {
     let range = range_of(side_of(of_original), start, end);
-    range_to_c(get_range::get_range(original, normalized, starts, ends, original_shift, range))
+    Offsets::from(get_range::get_range(note, range))
 }
 
 pub fn zulmyren_get_range_original(
-    original: &[u8],
-    normalized: &[u8],
-    starts: &[Offset],
-    ends: &[Offset],
-    original_shift: u32,
+    note: &NormalizedString,
     of_original: bool,
     start: u32,
     end: u32,
 ) -> Offsets
     ensures { result ≡ offsets_of (get_range_original limit
-        (lent original.now normalized.now
-        starts.now ends.now original_shift)
+        (passed note.now)
         (range_of (side_of of_original) start end)) }
 {
     let range = range_of(side_of(of_original), start, end);
-    range_to_c(get_range::get_range_original(
-        original,
-        normalized,
-        starts,
-        ends,
-        original_shift,
-        range,
-    ))
+    Offsets::from(get_range::get_range_original(note, range))
 }
 
 pub fn zulmyren_part_verdict<'a>(
@@ -100,11 +79,7 @@ pub fn zulmyren_part_verdict<'a>(
 }
 
 pub fn zulmyren_convert_all(
-    original: &[u8],
-    normalized: &[u8],
-    starts: &[Offset],
-    ends: &[Offset],
-    original_shift: u32,
+    note: &NormalizedString,
     of_original: bool,
     from: &[u32],
     to: &[u32],
@@ -113,24 +88,13 @@ pub fn zulmyren_convert_all(
     out_ends: &mut [u32],
 ) -> u32
     ensures { ConvertAllCall
-        (lent original.now normalized.now
-        starts.now ends.now original_shift)
+        (passed note.now)
         (side_of of_original) from.now to.now
         numbers.old out_starts.old out_ends.old
         result numbers.new out_starts.new out_ends.new }
 {
     let side = side_of(of_original);
     note::verdicts::answer(convert_list::convert_list(
-        original,
-        normalized,
-        starts,
-        ends,
-        original_shift,
-        side,
-        from,
-        to,
-        numbers,
-        out_starts,
-        out_ends,
+        note, side, from, to, numbers, out_starts, out_ends,
     ))
 }

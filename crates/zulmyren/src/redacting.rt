@@ -1,10 +1,11 @@
 // Blanking literals: one in a fresh text, one in a note, several in a note.
-ghost use Rattle.note.specs.Notes.{lent};
+ghost use Rattle.note.specs.Notes.{passed};
 ghost use Rattle.redact_all.specs.RedactAll.{buffers};
 ghost use Rattle.zulmyren.specs.Promised.{RedactAllCall, RedactCall, RedactNoteCall};
 
-use crate::answers::{Blanked, BlankedAll, all_blanked_to_c, blanked_to_c};
+use crate::answers::{Blanked, BlankedAll};
 use buffers::Offset;
+use note::NormalizedString;
 
 pub fn zulmyren_redact(
     text: &[u8],
@@ -18,15 +19,11 @@ pub fn zulmyren_redact(
         out.old out_starts.old out_ends.old
         result out.new out_starts.new out_ends.new }
 {
-    blanked_to_c(redact::redact(text, literal, content, out, out_starts, out_ends))
+    Blanked::from(redact::redact(text, literal, content, out, out_starts, out_ends))
 }
 
 pub fn zulmyren_redact_note(
-    original: &[u8],
-    normalized: &[u8],
-    starts: &[Offset],
-    ends: &[Offset],
-    original_shift: u32,
+    note: &NormalizedString,
     literal: &[u8],
     content: &[u8],
     list: &mut [u8],
@@ -35,33 +32,16 @@ pub fn zulmyren_redact_note(
     out_ends: &mut [Offset],
 ) -> Blanked
     ensures { RedactNoteCall
-        (lent original.now normalized.now
-        starts.now ends.now original_shift)
+        (passed note.now)
         literal.now content.now
         list.old out.old out_starts.old out_ends.old
         result list.new out.new out_starts.new out_ends.new }
 {
-    blanked_to_c(redact_note::redact_note(
-        original,
-        normalized,
-        starts,
-        ends,
-        original_shift,
-        literal,
-        content,
-        list,
-        out,
-        out_starts,
-        out_ends,
-    ))
+    Blanked::from(redact_note::redact_note(note, literal, content, list, out, out_starts, out_ends))
 }
 
 pub fn zulmyren_redact_all(
-    original: &[u8],
-    normalized: &[u8],
-    starts: &[Offset],
-    ends: &[Offset],
-    original_shift: u32,
+    note: &NormalizedString,
     words: &[u8],
     sizes: &[u32],
     out: &mut [u8],
@@ -72,8 +52,7 @@ pub fn zulmyren_redact_all(
     fillers: &mut [u32],
 ) -> BlankedAll
     ensures { RedactAllCall
-        (lent original.now normalized.now
-        starts.now ends.now original_shift)
+        (passed note.now)
         words.now sizes.now
         (buffers out.old out_starts.old out_ends.old
         blanked.old left.old fillers.old)
@@ -81,19 +60,7 @@ pub fn zulmyren_redact_all(
         (buffers out.new out_starts.new out_ends.new
         blanked.new left.new fillers.new) }
 {
-    all_blanked_to_c(redact_all::redact_all(
-        original,
-        normalized,
-        starts,
-        ends,
-        original_shift,
-        words,
-        sizes,
-        out,
-        out_starts,
-        out_ends,
-        blanked,
-        left,
-        fillers,
+    BlankedAll::from(redact_all::redact_all(
+        note, words, sizes, out, out_starts, out_ends, blanked, left, fillers,
     ))
 }

@@ -1,17 +1,18 @@
 // Slicing, splitting, split offsets.
 ghost use Rattle.std.specs.Prelude.{◌≡◌};
-ghost use Rattle.note.specs.Notes.{lent};
+ghost use Rattle.note.specs.Notes.{passed};
 ghost use Rattle.convert.specs.Converting.{range_of};
 ghost use Rattle.split.specs.Splitting.{columns};
 ghost use Rattle.zulmyren.specs.Calls.{behavior_of, empty_of, side_of, unit_of};
 ghost use Rattle.zulmyren.specs.Promised.{GetSplitsCall, SliceCall, SplitCall};
 
-use crate::answers::{Cut, Slice, Written, cut_to_c, slice_to_c, splits_to_c};
+use crate::answers::{Cut, Slice, Written};
 use crate::ranges::side_of;
 use behaviors::{EmptyPieces, SplitDelimiterBehavior};
 use buffers::Offset;
 use char_columns::OffsetType;
 use convert::range_of;
+use note::NormalizedString;
 
 // A behaviour by its number: 1 to 4, and Contiguous by any other.
 fn behavior_of(number: u32) -> SplitDelimiterBehavior
@@ -47,11 +48,7 @@ fn unit_of(in_chars: bool) -> OffsetType
 }
 
 pub fn zulmyren_slice(
-    original: &[u8],
-    normalized: &[u8],
-    starts: &[Offset],
-    ends: &[Offset],
-    original_shift: u32,
+    note: &NormalizedString,
     of_original: bool,
     start: u32,
     end: u32,
@@ -59,31 +56,17 @@ pub fn zulmyren_slice(
     out_ends: &mut [Offset],
 ) -> Slice
     ensures { SliceCall
-        (lent original.now normalized.now
-        starts.now ends.now original_shift)
+        (passed note.now)
         (range_of (side_of of_original) start end)
         out_starts.old out_ends.old
         result out_starts.new out_ends.new }
 {
     let range = range_of(side_of(of_original), start, end);
-    slice_to_c(slice::slice(
-        original,
-        normalized,
-        starts,
-        ends,
-        original_shift,
-        range,
-        out_starts,
-        out_ends,
-    ))
+    Slice::from(slice::slice(note, range, out_starts, out_ends))
 }
 
 pub fn zulmyren_split(
-    original: &[u8],
-    normalized: &[u8],
-    starts: &[Offset],
-    ends: &[Offset],
-    original_shift: u32,
+    note: &NormalizedString,
     list: &[u8],
     behavior: u32,
     drop_empty: bool,
@@ -95,8 +78,7 @@ pub fn zulmyren_split(
     out_ends: &mut [Offset],
 ) -> Cut
     ensures { SplitCall
-        (lent original.now normalized.now
-        starts.now ends.now original_shift) list.now
+        (passed note.now) list.now
         (behavior_of behavior) (empty_of drop_empty)
         (columns piece_starts.old piece_ends.old piece_shifts.old
         piece_lengths.old out_starts.old out_ends.old)
@@ -104,12 +86,8 @@ pub fn zulmyren_split(
         (columns piece_starts.new piece_ends.new piece_shifts.new
         piece_lengths.new out_starts.new out_ends.new) }
 {
-    cut_to_c(split::split(
-        original,
-        normalized,
-        starts,
-        ends,
-        original_shift,
+    Cut::from(split::split(
+        note,
         list,
         behavior_of(behavior),
         empty_of(drop_empty),
@@ -123,11 +101,7 @@ pub fn zulmyren_split(
 }
 
 pub fn zulmyren_get_splits(
-    original: &[u8],
-    normalized: &[u8],
-    starts: &[Offset],
-    ends: &[Offset],
-    original_shift: u32,
+    note: &NormalizedString,
     list: &[u8],
     behavior: u32,
     of_original: bool,
@@ -136,18 +110,13 @@ pub fn zulmyren_get_splits(
     out_ends: &mut [u32],
 ) -> Written
     ensures { GetSplitsCall
-        (lent original.now normalized.now
-        starts.now ends.now original_shift) list.now
+        (passed note.now) list.now
         (behavior_of behavior) (side_of of_original) (unit_of in_chars)
         out_starts.old out_ends.old
         result out_starts.new out_ends.new }
 {
-    splits_to_c(split_offsets::get_splits(
-        original,
-        normalized,
-        starts,
-        ends,
-        original_shift,
+    Written::from(split_offsets::get_splits(
+        note,
         list,
         behavior_of(behavior),
         side_of(of_original),

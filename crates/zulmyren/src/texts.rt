@@ -7,7 +7,7 @@ ghost use Rattle.char_offsets.specs.Positions.{char_offsets};
 ghost use Rattle.zulmyren.specs.Calls.{chars_of, letters_of};
 ghost use Rattle.zulmyren.specs.Promised.{CharOffsetsAllCall};
 
-use crate::answers::{Count, Offsets, chars_to_c, letters_to_c};
+use crate::answers::{Count, Offsets};
 use note::OriginalByte;
 
 pub fn zulmyren_well_formed(text: &[u8]) -> bool
@@ -19,13 +19,13 @@ pub fn zulmyren_well_formed(text: &[u8]) -> bool
 pub fn zulmyren_letter_count(text: &[u8], start: u32, end: u32) -> Count
     ensures { result ≡ letters_of (letter_count limit text.now start end) }
 {
-    letters_to_c(char_offsets::letters::letter_count(text, OriginalByte(start), OriginalByte(end)))
+    Count::from(char_offsets::letters::letter_count(text, OriginalByte(start), OriginalByte(end)))
 }
 
 pub fn zulmyren_char_offsets(text: &[u8], start: u32, end: u32) -> Offsets
     ensures { result ≡ chars_of (char_offsets limit text.now start end) }
 {
-    chars_to_c(char_offsets::char_offsets(text, OriginalByte(start), OriginalByte(end)))
+    Offsets::from(char_offsets::char_offsets(text, OriginalByte(start), OriginalByte(end)))
 }
 
 pub fn zulmyren_char_offsets_all(

@@ -7,6 +7,7 @@ ghost use Rattle.zulmyren.specs.Edits.{AppendTold, ClearTold, FilterTold, Lowerc
 ghost use Rattle.zulmyren.specs.Edits.{PrependTold, TransformTold};
 
 use buffers::Offset;
+use note::NormalizedString;
 use zulmyren::answers::{Lengths, Written};
 
 #[unsafe(no_mangle)]
@@ -33,11 +34,13 @@ pub extern "C" fn zulmyren_transform_range(
         result out.new out_starts.new out_ends.new }
 {
     zulmyren::editing::zulmyren_transform_range(
-        original,
-        normalized,
-        starts,
-        ends,
-        original_shift,
+        &NormalizedString {
+            original,
+            normalized,
+            starts,
+            ends,
+            original_shift,
+        },
         of_original,
         start,
         end,
@@ -70,11 +73,13 @@ pub extern "C" fn zulmyren_transform(
         result out.new out_starts.new out_ends.new }
 {
     zulmyren::editing::zulmyren_transform(
-        original,
-        normalized,
-        starts,
-        ends,
-        original_shift,
+        &NormalizedString {
+            original,
+            normalized,
+            starts,
+            ends,
+            original_shift,
+        },
         script,
         initial_offset,
         out,
@@ -102,11 +107,13 @@ pub extern "C" fn zulmyren_map(
         result out.new out_starts.new out_ends.new }
 {
     zulmyren::editing::zulmyren_map(
-        original,
-        normalized,
-        starts,
-        ends,
-        original_shift,
+        &NormalizedString {
+            original,
+            normalized,
+            starts,
+            ends,
+            original_shift,
+        },
         codes,
         out,
         out_starts,
@@ -132,11 +139,13 @@ pub extern "C" fn zulmyren_lowercase(
         result out.new out_starts.new out_ends.new }
 {
     zulmyren::editing::zulmyren_lowercase(
-        original,
-        normalized,
-        starts,
-        ends,
-        original_shift,
+        &NormalizedString {
+            original,
+            normalized,
+            starts,
+            ends,
+            original_shift,
+        },
         out,
         out_starts,
         out_ends,
@@ -162,11 +171,13 @@ pub extern "C" fn zulmyren_filter(
         result out.new out_starts.new out_ends.new }
 {
     zulmyren::editing::zulmyren_filter(
-        original,
-        normalized,
-        starts,
-        ends,
-        original_shift,
+        &NormalizedString {
+            original,
+            normalized,
+            starts,
+            ends,
+            original_shift,
+        },
         flags,
         out,
         out_starts,
@@ -193,11 +204,13 @@ pub extern "C" fn zulmyren_append(
         result out.new out_starts.new out_ends.new }
 {
     zulmyren::editing::zulmyren_append(
-        original,
-        normalized,
-        starts,
-        ends,
-        original_shift,
+        &NormalizedString {
+            original,
+            normalized,
+            starts,
+            ends,
+            original_shift,
+        },
         string,
         out,
         out_starts,
@@ -224,11 +237,13 @@ pub extern "C" fn zulmyren_prepend(
         result out.new out_starts.new out_ends.new }
 {
     zulmyren::editing::zulmyren_prepend(
-        original,
-        normalized,
-        starts,
-        ends,
-        original_shift,
+        &NormalizedString {
+            original,
+            normalized,
+            starts,
+            ends,
+            original_shift,
+        },
         string,
         out,
         out_starts,
@@ -254,11 +269,13 @@ pub extern "C" fn zulmyren_clear(
         result out.new out_starts.new out_ends.new }
 {
     zulmyren::editing::zulmyren_clear(
-        original,
-        normalized,
-        starts,
-        ends,
-        original_shift,
+        &NormalizedString {
+            original,
+            normalized,
+            starts,
+            ends,
+            original_shift,
+        },
         out,
         out_starts,
         out_ends,

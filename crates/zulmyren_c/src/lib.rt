@@ -1,5 +1,6 @@
 // The library's calls, for C: include/zulmyren.h says what each means. Each is the function of zulmyren that has its
-// name, with the same clauses. Nothing else is exported.
+// name, with the same clauses of the note that its five parameters are (`lent`). A note, three buffers and flags come
+// one by one, since C passes them so. Nothing else is exported.
 #![tactic(auto)]
 
 pub mod editing;

@@ -3,16 +3,17 @@ ghost use Rattle.std.specs.Prelude.{◌≡◌};
 ghost use Rattle.note.specs.Notes.{lent, limit};
 ghost use Rattle.find.specs.Finding.{Finding};
 ghost use Rattle.published_alike.specs.Alike.{alike_answer};
-ghost use Rattle.zulmyren.specs.Calls.{Told, compared_of, listed_of};
+ghost use Rattle.zulmyren.specs.Calls.{Told, compared_of, written_of};
 ghost use Rattle.replace_by_edits.specs.ByEdits.{scratch};
 ghost use Rattle.zulmyren.specs.Promised.{ReplaceByEditsCall, ReplaceCall};
 
 use buffers::Offset;
+use note::NormalizedString;
 use zulmyren::answers::{Comparison, Written};
 
 #[unsafe(no_mangle)]
 pub extern "C" fn zulmyren_find_matches(text: &[u8], literal: &[u8], out: &mut [u8]) -> Written
-    ensures { Told listed_of (λ v. Finding limit text.now literal.now out.old
+    ensures { Told written_of (λ v. Finding limit text.now literal.now out.old
         v out.new) result }
 {
     zulmyren::matches::zulmyren_find_matches(text, literal, out)
@@ -39,11 +40,13 @@ pub extern "C" fn zulmyren_replace(
         result out.new out_starts.new out_ends.new }
 {
     zulmyren::matches::zulmyren_replace(
-        original,
-        normalized,
-        starts,
-        ends,
-        original_shift,
+        &NormalizedString {
+            original,
+            normalized,
+            starts,
+            ends,
+            original_shift,
+        },
         list,
         content,
         out,
@@ -83,11 +86,13 @@ pub extern "C" fn zulmyren_replace_by_edits(
         (scratch second.new second_starts.new second_ends.new) }
 {
     zulmyren::matches::zulmyren_replace_by_edits(
-        original,
-        normalized,
-        starts,
-        ends,
-        original_shift,
+        &NormalizedString {
+            original,
+            normalized,
+            starts,
+            ends,
+            original_shift,
+        },
         list,
         content,
         out,
@@ -125,16 +130,20 @@ pub extern "C" fn zulmyren_published_alike(
         list.now content.now) }
 {
     zulmyren::matches::zulmyren_published_alike(
-        original,
-        normalized,
-        starts,
-        ends,
-        original_shift,
-        other_original,
-        other,
-        other_starts,
-        other_ends,
-        other_shift,
+        &NormalizedString {
+            original,
+            normalized,
+            starts,
+            ends,
+            original_shift,
+        },
+        &NormalizedString {
+            original: other_original,
+            normalized: other,
+            starts: other_starts,
+            ends: other_ends,
+            original_shift: other_shift,
+        },
         list,
         content,
     )

@@ -7,6 +7,7 @@ ghost use Rattle.from_text.specs.FromText.{Started};
 ghost use Rattle.zulmyren.specs.Calls.{Told};
 
 use buffers::Offset;
+use note::NormalizedString;
 
 #[unsafe(no_mangle)]
 pub extern "C" fn zulmyren_check_note(
@@ -20,7 +21,13 @@ pub extern "C" fn zulmyren_check_note(
         (lent original.now normalized.now
         starts.now ends.now original_shift))) }
 {
-    zulmyren::notes::zulmyren_check_note(original, normalized, starts, ends, original_shift)
+    zulmyren::notes::zulmyren_check_note(&NormalizedString {
+        original,
+        normalized,
+        starts,
+        ends,
+        original_shift,
+    })
 }
 
 #[unsafe(no_mangle)]

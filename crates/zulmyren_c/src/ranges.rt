@@ -8,6 +8,7 @@ ghost use Rattle.zulmyren.specs.Calls.{offsets_of, side_of};
 ghost use Rattle.zulmyren.specs.Promised.{ConvertAllCall};
 
 use buffers::Offset;
+use note::NormalizedString;
 use zulmyren::answers::Offsets;
 
 #[unsafe(no_mangle)]
@@ -27,11 +28,13 @@ pub extern "C" fn zulmyren_convert_offsets(
         (range_of (side_of of_original) start end)) }
 {
     zulmyren::ranges::zulmyren_convert_offsets(
-        original,
-        normalized,
-        starts,
-        ends,
-        original_shift,
+        &NormalizedString {
+            original,
+            normalized,
+            starts,
+            ends,
+            original_shift,
+        },
         of_original,
         start,
         end,
@@ -55,11 +58,13 @@ pub extern "C" fn zulmyren_get_range(
         (range_of (side_of of_original) start end)) }
 {
     zulmyren::ranges::zulmyren_get_range(
-        original,
-        normalized,
-        starts,
-        ends,
-        original_shift,
+        &NormalizedString {
+            original,
+            normalized,
+            starts,
+            ends,
+            original_shift,
+        },
         of_original,
         start,
         end,
@@ -83,11 +88,13 @@ pub extern "C" fn zulmyren_get_range_original(
         (range_of (side_of of_original) start end)) }
 {
     zulmyren::ranges::zulmyren_get_range_original(
-        original,
-        normalized,
-        starts,
-        ends,
-        original_shift,
+        &NormalizedString {
+            original,
+            normalized,
+            starts,
+            ends,
+            original_shift,
+        },
         of_original,
         start,
         end,
@@ -130,11 +137,13 @@ pub extern "C" fn zulmyren_convert_all(
         result numbers.new out_starts.new out_ends.new }
 {
     zulmyren::ranges::zulmyren_convert_all(
-        original,
-        normalized,
-        starts,
-        ends,
-        original_shift,
+        &NormalizedString {
+            original,
+            normalized,
+            starts,
+            ends,
+            original_shift,
+        },
         of_original,
         from,
         to,

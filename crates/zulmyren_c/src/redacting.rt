@@ -4,6 +4,7 @@ ghost use Rattle.redact_all.specs.RedactAll.{buffers};
 ghost use Rattle.zulmyren.specs.Promised.{RedactAllCall, RedactCall, RedactNoteCall};
 
 use buffers::Offset;
+use note::NormalizedString;
 use zulmyren::answers::{Blanked, BlankedAll};
 
 #[unsafe(no_mangle)]
@@ -44,11 +45,13 @@ pub extern "C" fn zulmyren_redact_note(
         result list.new out.new out_starts.new out_ends.new }
 {
     zulmyren::redacting::zulmyren_redact_note(
-        original,
-        normalized,
-        starts,
-        ends,
-        original_shift,
+        &NormalizedString {
+            original,
+            normalized,
+            starts,
+            ends,
+            original_shift,
+        },
         literal,
         content,
         list,
@@ -85,11 +88,13 @@ pub extern "C" fn zulmyren_redact_all(
         blanked.new left.new fillers.new) }
 {
     zulmyren::redacting::zulmyren_redact_all(
-        original,
-        normalized,
-        starts,
-        ends,
-        original_shift,
+        &NormalizedString {
+            original,
+            normalized,
+            starts,
+            ends,
+            original_shift,
+        },
         words,
         sizes,
         out,

@@ -6,6 +6,7 @@ ghost use Rattle.zulmyren.specs.Calls.{behavior_of, empty_of, side_of, unit_of};
 ghost use Rattle.zulmyren.specs.Promised.{GetSplitsCall, SliceCall, SplitCall};
 
 use buffers::Offset;
+use note::NormalizedString;
 use zulmyren::answers::{Cut, Slice, Written};
 
 #[unsafe(no_mangle)]
@@ -29,11 +30,13 @@ pub extern "C" fn zulmyren_slice(
         result out_starts.new out_ends.new }
 {
     zulmyren::slices::zulmyren_slice(
-        original,
-        normalized,
-        starts,
-        ends,
-        original_shift,
+        &NormalizedString {
+            original,
+            normalized,
+            starts,
+            ends,
+            original_shift,
+        },
         of_original,
         start,
         end,
@@ -70,11 +73,13 @@ pub extern "C" fn zulmyren_split(
         piece_lengths.new out_starts.new out_ends.new) }
 {
     zulmyren::slices::zulmyren_split(
-        original,
-        normalized,
-        starts,
-        ends,
-        original_shift,
+        &NormalizedString {
+            original,
+            normalized,
+            starts,
+            ends,
+            original_shift,
+        },
         list,
         behavior,
         drop_empty,
@@ -109,11 +114,13 @@ pub extern "C" fn zulmyren_get_splits(
         result out_starts.new out_ends.new }
 {
     zulmyren::slices::zulmyren_get_splits(
-        original,
-        normalized,
-        starts,
-        ends,
-        original_shift,
+        &NormalizedString {
+            original,
+            normalized,
+            starts,
+            ends,
+            original_shift,
+        },
         list,
         behavior,
         of_original,

@@ -9,14 +9,14 @@ pub returns-then-text-eq0 : goal.returns-then-text-eq0
 returns-then-text-eq0 c = at-end (monotone _ _ _ _) 0 _ _ (omega arith) (omega arith) (monotone-none _ _ _ _)
 
 pub loop-i-init : goal.loop-i-init
-loop-i-init c = (omega arith, (omega arith, first-none _ _ _ c.saturating_sub_offset-found.ensures))
+loop-i-init c = first-none _ _ _ c.saturating_sub-found.ensures
 
 pub loop-i-preserved : goal.loop-i-preserved
 loop-i-preserved c =
     let turn = c.loop-i in
-    (omega arith, (omega (arith, c.loop-i-test.true), next-none _ _ _ _ turn.found turn.invariant.0 turn.invariant.1.1 c.misaligned_bits-found.ensures))
+    next-none _ _ _ _ turn.found (omega arith) turn.invariant c.misaligned_bits-found.ensures
 
 pub returns : goal.returns
 returns c =
     none-is-monotone _ _ _ _ _ c.loop-i.found (omega arith)
-    (at-end (none_misaligned _ _ _) _ _ _ c.loop-i.invariant.1.0 c.loop-i-test.false c.loop-i.invariant.1.1) c.saturating_sub_offset.ensures
+    (at-end (none_misaligned _ _ _) _ _ _ (omega arith) c.loop-i-test.false c.loop-i.invariant) c.saturating_sub.ensures

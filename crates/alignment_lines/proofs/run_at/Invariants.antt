@@ -1,11 +1,6 @@
 -- The walk stops at the first byte with another alignment, or at the end.
-use Prim.Native.Nat.{◌-◌}
-use lib.ListN.{length}
 use Rattle.alignment_lines.proofs.Runs.{WalkedRun}
 use Rattle.alignment_lines.proofs.run_at.Given as goal
 
 abbrev pub invariant-loop-i : goal.invariant-loop-i
 invariant-loop-i l = WalkedRun l.starts l.ends l.at l.start l.end l.i
-
-abbrev pub decreases-loop-i : goal.decreases-loop-i
-decreases-loop-i l = length l.starts - l.i

@@ -12,6 +12,6 @@ overflow_add-result c =
 
 pub returns : goal.returns
 returns c =
-    append-laid c.requires c.keep.ensures c.copy_bytes.ensures
-    c.before_end.ensures c.fill_offsets.ensures
-    c.before_end-2.ensures c.fill_offsets-2.ensures
+    append-laid c.requires c.keep.ensures c.copy.ensures
+    c.before_end.ensures c.fill.ensures
+    c.before_end-2.ensures c.fill-2.ensures

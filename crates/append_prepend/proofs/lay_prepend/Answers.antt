@@ -19,6 +19,6 @@ overflow_add-result c =
 
 pub returns : goal.returns
 returns c =
-    prepend-laid c.announced_length-size.ensures c.copy_bytes.ensures
-    c.copy_bytes-2.ensures c.front_of.ensures c.lay_column.ensures
+    prepend-laid c.announced_length-size.ensures c.copy.ensures
+    c.copy-2.ensures c.front_of.ensures c.lay_column.ensures
     c.front_of-2.ensures c.lay_column-2.ensures

@@ -1,10 +1,9 @@
 use Rattle.boundaries.specs.Monotone.{uncut_below}
 use Rattle.boundaries.proofs.Monotone.{uncut-none, uncut-more, at-end}
-use native.Mathlib.Omega.{arith}
 use Rattle.boundaries.proofs.all_uncut.Goals as goal
 
 pub loop-i-init : goal.loop-i-init
-loop-i-init c = (omega arith, uncut-none _ _ _)
+loop-i-init c = uncut-none _ _ _
 
 pub uncut-requires : goal.uncut-requires
 uncut-requires c = tt
@@ -14,7 +13,7 @@ uncut-requires-in-loop-i c = tt
 
 pub loop-i-preserved : goal.loop-i-preserved
 loop-i-preserved c =
-    (omega arith, uncut-more _ _ _ _ _ _ _ c.loop-i.invariant.1 c.uncut.ensures c.uncut-in-loop-i.ensures)
+    uncut-more _ _ _ _ _ _ _ c.loop-i.invariant c.uncut.ensures c.uncut-in-loop-i.ensures
 
 pub returns : goal.returns
-returns c = at-end (uncut_below _ _ _) _ _ _ c.loop-i.invariant.0 c.loop-i-test.false c.loop-i.invariant.1
+returns c = at-end (uncut_below _ _ _) _ _ _ c.loop-i.auto.i-end c.loop-i-test.false c.loop-i.invariant

@@ -1,11 +1,7 @@
 -- Each turn reads one more byte.
-use Prim.Native.Nat.{◌-◌, ◌≤◌}
-use lib.ListN.{length, get_or}
+use lib.ListN.{get_or}
 use Rattle.buffers.specs.Columns.{Filled}
 use Rattle.boundaries.proofs.read_at.Given as goal
 
 abbrev pub invariant-loop-j : goal.invariant-loop-j
-invariant-loop-j l = (l.j ≤ length l.initial.bytes) × Filled (λ k. get_or l.original (get_or l.starts k 0) 0) l.initial.bytes 0 l.j l.bytes
-
-abbrev pub decreases-loop-j : goal.decreases-loop-j
-decreases-loop-j l = length l.initial.bytes - l.j
+invariant-loop-j l = Filled (λ k. get_or l.original (get_or l.starts k 0) 0) l.initial.bytes 0 l.j l.bytes

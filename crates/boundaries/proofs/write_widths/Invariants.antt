@@ -1,12 +1,8 @@
 -- Each turn writes one more width.
-use Prim.Native.Nat.{◌-◌, ◌≤◌}
-use lib.ListN.{length, get_or}
+use lib.ListN.{get_or}
 use Rattle.buffers.specs.Columns.{Filled}
 use Rattle.utf8.specs.Lengths.{lead_len}
 use Rattle.boundaries.proofs.write_widths.Given as goal
 
 abbrev pub invariant-loop-j : goal.invariant-loop-j
-invariant-loop-j l = (l.j ≤ length l.initial.widths) × Filled (λ k. lead_len (get_or l.bytes k 0)) l.initial.widths 0 l.j l.widths
-
-abbrev pub decreases-loop-j : goal.decreases-loop-j
-decreases-loop-j l = length l.initial.widths - l.j
+invariant-loop-j l = Filled (λ k. lead_len (get_or l.bytes k 0)) l.initial.widths 0 l.j l.widths

@@ -7,34 +7,31 @@ pub loop-k-init : goal.loop-k-init
 loop-k-init c = none-counted c.requires
 
 pub bounds-out_starts-k : goal.bounds-out_starts-k
-bounds-out_starts-k c = (in_both c.requires c.loop-k.invariant c.loop-k-test.true).0
+bounds-out_starts-k c = (in_both c.requires c.loop-k.invariant (omega arith)).0
 
 pub bounds-out_ends-k : goal.bounds-out_ends-k
-bounds-out_ends-k c = (in_both c.requires c.loop-k.invariant c.loop-k-test.true).1
+bounds-out_ends-k c = (in_both c.requires c.loop-k.invariant (omega arith)).1
 
 pub in_chars-offsets-requires : goal.in_chars-offsets-requires
-in_chars-offsets-requires c = (c.loop-k.invariant.known, flags-made c.fill_bytes.ensures)
+in_chars-offsets-requires c = (c.loop-k.invariant.known, flags-made c.fill.ensures)
 
 pub offset_bounds-out_starts-k-in-loop-k : goal.offset_bounds-out_starts-k-in-loop-k
 offset_bounds-out_starts-k-in-loop-k c =
-    omega (arith, c.well_formed.1.1.1.0, c.loop-k.invariant.starts_on.same, (in_both c.requires c.loop-k.invariant c.loop-k-test.true).0)
+    omega (arith, c.well_formed.1.1.1.0, c.loop-k.invariant.starts_on.same, (in_both c.requires c.loop-k.invariant (omega arith)).0)
 
 pub bounds-out_starts-k-in-loop-k : goal.bounds-out_starts-k-in-loop-k
-bounds-out_starts-k-in-loop-k c = (in_both c.requires c.loop-k.invariant c.loop-k-test.true).0
+bounds-out_starts-k-in-loop-k c = (in_both c.requires c.loop-k.invariant (omega arith)).0
 
 pub offset_bounds-out_ends-k-in-loop-k : goal.offset_bounds-out_ends-k-in-loop-k
 offset_bounds-out_ends-k-in-loop-k c =
-    omega (arith, c.well_formed.1.1.1.1.0, c.loop-k.invariant.ends_on.same, (in_both c.requires c.loop-k.invariant c.loop-k-test.true).1)
+    omega (arith, c.well_formed.1.1.1.1.0, c.loop-k.invariant.ends_on.same, (in_both c.requires c.loop-k.invariant (omega arith)).1)
 
 pub bounds-out_ends-k-in-loop-k : goal.bounds-out_ends-k-in-loop-k
-bounds-out_ends-k-in-loop-k c = (in_both c.requires c.loop-k.invariant c.loop-k-test.true).1
-
-pub overflow_add-k : goal.overflow_add-k
-overflow_add-k c = omega (arith, c.loop-k-test.true)
+bounds-out_ends-k-in-loop-k c = (in_both c.requires c.loop-k.invariant (omega arith)).1
 
 pub loop-k-preserved : goal.loop-k-preserved
 loop-k-preserved c =
-    one-counted c.requires c.loop-k.invariant c.loop-k-test.true
+    one-counted c.requires c.loop-k.invariant (omega arith)
     c.looked_up-start.ensures c.looked_up-end.ensures
     c.in_chars-offsets.ensures
 
@@ -45,4 +42,4 @@ pub shape_of-out_ends : goal.shape_of-out_ends
 shape_of-out_ends c = c.loop-k.invariant.ends_on.same
 
 pub returns : goal.returns
-returns c = all-counted c.requires c.loop-k.invariant c.loop-k-test.false
+returns c = all-counted c.requires c.loop-k.invariant (omega arith)

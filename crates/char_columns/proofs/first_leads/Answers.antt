@@ -21,10 +21,10 @@ pub bounds-flags-skipped : goal.bounds-flags-skipped
 bounds-flags-skipped c = omega (arith, c.requires.0.few)
 
 pub loop-j-preserved : goal.loop-j-preserved
-loop-j-preserved c = next-near c.requires.0 c.loop-j.invariant c.loop-j-test.true c.continues-begins.ensures c.requires.1
+loop-j-preserved c = next-near c.requires.0 c.loop-j.invariant (omega arith) c.continues-begins.ensures c.requires.1
 
 pub overflow_add-count-in-loop-j : goal.overflow_add-count-in-loop-j
 overflow_add-count-in-loop-j c = omega (arith, near-small c.requires.0 (loop-j-preserved c))
 
 pub returns : goal.returns
-returns c = all_near c.requires.0 c.loop-j.invariant c.loop-j-test.false
+returns c = all_near c.requires.0 c.loop-j.invariant (omega arith)

@@ -1,10 +1,6 @@
 -- Each turn writes one mark more.
-use Rattle.std.proofs.Common.{◌-◌, length}
 use Rattle.char_counts.proofs.Counts.{Marking}
 use Rattle.char_counts.proofs.write_marks.Given as goal
 
-abbrev pub invariant-loop-i : goal.invariant-loop-i
-invariant-loop-i l = Marking l.text l.initial.marks l.marks l.count l.i l.k
-
-abbrev pub decreases-loop-i : goal.decreases-loop-i
-decreases-loop-i l = length l.text - l.i
+abbrev pub invariant-loop-k : goal.invariant-loop-k
+invariant-loop-k l = Marking l.text l.initial.marks l.marks l.count l.k

@@ -1,24 +1,24 @@
 -- The earlier refusal of the text and the list, then the room; past these the pairs are answered one after the other.
 use native.Mathlib.Omega.{arith}
+use Rattle.buffers.proofs.Cases.{passed-on}
 use Rattle.note.proofs.Faults.{text_short}
 use Rattle.note.proofs.LengthFaults.{input-accepted, list-even}
 use Rattle.char_offsets.proofs.CharOffsetsList.{list-refused, too-little-room, list_written}
 use Rattle.char_offsets.proofs.char_offsets_list.Goals as goal
 
-pub returns-in-Refused : goal.returns-in-Refused
-returns-in-Refused c =
-    list-refused _ _ _ _ _ _ _ c.check_text-checked.ensures c.refused_if-unpaired.ensures c.earlier.ensures c.in-Refused.is
+pub returns-in_err-earlier : goal.returns-in_err-earlier
+returns-in_err-earlier c = rw (passed-on _ c.from_residual.ensures.1) (list-refused _ _ _ _ _ _ _ c.check_text-checked.ensures c.refused_if-unpaired.ensures c.earlier.ensures c.in_err-earlier.was)
 
 pub returns-then-least_room-starts : goal.returns-then-least_room-starts
 returns-then-least_room-starts c =
-    too-little-room _ _ _ _ _ _ _ c.check_text-checked.ensures c.refused_if-unpaired.ensures c.earlier.ensures c.in_default.is (omega arith)
+    too-little-room _ _ _ _ _ _ _ c.check_text-checked.ensures c.refused_if-unpaired.ensures c.earlier.ensures c.in_ok-earlier.was (omega arith)
 
 pub count_and_write-requires : goal.count_and_write-requires
 count_and_write-requires c =
     record {
-      text_len_bound = text_short _ _ (input-accepted _ c.args.starts.now c.args.ends.now c.check_text-checked.ensures c.refused_if-unpaired.ensures c.earlier.ensures c.in_default.is);
+      text_len_bound = text_short _ _ (input-accepted _ c.args.starts.now c.args.ends.now c.check_text-checked.ensures c.refused_if-unpaired.ensures c.earlier.ensures c.in_ok-earlier.was);
       pair_room = record {
-        paired = list-even _ c.args.starts.now c.args.ends.now c.check_text-checked.ensures c.refused_if-unpaired.ensures c.earlier.ensures c.in_default.is;
+        paired = list-even _ c.args.starts.now c.args.ends.now c.check_text-checked.ensures c.refused_if-unpaired.ensures c.earlier.ensures c.in_ok-earlier.was;
         numbers_fit = omega arith;
         starts_fit = omega arith;
         ends_fit = omega arith;
@@ -27,4 +27,4 @@ count_and_write-requires c =
 
 pub returns : goal.returns
 returns c =
-    list_written _ _ _ _ _ _ _ c.check_text-checked.ensures c.refused_if-unpaired.ensures c.earlier.ensures c.in_default.is (omega arith) c.count_and_write.ensures
+    list_written _ _ _ _ _ _ _ c.check_text-checked.ensures c.refused_if-unpaired.ensures c.earlier.ensures c.in_ok-earlier.was (omega arith) c.count_and_write.ensures

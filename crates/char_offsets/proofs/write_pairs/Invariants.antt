@@ -1,11 +1,6 @@
 -- Each turn answers one pair more.
-use Prim.Native.Nat.{◌-◌}
-use lib.ListN.{length}
 use Rattle.char_offsets.proofs.CharOffsetsList.{PairsWriting}
 use Rattle.char_offsets.proofs.write_pairs.Given as goal
 
 abbrev pub invariant-loop-i : goal.invariant-loop-i
 invariant-loop-i l = PairsWriting l.text l.starts l.ends l.initial.numbers l.initial.char_starts l.initial.char_ends l.numbers l.char_starts l.char_ends l.i
-
-abbrev pub decreases-loop-i : goal.decreases-loop-i
-decreases-loop-i l = length l.starts - l.i

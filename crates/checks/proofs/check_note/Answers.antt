@@ -17,7 +17,7 @@ returns-then-not-lengths_paired c =
 
 pub texts_formed-requires : goal.texts_formed-requires
 texts_formed-requires c =
-    record { plain_value = c.is_ascii-plain.ensures; original_value = λ t. same-equal _ _ (sym c.same_bytes-same.ensures ∙ t) }
+    record { plain_value = c.is_ascii-plain.ensures; original_value = λ t. same-equal _ _ (sym c.same-same.ensures ∙ t) }
 
 pub returns-then-not-texts_formed : goal.returns-then-not-texts_formed
 returns-then-not-texts_formed c =
@@ -35,7 +35,7 @@ aligned-requires c =
       original_formed = and_elim_left (well_formed _) _ (sym c.texts_formed.ensures ∙ c.if-not-texts_formed.false);
       formed = and_elim_right (well_formed _) _ (sym c.texts_formed.ensures ∙ c.if-not-texts_formed.false);
       kind = c.is_ascii-plain.ensures;
-      alike = λ t. same-equal _ _ (sym c.same_bytes-same.ensures ∙ t);
+      alike = λ t. same-equal _ _ (sym c.same-same.ensures ∙ t);
     }
 
 pub returns : goal.returns

@@ -1,11 +1,7 @@
--- Part by part, the last one shorter.
-use Prim.Native.Nat.{◌-◌}
-use lib.ListN.{length}
-use Rattle.code_points.proofs.Judging.{Judging}
+-- Block by block.
+use Rattle.std.specs.Slice.Iter.{chunks_rest, chunks_size}
+use Rattle.code_points.proofs.Judging.{Ahead}
 use Rattle.code_points.proofs.judge.Given as goal
 
-abbrev pub invariant-loop-i : goal.invariant-loop-i
-invariant-loop-i l = Judging l.codes l.scalar l.size l.i
-
-abbrev pub decreases-loop-i : goal.decreases-loop-i
-decreases-loop-i l = length l.codes - l.i
+abbrev pub invariant-loop-block : goal.invariant-loop-block
+invariant-loop-block l = Ahead l.codes (chunks_rest l.block-iterator) (chunks_size l.block-iterator) l.scalar l.size

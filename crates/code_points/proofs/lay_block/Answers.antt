@@ -7,9 +7,6 @@ pub lay_ascii-requires : goal.lay_ascii-requires
 lay_ascii-requires c =
     (each_below c.requires 0x80 c.or_all-most.ensures c.if-most-lt128.true, omega (arith, c.requires.many, c.requires.free, c.requires.bounded))
 
-pub overflow_add-result : goal.overflow_add-result
-overflow_add-result c = omega (arith, c.requires.free)
-
 pub returns-then-most-lt128 : goal.returns-then-most-lt128
 returns-then-most-lt128 c =
     ascii-laid c.requires

@@ -2,27 +2,24 @@
 use native.Mathlib.Omega.{arith}
 use lib.Seq.{length-take-le}
 use mathlib.Core.Path.{sym}
-use Rattle.code_points.proofs.Encoded.{encoded-size, encoded-four, encoded-inside, encoded-exact, encoded-over}
+use Rattle.code_points.proofs.Encoded.{encoded-size, encoded-inside, encoded-exact, encoded-over}
 use Rattle.code_points.proofs.put_character.Goals as goal
-
-pub copy_bytes-requires : goal.copy_bytes-requires
-copy_bytes-requires c = omega (arith, encoded-four c.encode_utf8-encoded.ensures, c.if-at-until.true, c.requires)
 
 pub returns-then-at-until : goal.returns-then-at-until
 returns-then-at-until c =
-    (encoded-size c.encode_utf8-encoded.ensures, encoded-over c.encode_utf8-encoded.ensures c.if-at-until.true c.requires.1 c.copy_bytes.ensures)
+    (encoded-size c.encode_utf8-encoded.ensures, encoded-over c.encode_utf8-encoded.ensures c.if-at-until.true c.requires.1 c.copy.ensures)
 
 pub slice_bounds-bytes-end : goal.slice_bounds-bytes-end
 slice_bounds-bytes-end c = encoded-inside c.encode_utf8-encoded.ensures
 
-pub slice_bounds-copy_bytes-end-2 : goal.slice_bounds-copy_bytes-end-2
-slice_bounds-copy_bytes-end-2 c =
+pub slice_bounds-copy-end-2 : goal.slice_bounds-copy-end-2
+slice_bounds-copy-end-2 c =
     let made = c.encode_utf8-encoded in sym (length-take-le made.result.len made.result.bytes (encoded-inside made.ensures))
 
-pub copy_bytes-requires-2 : goal.copy_bytes-requires-2
-copy_bytes-requires-2 c =
+pub copy-requires-2 : goal.copy-requires-2
+copy-requires-2 c =
     omega (arith, length-take-le c.encode_utf8-encoded.result.len c.encode_utf8-encoded.result.bytes (encoded-inside c.encode_utf8-encoded.ensures), encoded-size c.encode_utf8-encoded.ensures, c.requires)
 
 pub returns : goal.returns
 returns c =
-    (encoded-size c.encode_utf8-encoded.ensures, encoded-exact c.encode_utf8-encoded.ensures _ c.requires.0 c.copy_bytes-2.ensures)
+    (encoded-size c.encode_utf8-encoded.ensures, encoded-exact c.encode_utf8-encoded.ensures _ c.requires.0 c.copy-2.ensures)

@@ -1,3 +1,4 @@
+use Rattle.std.proofs.Common.{arith}
 use Rattle.convert_list.proofs.TwoReads.{none-expand, one-expands, all-expanding}
 use Rattle.convert_list.proofs.all_expand.Goals as goal
 
@@ -8,4 +9,4 @@ pub loop-i-preserved : goal.loop-i-preserved
 loop-i-preserved c = one-expands c.loop-i.invariant c.expands-ok.ensures
 
 pub returns : goal.returns
-returns c t = all-expanding (c.loop-i.invariant t) c.loop-i-test.false
+returns c t = all-expanding (c.loop-i.invariant t) (omega arith)

@@ -1,6 +1,7 @@
 use mathlib.Core.Path.{◌∙◌, sym}
 use native.Mathlib.Omega.{arith}
 use lib.ListN.{length}
+use Prim.Native.Nat.{◌<◌}
 use Rattle.convert_list.proofs.TwoReads.{expandable-most, has-byte, has_end, answer-reads, answer-converted}
 use Rattle.convert_list.proofs.Answering.{none_between, one-expanded, one-answered, between_done}
 use Rattle.convert_list.proofs.convert_between.Goals as goal
@@ -55,7 +56,7 @@ bounds-out_ends-i-else-expands c =
 pub loop-i-preserved : goal.loop-i-preserved
 loop-i-preserved c =
     let known = c.requires.ranges_between in
-    let more = c.loop-i-test.true in (
+    let more : c.loop-i.i < c.args.past = omega arith in (
       omega arith,
       elim c.if-expands.branch [
         | then-expands w ↦

@@ -9,7 +9,7 @@ loop-i-init c = none_read
 pub first_start-requires : goal.first_start-requires
 first_start-requires c =
     let known = c.requires in
-    let so = known.expanding.each _ c.loop-i-test.true in
+    let so = known.expanding.each c.loop-i.i (omega arith) in
     omega (arith, known.paired, has-byte _ _ _ so, has_end _ _ _ so)
 
 pub overflow_add-out_starts : goal.overflow_add-out_starts
@@ -27,7 +27,7 @@ bounds-to-i c = omega (arith, c.requires.same)
 pub last_end-requires : goal.last_end-requires
 last_end-requires c =
     let known = c.requires in
-    let so = known.expanding.each _ c.loop-i-test.true in
+    let so = known.expanding.each c.loop-i.i (omega arith) in
     (omega (arith, has-byte _ _ _ so), has_end _ _ _ so)
 
 pub overflow_add-out_ends : goal.overflow_add-out_ends
@@ -40,7 +40,7 @@ pub bounds-out_ends-at : goal.bounds-out_ends-at
 bounds-out_ends-at c = omega (arith, c.requires.of_ends, c.loop-i.invariant.ends_so.same)
 
 pub loop-i-preserved : goal.loop-i-preserved
-loop-i-preserved c = one-read c.loop-i.invariant c.requires c.loop-i-test.true c.first_start.ensures c.last_end.ensures
+loop-i-preserved c = one-read c.loop-i.invariant c.requires (omega arith) c.first_start.ensures c.last_end.ensures
 
 pub shape_of-out_starts : goal.shape_of-out_starts
 shape_of-out_starts c = c.loop-i.invariant.starts_so.same
@@ -49,4 +49,4 @@ pub shape_of-out_ends : goal.shape_of-out_ends
 shape_of-out_ends c = c.loop-i.invariant.ends_so.same
 
 pub returns : goal.returns
-returns c = all_read c.loop-i.invariant c.loop-i-test.false
+returns c = all_read c.loop-i.invariant (omega arith)

@@ -1,11 +1,6 @@
 -- Each turn reads one range more.
-use Prim.Native.Nat.{◌-◌}
-use lib.ListN.{length}
 use Rattle.convert_list.proofs.Answering.{Reading}
 use Rattle.convert_list.proofs.expand_block.Given as goal
 
 abbrev pub invariant-loop-i : goal.invariant-loop-i
 invariant-loop-i l = Reading l.starts l.ends l.from l.to l.at l.initial.out_starts l.initial.out_ends l.out_starts l.out_ends l.i
-
-abbrev pub decreases-loop-i : goal.decreases-loop-i
-decreases-loop-i l = length l.from - l.i

@@ -44,7 +44,7 @@ returns-then-room-kept c =
     (flag_commands c.args.text.now c.args.flags.now) c.args.out.now c.args.out_starts.now
     c.args.out_ends.now c.is_char_range.ensures (ap not c.if-not-is_char_range.false)
     (begun-skipped c.args.text.now c.args.to.0 c.args.from.0 c.args.flags.now)
-    c.measure_flags.ensures c.in-Size.is c.least_room.ensures
+    c.measure_flags.ensures c.in-Some.is c.least_room.ensures
     c.least_of_two-room.ensures c.if-room-kept.true
 
 pub returns-then-room-kept-2 : goal.returns-then-room-kept-2
@@ -53,7 +53,7 @@ returns-then-room-kept-2 c =
     (flag_commands c.args.text.now c.args.flags.now) c.args.out.now c.args.out_starts.now
     c.args.out_ends.now c.is_char_range.ensures (ap not c.if-not-is_char_range.false)
     (begun-skipped c.args.text.now c.args.to.0 c.args.from.0 c.args.flags.now)
-    c.measure_flags.ensures c.in-Size.is c.least_room.ensures
+    c.measure_flags.ensures c.in-Some.is c.least_room.ensures
     c.least_of_two-room.ensures c.if-room-kept.false c.if-room-kept-2.true
 
 pub lay_filtered-requires : goal.lay_filtered-requires
@@ -72,24 +72,24 @@ lay_filtered-requires c =
           (flag_commands c.args.text.now c.args.flags.now) c.args.out.now c.args.out_starts.now
           c.args.out_ends.now c.is_char_range.ensures (ap not c.if-not-is_char_range.false)
           (begun-skipped c.args.text.now c.args.to.0 c.args.from.0 c.args.flags.now)
-          c.measure_flags.ensures c.in-Size.is c.least_room.ensures
+          c.measure_flags.ensures c.in-Some.is c.least_room.ensures
           c.least_of_two-room.ensures c.if-room-kept.false c.if-room-kept-2.false;
     }
 
-pub returns-in-Starved : goal.returns-in-Starved
-returns-in-Starved c =
+pub returns-in_default : goal.returns-in_default
+returns-in_default c =
     starved-refused limit c.requires.0 c.args.from.0 c.args.to.0 (skips c.args.flags.now)
     (flag_commands c.args.text.now c.args.flags.now) c.args.out.now c.args.out_starts.now
     c.args.out_ends.now c.is_char_range.ensures (ap not c.if-not-is_char_range.false)
     (begun-skipped c.args.text.now c.args.to.0 c.args.from.0 c.args.flags.now)
-    c.measure_flags.ensures c.in-Starved.is
+    c.measure_flags.ensures c.in_default.is
 
-pub returns-else-room-kept-2 : goal.returns-else-room-kept-2
-returns-else-room-kept-2 c =
+pub returns : goal.returns
+returns c =
     edit-made limit c.requires.0 c.args.from.0 c.args.to.0 (skips c.args.flags.now)
     (flag_commands c.args.text.now c.args.flags.now) c.args.out.now c.args.out_starts.now
     c.args.out_ends.now c.is_char_range.ensures (ap not c.if-not-is_char_range.false)
     (begun-skipped c.args.text.now c.args.to.0 c.args.from.0 c.args.flags.now)
-    c.measure_flags.ensures c.in-Size.is c.least_room.ensures
+    c.measure_flags.ensures c.in-Some.is c.least_room.ensures
     c.least_of_two-room.ensures c.if-room-kept.false
     c.if-room-kept-2.false c.lay_filtered.ensures

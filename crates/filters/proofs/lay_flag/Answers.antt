@@ -10,8 +10,8 @@ use Rattle.filters.proofs.lay_flag.Goals as goal
 pub returns-then-flag-eq0 : goal.returns-then-flag-eq0
 returns-then-flag-eq0 c = flag-dropped c.if-flag-eq0.true
 
-pub copy_bytes-requires : goal.copy_bytes-requires
-copy_bytes-requires c =
+pub copy-requires : goal.copy-requires
+copy-requires c =
     omega (arith, length_part c.args.text.now c.args.q (c.args.q + c.args.size) c.requires.inside, (kept-room c.requires c.if-flag-eq0.false).0)
 
 pub offset_bounds-starts-p : goal.offset_bounds-starts-p
@@ -23,8 +23,8 @@ offset_bounds-starts-p c =
 pub bounds-starts-p : goal.bounds-starts-p
 bounds-starts-p c = c.requires.start_found (ne_eqb _ 0 c.if-flag-eq0.false)
 
-pub fill_offsets-requires : goal.fill_offsets-requires
-fill_offsets-requires c = (kept-room c.requires c.if-flag-eq0.false).1.0
+pub fill-requires : goal.fill-requires
+fill-requires c = (kept-room c.requires c.if-flag-eq0.false).1.0
 
 pub offset_bounds-ends-p : goal.offset_bounds-ends-p
 offset_bounds-ends-p c =
@@ -35,8 +35,8 @@ offset_bounds-ends-p c =
 pub bounds-ends-p : goal.bounds-ends-p
 bounds-ends-p c = c.requires.end_found (ne_eqb _ 0 c.if-flag-eq0.false)
 
-pub fill_offsets-requires-2 : goal.fill_offsets-requires-2
-fill_offsets-requires-2 c = (kept-room c.requires c.if-flag-eq0.false).1.1
+pub fill-requires-2 : goal.fill-requires-2
+fill-requires-2 c = (kept-room c.requires c.if-flag-eq0.false).1.1
 
 pub returns : goal.returns
-returns c = flag-kept c.if-flag-eq0.false c.copy_bytes.ensures c.fill_offsets.ensures c.fill_offsets-2.ensures
+returns c = flag-kept c.if-flag-eq0.false c.copy.ensures c.fill.ensures c.fill-2.ensures

@@ -4,33 +4,33 @@ use native.Mathlib.Omega.{arith}
 use Rattle.filters.proofs.Kept.{char-there, none-filtered, flag-starves, next-filtered, all-filtered, counts-most}
 use Rattle.filters.proofs.measure_flags.Goals as goal
 
-pub loop-i-init : goal.loop-i-init
-loop-i-init c = none-filtered c.requires
+pub loop-flag-init : goal.loop-flag-init
+loop-flag-init c = none-filtered c.requires
 
 pub char_len-size-requires : goal.char_len-size-requires
-char_len-size-requires c = char-there c.loop-i.invariant.beside c.loop-i-test.true
+char_len-size-requires c = char-there c.loop-flag.invariant.beside c.loop-flag-test.true
 
 pub returns-then-flag_starves : goal.returns-then-flag_starves
 returns-then-flag_starves c =
-    flag-starves c.loop-i.invariant c.loop-i-test.true c.char_len-size.ensures c.flag_starves.ensures c.if-flag_starves.true
+    flag-starves c.loop-flag.invariant c.loop-flag-test.true c.char_len-size.ensures c.flag_starves.ensures c.if-flag_starves.true
 
 pub overflow_add-written : goal.overflow_add-written
 overflow_add-written c =
     let long : length c.args.text.now < 2 ^ 64 = c.well_formed.0.0 in
-    omega (arith, long, counts-most _ _ c.kept_len-written.ensures, c.char_len-size.ensures.inside, c.loop-i.invariant.small)
+    omega (arith, long, counts-most _ _ c.kept_len-written.ensures, c.char_len-size.ensures.inside, c.loop-flag.invariant.small)
 
 pub skip-p-requires : goal.skip-p-requires
-skip-p-requires c = c.loop-i.invariant.beside.standing
+skip-p-requires c = c.loop-flag.invariant.beside.standing
 
 pub overflow_add-q : goal.overflow_add-q
 overflow_add-q c =
     let long : length c.args.text.now < 2 ^ 64 = c.well_formed.0.0 in
     omega (arith, long, c.char_len-size.ensures.inside)
 
-pub loop-i-preserved : goal.loop-i-preserved
-loop-i-preserved c =
-    next-filtered c.loop-i.invariant c.loop-i-test.true c.char_len-size.ensures
+pub loop-flag-preserved : goal.loop-flag-preserved
+loop-flag-preserved c =
+    next-filtered c.loop-flag.invariant c.loop-flag-test.true c.char_len-size.ensures
     c.flag_starves.ensures c.if-flag_starves.false c.kept_len-written.ensures c.skip-p.ensures
 
 pub returns : goal.returns
-returns c = all-filtered c.loop-i.invariant c.loop-i-test.false
+returns c = all-filtered c.loop-flag.invariant c.loop-flag-test.false

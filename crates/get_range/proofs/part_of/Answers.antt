@@ -2,8 +2,8 @@
 use Rattle.get_range.proofs.Parts.{part_of-refused, part_of-accepted, accepted-inside}
 use Rattle.get_range.proofs.part_of.Goals as goal
 
-pub returns-in-Refused : goal.returns-in-Refused
-returns-in-Refused c = part_of-refused _ _ _ _ c.part_verdict.ensures c.in-Refused.is
+pub returns-in-Err : goal.returns-in-Err
+returns-in-Err c = part_of-refused _ _ _ _ c.part_verdict.ensures c.in-Err.is
 
 pub slice_bounds-result-count : goal.slice_bounds-result-count
 slice_bounds-result-count c =

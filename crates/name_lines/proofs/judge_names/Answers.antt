@@ -7,7 +7,7 @@ use Rattle.name_lines.proofs.judge_names.Goals.{In_default}
 -- a line that was judged is good
 good : (c : In_default) → 2 ≤ c.line_end-end.result - c.loop-start.start
 good c =
-    good-long c.loop-start.invariant c.loop-start-test.true c.line_end-end.ensures c.judge_line-line.ensures c.in_default.is
+    good-long c.loop-start.invariant c.loop-start-test.true c.line_end-end.ensures c.judge_line.ensures c.in_default.is
 
 pub loop-start-init : goal.loop-start-init
 loop-start-init c = none-judged _
@@ -24,12 +24,12 @@ slice_bounds-judge_line-start c = omega (arith, judging-inside c.loop-start.inva
 pub slice_bounds-judge_line-end : goal.slice_bounds-judge_line-end
 slice_bounds-judge_line-end c = omega (arith, judging-inside c.loop-start.invariant c.line_end-end.ensures)
 
-pub overflow_add-result : goal.overflow_add-result
-overflow_add-result c = omega (arith, c.loop-start.invariant.few)
+pub overflow_add-lines : goal.overflow_add-lines
+overflow_add-lines c = omega (arith, c.loop-start.invariant.few)
 
-pub returns-in-Faulty : goal.returns-in-Faulty
-returns-in-Faulty c =
-    bad-judged c.loop-start.invariant c.loop-start-test.true c.line_end-end.ensures c.judge_line-line.ensures c.in-Faulty.is
+pub returns-in-Err : goal.returns-in-Err
+returns-in-Err c =
+    bad-judged c.loop-start.invariant c.loop-start-test.true c.line_end-end.ensures c.judge_line.ensures c.in-Err.is
 
 pub overflow_sub-bytes : goal.overflow_sub-bytes
 overflow_sub-bytes c = omega (arith, good c)
@@ -41,15 +41,12 @@ pub overflow_add-bytes : goal.overflow_add-bytes
 overflow_add-bytes c =
     omega (arith, c.loop-start.invariant.short, judging-inside c.loop-start.invariant c.line_end-end.ensures)
 
-pub overflow_add-lines : goal.overflow_add-lines
-overflow_add-lines c = omega (arith, c.loop-start.invariant.few)
-
 pub end_len-requires : goal.end_len-requires
 end_len-requires c = omega (arith, judging-inside c.loop-start.invariant c.line_end-end.ensures)
 
 pub loop-start-preserved : goal.loop-start-preserved
 loop-start-preserved c =
-    good-judged c.loop-start.invariant c.loop-start-test.true c.line_end-end.ensures c.judge_line-line.ensures c.in_default.is c.end_len.ensures
+    good-judged c.loop-start.invariant c.loop-start-test.true c.line_end-end.ensures c.judge_line.ensures c.in_default.is c.end_len.ensures
 
 pub overflow_add-start : goal.overflow_add-start
 overflow_add-start c = omega (arith, (loop-start-preserved c).most)

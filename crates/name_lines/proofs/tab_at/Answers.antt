@@ -1,14 +1,11 @@
-use Rattle.name_lines.proofs.Tabs.{none-tabless, byte-tabless, tab-found, tab-none}
+-- The first tab, by the contract of `position`.
+use Rattle.std.proofs.Common.{◌≡◌, ℕ, ◌≤◌, ◌<◌, length, get_or, rules}
+use Rattle.name_lines.proofs.Tabs.{first-tab}
 use Rattle.name_lines.proofs.tab_at.Goals as goal
 
-pub loop-i-init : goal.loop-i-init
-loop-i-init c = none-tabless _
-
-pub returns-then-line-i-eq9 : goal.returns-then-line-i-eq9
-returns-then-line-i-eq9 c = tab-found c.loop-i.invariant c.loop-i-test.true c.if-line-i-eq9.true
-
-pub loop-i-preserved : goal.loop-i-preserved
-loop-i-preserved c = byte-tabless c.loop-i.invariant c.loop-i-test.true c.if-line-i-eq9.false
-
 pub returns : goal.returns
-returns c = tab-none c.loop-i.invariant c.loop-i-test.false
+returns c =
+    let within : c.unwrap_or.result ≤ length c.args.line.now = search rules in
+    let before : (k : ℕ) → k < c.unwrap_or.result → get_or c.args.line.now k 0 ≡ 0x09 → ⊥ = search rules in
+    let found : c.unwrap_or.result < length c.args.line.now → get_or c.args.line.now c.unwrap_or.result 0 ≡ 0x09 = search rules in
+    first-tab _ _ within before found

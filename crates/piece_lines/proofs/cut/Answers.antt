@@ -7,20 +7,20 @@ use Rattle.piece_lines.proofs.cut.Goals as goal
 
 pub slice_bounds-list-end : goal.slice_bounds-list-end
 slice_bounds-list-end c =
-    list-long c.find_matches.ensures c.requires.0 c.requires.1 c.list_buffer-list.ensures c.in-Written.is
+    list-long c.find_matches.ensures c.requires.0 c.requires.1 c.list_buffer-list.ensures c.in-Ok.is
 
 pub slice_bounds-write_cut-end : goal.slice_bounds-write_cut-end
 slice_bounds-write_cut-end c =
-    sym (length-take-le _ _ (list-long c.find_matches.ensures c.requires.0 c.requires.1 c.list_buffer-list.ensures c.in-Written.is))
+    sym (length-take-le _ _ (list-long c.find_matches.ensures c.requires.0 c.requires.1 c.list_buffer-list.ensures c.in-Ok.is))
 
 pub write_cut-requires : goal.write_cut-requires
 write_cut-requires c =
-    (cuttable c.find_matches.ensures c.requires.0 c.requires.1 c.list_buffer-list.ensures c.in-Written.is, c.requires.2)
+    (cuttable c.find_matches.ensures c.requires.0 c.requires.1 c.list_buffer-list.ensures c.in-Ok.is, c.requires.2)
 
-pub returns-in-Refused : goal.returns-in-Refused
-returns-in-Refused c =
-    laid_as (refusal-told c.find_matches.ensures c.requires.0 c.requires.1 c.list_buffer-list.ensures _ c.in-Refused.is) c.write_refusal.ensures
+pub returns-in-Err : goal.returns-in-Err
+returns-in-Err c =
+    laid_as (refusal-told c.find_matches.ensures c.requires.0 c.requires.1 c.list_buffer-list.ensures _ c.in-Err.is) c.write_refusal.ensures
 
-pub returns-in-Written : goal.returns-in-Written
-returns-in-Written c =
-    laid_as (cut-told c.find_matches.ensures c.requires.0 c.requires.1 c.list_buffer-list.ensures c.in-Written.is _) c.write_cut.ensures
+pub returns-in-Ok : goal.returns-in-Ok
+returns-in-Ok c =
+    laid_as (cut-told c.find_matches.ensures c.requires.0 c.requires.1 c.list_buffer-list.ensures c.in-Ok.is _) c.write_cut.ensures

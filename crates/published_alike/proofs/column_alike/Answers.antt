@@ -16,23 +16,23 @@ pub returns-then-place : goal.returns-then-place
 returns-then-place c =
     column-matched _ _ _ _ c.if-place.true c.if-content_len-eq0.false c.before_end.ensures c.before_end-then-place.ensures
 
-pub slice_bounds-same_offsets-count : goal.slice_bounds-same_offsets-count
-slice_bounds-same_offsets-count c = let in_both = within c.requires in omega (arith, in_both.onward, in_both.in_one)
+pub slice_bounds-same-count : goal.slice_bounds-same-count
+slice_bounds-same-count c = let in_both = within c.requires in omega (arith, in_both.onward, in_both.in_one)
 
-pub slice_bounds-same_offsets-start : goal.slice_bounds-same_offsets-start
-slice_bounds-same_offsets-start c = let in_both = within c.requires in omega (arith, in_both.onward, in_both.in_one)
+pub slice_bounds-same-start : goal.slice_bounds-same-start
+slice_bounds-same-start c = let in_both = within c.requires in omega (arith, in_both.onward, in_both.in_one)
 
-pub slice_bounds-same_offsets-end : goal.slice_bounds-same_offsets-end
-slice_bounds-same_offsets-end c = let in_both = within c.requires in omega (arith, in_both.onward, in_both.in_one)
+pub slice_bounds-same-end : goal.slice_bounds-same-end
+slice_bounds-same-end c = let in_both = within c.requires in omega (arith, in_both.onward, in_both.in_one)
 
-pub slice_bounds-same_offsets-count-2 : goal.slice_bounds-same_offsets-count-2
-slice_bounds-same_offsets-count-2 c = let in_both = within c.requires in omega (arith, in_both.onward, in_both.in_other)
+pub slice_bounds-same-count-2 : goal.slice_bounds-same-count-2
+slice_bounds-same-count-2 c = let in_both = within c.requires in omega (arith, in_both.onward, in_both.in_other)
 
-pub slice_bounds-same_offsets-start-2 : goal.slice_bounds-same_offsets-start-2
-slice_bounds-same_offsets-start-2 c = let in_both = within c.requires in omega (arith, in_both.onward, in_both.in_other)
+pub slice_bounds-same-start-2 : goal.slice_bounds-same-start-2
+slice_bounds-same-start-2 c = let in_both = within c.requires in omega (arith, in_both.onward, in_both.in_other)
 
-pub slice_bounds-same_offsets-end-2 : goal.slice_bounds-same_offsets-end-2
-slice_bounds-same_offsets-end-2 c = let in_both = within c.requires in omega (arith, in_both.onward, in_both.in_other)
+pub slice_bounds-same-end-2 : goal.slice_bounds-same-end-2
+slice_bounds-same-end-2 c = let in_both = within c.requires in omega (arith, in_both.onward, in_both.in_other)
 
 pub returns : goal.returns
-returns c = column-unmatched c.args.a.now c.args.b.now c.args.place c.args.content_len c.if-place.false c.same_offsets.ensures
+returns c = column-unmatched c.args.a.now c.args.b.now c.args.place c.args.content_len c.if-place.false c.same.ensures

@@ -9,23 +9,23 @@ pub loop-i-init : goal.loop-i-init
 loop-i-init c = none-walked _ c.requires
 
 pub text_alike-requires : goal.text_alike-requires
-text_alike-requires c = lying c.loop-i.invariant c.entry_at.ensures c.in-At.is
+text_alike-requires c = lying c.loop-i.invariant c.entry_at.ensures c.in-Some.is
 
 pub returns-then-not-text_alike : goal.returns-then-not-text_alike
 returns-then-not-text_alike c =
-    one-unlike c.loop-i.invariant c.entry_at.ensures c.in-At.is c.text_alike.ensures (ap not c.if-not-text_alike.true)
+    one-unlike c.loop-i.invariant c.entry_at.ensures c.in-Some.is c.text_alike.ensures (ap not c.if-not-text_alike.true)
 
 pub loop-i-smaller : goal.loop-i-smaller
 loop-i-smaller c =
-    let step = entry-step _ c.entry_at.ensures c.in-At.is in
+    let step = entry-step _ c.entry_at.ensures c.in-Some.is in
     omega (arith, step.onward, step.most)
 
 pub loop-i-preserved : goal.loop-i-preserved
 loop-i-preserved c =
-    one-walked c.loop-i.invariant c.entry_at.ensures c.in-At.is c.text_alike.ensures (ap not c.if-not-text_alike.false)
+    one-walked c.loop-i.invariant c.entry_at.ensures c.in-Some.is c.text_alike.ensures (ap not c.if-not-text_alike.false)
 
-pub returns-in-Broken : goal.returns-in-Broken
-returns-in-Broken c = broken-walked c.loop-i.invariant c.loop-i-test.true c.entry_at.ensures c.in-Broken.is
+pub returns-in_default : goal.returns-in_default
+returns-in_default c = broken-walked c.loop-i.invariant c.loop-i-test.true c.entry_at.ensures c.in_default.is
 
 pub returns : goal.returns
 returns c = all-walked c.loop-i.invariant c.loop-i-test.false

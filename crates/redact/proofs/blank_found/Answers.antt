@@ -25,7 +25,7 @@ pub blank-requires-2 : goal.blank-requires-2
 blank-requires-2 c =
     let f = c.requires in
     let met = c.if-first-text.false in
-    (blankable f met, bounded-padded f met c.max_byte-max.ensures c.safe_margin-share.ensures c.margin_of-margin.ensures c.block_limit-until.ensures _ (omega arith) c.copy_bytes.ensures)
+    (blankable f met, bounded-padded f met c.max_byte-max.ensures c.safe_margin-share.ensures c.margin_of-margin.ensures c.block_limit-until.ensures _ (omega arith) c.copy.ensures)
 
 pub returns : goal.returns
 returns c = all_found c.requires c.if-first-text.false c.blank-2.ensures

@@ -3,4 +3,4 @@ use Rattle.redact.proofs.Blanks.{whole-laid}
 use Rattle.redact.proofs.lay_whole.Goals as goal
 
 pub returns : goal.returns
-returns c = whole-laid c.requires c.copy_bytes.ensures c.write_starts.ensures c.write_ends.ensures
+returns c = whole-laid c.requires c.copy.ensures c.write_starts.ensures c.write_ends.ensures

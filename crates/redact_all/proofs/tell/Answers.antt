@@ -1,6 +1,7 @@
 -- Everything is laid in front of the passed buffers, and counted there.
-use mathlib.Core.Path.{sym}
+use mathlib.Core.Path.{refl, sym}
 use lib.Seq.{length-take-le}
+use Rattle.buffers.specs.Splice.{overlay}
 use Rattle.redact_all.proofs.Telling.{counts_long, all_told}
 use Rattle.redact_all.proofs.tell.Goals as goal
 
@@ -17,7 +18,8 @@ pub slice_bounds-nonzeros-end-4 : goal.slice_bounds-nonzeros-end-4
 slice_bounds-nonzeros-end-4 c = sym (length-take-le _ _ (counts_long _ _ _ _ _ c.count_words-2.ensures c.requires.counts_long))
 
 pub returns : goal.returns
+unfolding overlay
 returns c =
-    all_told c.copy_bytes.ensures c.copy_offsets.ensures c.copy_offsets-2.ensures
-    c.copy_counts.ensures c.count_words.ensures c.count_words-2.ensures c.requires.counts_long
+    all_told c.copy.ensures c.copy-2.ensures c.copy-3.ensures
+    (rw c.copy_from_slice.ensures.after refl) c.count_words.ensures c.count_words-2.ensures c.requires.counts_long
     c.zeros.ensures c.nonzeros.ensures c.nonzeros-2.ensures

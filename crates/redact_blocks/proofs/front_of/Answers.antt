@@ -4,4 +4,4 @@ use Rattle.redact_blocks.proofs.Front.{front-copied}
 use Rattle.redact_blocks.proofs.front_of.Goals as goal
 
 pub returns : goal.returns
-returns c = front-copied _ _ c.least_of_two-front_len.ensures refl c.copy_bytes.ensures
+returns c = front-copied _ _ c.least_of_two-front_len.ensures refl c.copy.ensures

@@ -8,19 +8,19 @@ loop-i-init c = none-measured _ _
 
 pub returns-then-total-size : goal.returns-then-total-size
 returns-then-total-size c =
-    too_much c.loop-i.invariant c.entry_at.ensures c.in-At.is c.place_size-size.ensures c.if-total-size.true
+    too_much c.loop-i.invariant c.entry_at.ensures c.in-Some.is c.place_size-size.ensures c.if-total-size.true
 
 pub loop-i-smaller : goal.loop-i-smaller
 loop-i-smaller c =
-    let step = entry-step _ c.entry_at.ensures c.in-At.is in
+    let step = entry-step _ c.entry_at.ensures c.in-Some.is in
     omega (arith, step.onward, step.most)
 
 pub loop-i-preserved : goal.loop-i-preserved
 loop-i-preserved c =
-    more-measured c.loop-i.invariant c.entry_at.ensures c.in-At.is c.place_size-size.ensures c.if-total-size.false
+    more-measured c.loop-i.invariant c.entry_at.ensures c.in-Some.is c.place_size-size.ensures c.if-total-size.false
 
-pub returns-in-Broken : goal.returns-in-Broken
-returns-in-Broken c = broken-measured c.loop-i.invariant c.loop-i-test.true c.entry_at.ensures c.in-Broken.is
+pub returns-in_default : goal.returns-in_default
+returns-in_default c = broken-measured c.loop-i.invariant c.loop-i-test.true c.entry_at.ensures c.in_default.is
 
 pub returns : goal.returns
 returns c = all-measured c.loop-i.invariant c.loop-i-test.false

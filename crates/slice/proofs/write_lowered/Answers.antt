@@ -11,10 +11,10 @@ pub overflow_sub-out : goal.overflow_sub-out
 overflow_sub-out c = c.requires.above _ (omega arith)
 
 pub loop-j-preserved : goal.loop-j-preserved
-loop-j-preserved c = one-lowered _ _ c.loop-j.invariant c.requires c.loop-j-test.true refl
+loop-j-preserved c = one-lowered _ _ c.loop-j.invariant c.requires (omega arith) refl
 
 pub shape_of-out : goal.shape_of-out
 shape_of-out c = c.loop-j.invariant.same
 
 pub returns : goal.returns
-returns c = all-lowered _ _ c.loop-j.invariant c.loop-j-test.false
+returns c = all-lowered _ _ c.loop-j.invariant (omega arith)

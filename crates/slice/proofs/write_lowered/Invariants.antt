@@ -1,12 +1,7 @@
 -- Each turn writes one more number of the column.
-use Prim.Native.Nat.{◌-◌}
-use lib.ListN.{length}
 use Rattle.buffers.proofs.Splice.{Written}
 use Rattle.slice.specs.Slicing.{lowered}
 use Rattle.slice.proofs.write_lowered.Given as goal
 
 abbrev pub invariant-loop-j : goal.invariant-loop-j
 invariant-loop-j l = Written (lowered l.base l.column) l.initial.out l.at l.out l.j
-
-abbrev pub decreases-loop-j : goal.decreases-loop-j
-decreases-loop-j l = length l.column - l.j

@@ -7,4 +7,4 @@ pub write_lowered-requires : goal.write_lowered-requires
 write_lowered-requires c = block-lowerable c.requires _ refl
 
 pub returns : goal.returns
-returns c = block-through c.requires _ refl c.write_lowered.ensures c.copy_offsets.ensures
+returns c = block-through c.requires _ refl c.write_lowered.ensures c.copy.ensures

@@ -1,4 +1,5 @@
 -- A refusal comes before the first store; past it there is room for every piece and every alignment.
+use Rattle.buffers.proofs.Cases.{passed-on}
 use Rattle.note.specs.Notes.{limit}
 use Rattle.split.specs.Splitting.{columns}
 use Rattle.split.proofs.Judged.{split-refused, split-accepted, split-cut}
@@ -8,16 +9,15 @@ pub write_pieces-requires : goal.write_pieces-requires
 write_pieces-requires c =
     split-accepted limit _ _ _ _ (columns c.args.piece_starts.now c.args.piece_ends.now c.args.piece_shifts.now c.args.piece_lengths.now c.args.out_starts.now c.args.out_ends.now)
     c.least_of_two-spans.ensures c.least_of_two-numbers.ensures c.least_of_two-for_pieces.ensures c.least_of_two-for_alignments.ensures
-    c.check_split.ensures c.in-Accepted.is
+    c.check_split.ensures c.in_ok-check_split.was
 
-pub returns-in-Refused : goal.returns-in-Refused
-returns-in-Refused c =
-    split-refused limit _ _ _ _ (columns c.args.piece_starts.now c.args.piece_ends.now c.args.piece_shifts.now c.args.piece_lengths.now c.args.out_starts.now c.args.out_ends.now)
+pub returns-in_err-check_split : goal.returns-in_err-check_split
+returns-in_err-check_split c = rw (passed-on _ c.from_residual.ensures.1) (split-refused limit _ _ _ _ (columns c.args.piece_starts.now c.args.piece_ends.now c.args.piece_shifts.now c.args.piece_lengths.now c.args.out_starts.now c.args.out_ends.now)
     c.least_of_two-spans.ensures c.least_of_two-numbers.ensures c.least_of_two-for_pieces.ensures c.least_of_two-for_alignments.ensures
-    c.check_split.ensures c.in-Refused.is
+    c.check_split.ensures c.in_err-check_split.was)
 
-pub returns-in-Accepted : goal.returns-in-Accepted
-returns-in-Accepted c =
+pub returns : goal.returns
+returns c =
     split-cut limit _ _ _ _ (columns c.args.piece_starts.now c.args.piece_ends.now c.args.piece_shifts.now c.args.piece_lengths.now c.args.out_starts.now c.args.out_ends.now)
     c.least_of_two-spans.ensures c.least_of_two-numbers.ensures c.least_of_two-for_pieces.ensures c.least_of_two-for_alignments.ensures
-    c.check_split.ensures c.in-Accepted.is c.write_pieces.ensures
+    c.check_split.ensures c.in_ok-check_split.was c.write_pieces.ensures

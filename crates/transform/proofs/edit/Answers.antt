@@ -47,7 +47,7 @@ returns-then-room-kept c =
     (commands_of c.args.script.now) c.args.out.now c.args.out_starts.now c.args.out_ends.now
     c.is_char_range.ensures (ap not c.if-not-is_char_range.false)
     c.skip-position.ensures c.measure.ensures
-    c.in-Size.is c.least_room.ensures c.least_of_two-room.ensures c.if-room-kept.true
+    c.in-Some.is c.least_room.ensures c.least_of_two-room.ensures c.if-room-kept.true
 
 pub returns-then-room-kept-2 : goal.returns-then-room-kept-2
 returns-then-room-kept-2 c =
@@ -55,7 +55,7 @@ returns-then-room-kept-2 c =
     (commands_of c.args.script.now) c.args.out.now c.args.out_starts.now c.args.out_ends.now
     c.is_char_range.ensures (ap not c.if-not-is_char_range.false)
     c.skip-position.ensures c.measure.ensures
-    c.in-Size.is c.least_room.ensures c.least_of_two-room.ensures c.if-room-kept.false
+    c.in-Some.is c.least_room.ensures c.least_of_two-room.ensures c.if-room-kept.false
     c.if-room-kept-2.true
 
 pub lay_edit-requires : goal.lay_edit-requires
@@ -64,25 +64,25 @@ lay_edit-requires c = (
       (commands_of c.args.script.now) c.args.out.now c.args.out_starts.now c.args.out_ends.now
       c.is_char_range.ensures (ap not c.if-not-is_char_range.false)
       c.skip-position.ensures c.measure.ensures
-      c.in-Size.is c.least_room.ensures c.least_of_two-room.ensures
+      c.in-Some.is c.least_room.ensures c.least_of_two-room.ensures
       c.if-room-kept.false c.if-room-kept-2.false,
-  (measured-size _ _ _ _ (sym c.measure.ensures ∙ c.in-Size.is)).1,
+  (measured-size _ _ _ _ (sym c.measure.ensures ∙ c.in-Some.is)).1,
 )
 
-pub returns-in-Starved : goal.returns-in-Starved
-returns-in-Starved c =
+pub returns-in_default : goal.returns-in_default
+returns-in_default c =
     starved-refused limit c.requires c.args.from.0 c.args.to.0 c.args.initial_offset
     (commands_of c.args.script.now) c.args.out.now c.args.out_starts.now c.args.out_ends.now
     c.is_char_range.ensures (ap not c.if-not-is_char_range.false)
     c.skip-position.ensures c.measure.ensures
-    c.in-Starved.is
+    c.in_default.is
 
-pub returns-else-room-kept-2 : goal.returns-else-room-kept-2
-returns-else-room-kept-2 c =
+pub returns : goal.returns
+returns c =
     edit-made limit c.requires c.args.from.0 c.args.to.0 c.args.initial_offset
     (commands_of c.args.script.now) c.args.out.now c.args.out_starts.now c.args.out_ends.now
     c.is_char_range.ensures (ap not c.if-not-is_char_range.false)
     c.skip-position.ensures c.measure.ensures
-    c.in-Size.is c.least_room.ensures c.least_of_two-room.ensures
+    c.in-Some.is c.least_room.ensures c.least_of_two-room.ensures
     c.if-room-kept.false c.if-room-kept-2.false
     c.lay_edit.ensures

@@ -10,7 +10,6 @@ use Rattle.utf8.specs.Scalar.{scalar, bytes_of}
 use Rattle.utf8.specs.declared.Encoded.{Encoded}
 use Rattle.utf8.specs.Encoding.{EncodedAs}
 use Rattle.utf8.proofs.Scalar.{encoded-one, encoded-two, encoded-three, encoded-four, scalar-most, bytes_of-scalar, bytes_of-other}
-use borrow.Author.Rules.{rules}
 use Rattle.utf8.proofs.encode_utf8.Goals as goal
 use Rattle.utf8.proofs.encode_utf8.Goals.{Else-not-is_scalar}
 
@@ -22,104 +21,28 @@ holding e l b = record { len_is = rw e l; bytes_are = rw e b }
 is_scalar : (c : Else-not-is_scalar) → scalar c.args.c ≡ true
 is_scalar c = sym c.is_scalar.ensures ∙ c.if-not-is_scalar.false
 
-pub is_scalar-requires : goal.is_scalar-requires
-unfolding overlay
-is_scalar-requires c = search rules
-
 pub returns-then-not-is_scalar : goal.returns-then-not-is_scalar
 unfolding overlay
 returns-then-not-is_scalar c = holding (bytes_of-other _ (sym c.is_scalar.ensures ∙ c.if-not-is_scalar.true)) refl refl
-
-pub overflow_cast-result : goal.overflow_cast-result
-unfolding overlay
-overflow_cast-result c = search rules
 
 pub returns-then-c-lt128 : goal.returns-then-c-lt128
 unfolding overlay
 returns-then-c-lt128 c =
     holding (bytes_of-scalar _ (is_scalar (goal.at.returns-then-c-lt128 c).Else-not-is_scalar) ∙ encoded-one _ (omega arith)) refl refl
 
-pub overflow_add-result : goal.overflow_add-result
-unfolding overlay
-overflow_add-result c = search rules
-
-pub overflow_cast-result-then-c-lt2048 : goal.overflow_cast-result-then-c-lt2048
-unfolding overlay
-overflow_cast-result-then-c-lt2048 c = search rules
-
-pub overflow_add-result-then-c-lt2048 : goal.overflow_add-result-then-c-lt2048
-unfolding overlay
-overflow_add-result-then-c-lt2048 c = search rules
-
-pub overflow_cast-result-then-c-lt2048-2 : goal.overflow_cast-result-then-c-lt2048-2
-unfolding overlay
-overflow_cast-result-then-c-lt2048-2 c = search rules
-
 pub returns-then-c-lt2048 : goal.returns-then-c-lt2048
 unfolding overlay
 returns-then-c-lt2048 c =
     holding (bytes_of-scalar _ (is_scalar (goal.at.returns-then-c-lt2048 c).Else-not-is_scalar) ∙ encoded-two _ (omega arith) (omega arith)) refl refl
-
-pub overflow_add-result-then-c-lt65536 : goal.overflow_add-result-then-c-lt65536
-unfolding overlay
-overflow_add-result-then-c-lt65536 c = search rules
-
-pub overflow_cast-result-then-c-lt65536 : goal.overflow_cast-result-then-c-lt65536
-unfolding overlay
-overflow_cast-result-then-c-lt65536 c = search rules
-
-pub overflow_add-result-then-c-lt65536-2 : goal.overflow_add-result-then-c-lt65536-2
-unfolding overlay
-overflow_add-result-then-c-lt65536-2 c = search rules
-
-pub overflow_cast-result-then-c-lt65536-2 : goal.overflow_cast-result-then-c-lt65536-2
-unfolding overlay
-overflow_cast-result-then-c-lt65536-2 c = search rules
-
-pub overflow_add-result-then-c-lt65536-3 : goal.overflow_add-result-then-c-lt65536-3
-unfolding overlay
-overflow_add-result-then-c-lt65536-3 c = search rules
-
-pub overflow_cast-result-then-c-lt65536-3 : goal.overflow_cast-result-then-c-lt65536-3
-unfolding overlay
-overflow_cast-result-then-c-lt65536-3 c = search rules
 
 pub returns-then-c-lt65536 : goal.returns-then-c-lt65536
 unfolding overlay
 returns-then-c-lt65536 c =
     holding (bytes_of-scalar _ (is_scalar (goal.at.returns-then-c-lt65536 c).Else-not-is_scalar) ∙ encoded-three _ (omega arith) (omega arith)) refl refl
 
-pub overflow_add-result-2 : goal.overflow_add-result-2
-unfolding overlay
-overflow_add-result-2 c = search rules
-
 pub overflow_cast-result-2 : goal.overflow_cast-result-2
 unfolding overlay
 overflow_cast-result-2 c = omega (arith, scalar-most _ (is_scalar (goal.at.overflow_cast-result-2 c).Else-not-is_scalar))
-
-pub overflow_add-result-3 : goal.overflow_add-result-3
-unfolding overlay
-overflow_add-result-3 c = search rules
-
-pub overflow_cast-result-3 : goal.overflow_cast-result-3
-unfolding overlay
-overflow_cast-result-3 c = search rules
-
-pub overflow_add-result-4 : goal.overflow_add-result-4
-unfolding overlay
-overflow_add-result-4 c = search rules
-
-pub overflow_cast-result-4 : goal.overflow_cast-result-4
-unfolding overlay
-overflow_cast-result-4 c = search rules
-
-pub overflow_add-result-5 : goal.overflow_add-result-5
-unfolding overlay
-overflow_add-result-5 c = search rules
-
-pub overflow_cast-result-5 : goal.overflow_cast-result-5
-unfolding overlay
-overflow_cast-result-5 c = search rules
 
 pub returns : goal.returns
 unfolding overlay

@@ -1,10 +1,6 @@
 -- Every byte so far can stand where it does.
-use Prim.Native.Nat.{◌-◌}
 use Rattle.validity.proofs.ValidAt.{ValidSoFar}
 use Rattle.validity.proofs.valid_between.Given as goal
 
 abbrev pub invariant-loop-i : goal.invariant-loop-i
 invariant-loop-i l = ValidSoFar l.s l.from l.to l.i
-
-abbrev pub decreases-loop-i : goal.decreases-loop-i
-decreases-loop-i l = l.to - l.i

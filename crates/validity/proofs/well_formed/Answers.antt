@@ -1,5 +1,5 @@
-use Prim.Native.Nat.{◌+◌}
-use mathlib.Core.Path.{sym, ◌∙◌}
+use Prim.Native.Nat.{◌+◌, ◌*◌, ◌/◌}
+use mathlib.Core.Path.{◌≡◌, sym, ◌∙◌}
 use lib.ListN.{length-take, length-drop}
 use native.Mathlib.Omega.{arith}
 use Rattle.validity.proofs.Ascii.{ascii-formed}
@@ -14,9 +14,9 @@ pub returns-then-not-valid_between : goal.returns-then-not-valid_between
 returns-then-not-valid_between c =
     sym (from_all _ ∙ valid-not (valid-none (omega arith)) 3 (omega arith) _ c.valid_between.ensures c.if-not-valid_between.true)
 
-pub loop-i-init : goal.loop-i-init
-loop-i-init c =
-    (omega arith, valid-more (valid-none (omega arith)) 3 (omega arith) _ c.valid_between.ensures c.if-not-valid_between.false)
+pub loop-k-init : goal.loop-k-init
+loop-k-init c =
+    valid-more (valid-none (omega arith)) 3 (omega arith) _ c.valid_between.ensures c.if-not-valid_between.false
 
 pub valid_block-requires : goal.valid_block-requires
 valid_block-requires c = simp (length-take, length-drop) (omega arith)
@@ -24,16 +24,17 @@ valid_block-requires c = simp (length-take, length-drop) (omega arith)
 -- one more block
 pub returns-then-not-valid_block : goal.returns-then-not-valid_block
 returns-then-not-valid_block c =
-    let head = c.loop-i in
-    sym (from_all _ ∙ valid-not head.invariant.1 (head.i + 384) (omega arith) _ (c.valid_block.ensures ∙ block-valid _ _ _ head.invariant.0 c.loop-i-test.true) c.if-not-valid_block.true)
+    let head = c.loop-k in
+    sym (from_all _ ∙ valid-not head.invariant (3 + head.k * 384 + 384) (omega arith) _ (c.valid_block.ensures ∙ block-valid _ _ _ (omega arith) (omega arith)) c.if-not-valid_block.true)
 
-pub loop-i-preserved : goal.loop-i-preserved
-loop-i-preserved c =
-    let head = c.loop-i in
-    (omega arith, valid-more head.invariant.1 (head.i + 384) (omega arith) _ (c.valid_block.ensures ∙ block-valid _ _ _ head.invariant.0 c.loop-i-test.true) c.if-not-valid_block.false)
-
-pub valid_rest-requires : goal.valid_rest-requires
-valid_rest-requires c = (omega arith, omega arith)
+pub loop-k-preserved : goal.loop-k-preserved
+loop-k-preserved c =
+    let head = c.loop-k in
+    let next : 3 + (head.k + 1) * 384 ≡ 3 + head.k * 384 + 384 = omega arith in
+    rw next
+    (valid-more head.invariant (3 + head.k * 384 + 384) (omega arith) _ (c.valid_block.ensures ∙ block-valid _ _ _ (omega arith) (omega arith)) c.if-not-valid_block.false)
 
 pub returns : goal.returns
-returns c = c.valid_rest.ensures ∙ sym (from_all _ ∙ valid-rest c.loop-i.invariant.1 _ (omega arith))
+returns c =
+    let all : c.saturating_sub-blocks.result / 384 ≡ c.loop-k.k = omega arith in
+    rw all at c.valid_rest.ensures ∙ sym (from_all _ ∙ valid-rest c.loop-k.invariant _ (omega arith))

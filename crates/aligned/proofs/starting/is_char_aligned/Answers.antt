@@ -9,13 +9,12 @@ pub returns-then-text-eq0 : goal.returns-then-text-eq0
 returns-then-text-eq0 c = at-end (is_char_aligned _ _ _) 0 _ _ (omega arith) (omega arith) (char-aligned-none _ _ _)
 
 pub loop-i-init : goal.loop-i-init
-loop-i-init c = (omega arith, (omega arith, char-aligned-first _ _ _ _ refl))
+loop-i-init c = char-aligned-first _ _ _ _ refl
 
 pub loop-i-preserved : goal.loop-i-preserved
 loop-i-preserved c =
-    let inv = c.loop-i.invariant in
-    (omega arith, (omega (arith, c.loop-i-test.true), char-aligned-more _ _ _ _ _ _ inv.0 inv.1.1 c.carries_own-ok.ensures))
+    char-aligned-more _ _ _ _ _ _ (omega arith) c.loop-i.invariant c.carries_own-ok.ensures
 
 pub returns : goal.returns
 returns c =
-    at-end (is_char_aligned _ _ _) _ _ _ c.loop-i.invariant.1.0 c.loop-i-test.false c.loop-i.invariant.1.1
+    at-end (is_char_aligned _ _ _) _ _ _ (omega arith) c.loop-i-test.false c.loop-i.invariant

@@ -1,11 +1,8 @@
 -- Each turn writes one more number.
-use Prim.Native.Nat.{◌+◌, ◌-◌, ◌≤◌}
+use Prim.Native.Nat.{◌+◌, ◌-◌}
 use lib.ListN.{get_or}
 use Rattle.buffers.specs.Columns.{Filled}
 use Rattle.column_blocks.proofs.pairs.add_base.Given as goal
 
 abbrev pub invariant-loop-k : goal.invariant-loop-k
-invariant-loop-k l = (l.k ≤ 64) × Filled (λ m. l.base + get_or l.steps (m - l.at) 0) l.initial.out l.at (l.at + l.k) l.out
-
-abbrev pub decreases-loop-k : goal.decreases-loop-k
-decreases-loop-k l = 64 - l.k
+invariant-loop-k l = Filled (λ m. l.base + get_or l.steps (m - l.at) 0) l.initial.out l.at (l.at + l.k) l.out

@@ -2,21 +2,21 @@ use native.Mathlib.Omega.{arith}
 use Rattle.buffers.proofs.Columns.{none_filled, filled-up, filled_at}
 use Rattle.column_blocks.proofs.pairs.count_back.Goals as goal
 
-pub loop-j-init : goal.loop-j-init
-loop-j-init c = (omega arith, none_filled _ _ _)
+pub loop-k-init : goal.loop-k-init
+loop-k-init c = none_filled _ _ _
 
-pub overflow_add-steps-in-loop-j : goal.overflow_add-steps-in-loop-j
-overflow_add-steps-in-loop-j c = omega (arith, c.begun.ensures)
+pub overflow_add-steps-in-loop-k : goal.overflow_add-steps-in-loop-k
+overflow_add-steps-in-loop-k c = omega (arith, c.begun.ensures)
 
 pub bounds-steps-k : goal.bounds-steps-k
-bounds-steps-k c = omega (arith, c.loop-j.invariant.1.same)
+bounds-steps-k c = omega (arith, c.loop-k.invariant.same)
 
-pub loop-j-preserved : goal.loop-j-preserved
-loop-j-preserved c =
-    (omega arith, filled-up _ _ _ _ _ _ c.loop-j.invariant.1 (omega arith) (omega (arith, c.begun.ensures)))
+pub loop-k-preserved : goal.loop-k-preserved
+loop-k-preserved c =
+    filled-up _ _ _ _ _ _ c.loop-k.invariant (omega arith) (omega (arith, c.begun.ensures))
 
 pub shape_of-steps : goal.shape_of-steps
-shape_of-steps c = c.loop-j.invariant.1.same
+shape_of-steps c = c.loop-k.invariant.same
 
 pub returns : goal.returns
-returns c = filled_at _ _ _ _ _ _ _ c.loop-j.invariant.1 (omega arith) (omega arith)
+returns c = filled_at _ _ _ _ _ _ _ c.loop-k.invariant (omega arith) (omega arith)

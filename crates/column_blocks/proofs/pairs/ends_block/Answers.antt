@@ -11,7 +11,7 @@ pub add_base-requires : goal.add_base-requires
 add_base-requires c =
     let counted = c.count_ahead.ensures in
     let i = c.args.i in
-    let s = c.args.text.now in record { steps_len = omega (arith, counted.same); by_index = λ k. omega (arith, steps-most ((i - 2) % 64 + 68) refl counted (λ j h. omega (arith, pair_small (get_or (part s (i + 1) (i + 65)) j 0) (get_or (part s (i + 2) (i + 66)) j 0))) k) }
+    let s = c.args.text.now in record { steps_len = omega (arith, counted.same); by_index = λ k. omega (arith, steps-most ((i - 2) % 64 + 68) refl counted (λ j h. omega (arith, pair_small (get_or (part s (i + 1) (i + 1 + 64)) j 0) (get_or (part s (i + 2) (i + 2 + 64)) j 0))) k) }
 
 pub returns : goal.returns
 returns c =

@@ -3,13 +3,13 @@ use Rattle.buffers.proofs.Columns.{none_filled, filled-up, filled_at}
 use Rattle.column_blocks.proofs.runs.count_runs.Goals as goal
 
 pub loop-j-init : goal.loop-j-init
-loop-j-init c = (omega arith, none_filled _ _ _)
+loop-j-init c = none_filled _ _ _
 
 pub loop-j-preserved : goal.loop-j-preserved
-loop-j-preserved c = (omega arith, filled-up _ _ _ _ _ _ c.loop-j.invariant.1 (omega arith) c.continuation_run.ensures)
+loop-j-preserved c = filled-up _ _ _ _ _ _ c.loop-j.invariant (omega arith) c.continuation_run.ensures
 
 pub shape_of-counts : goal.shape_of-counts
-shape_of-counts c = c.loop-j.invariant.1.same
+shape_of-counts c = c.loop-j.invariant.same
 
 pub returns : goal.returns
-returns c = filled_at _ _ _ _ _ _ _ c.loop-j.invariant.1 (omega arith) (omega arith)
+returns c = filled_at _ _ _ _ _ _ _ c.loop-j.invariant (omega arith) (omega arith)

@@ -1,12 +1,7 @@
 -- Each turn writes one more count.
-use Prim.Native.Nat.{◌-◌, ◌≤◌}
-use lib.ListN.{length}
 use Rattle.buffers.specs.Columns.{Filled}
 use Rattle.column_blocks.specs.ContinuationRun.{run_at}
 use Rattle.column_blocks.proofs.runs.count_runs.Given as goal
 
 abbrev pub invariant-loop-j : goal.invariant-loop-j
-invariant-loop-j l = (l.j ≤ length l.initial.counts) × Filled (run_at l.text l.a l.b l.c) l.initial.counts 0 l.j l.counts
-
-abbrev pub decreases-loop-j : goal.decreases-loop-j
-decreases-loop-j l = length l.initial.counts - l.j
+invariant-loop-j l = Filled (run_at l.text l.a l.b l.c) l.initial.counts 0 l.j l.counts

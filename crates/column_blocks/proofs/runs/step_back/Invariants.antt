@@ -1,11 +1,8 @@
 -- Each turn writes one more start.
-use Prim.Native.Nat.{◌+◌, ◌-◌, ◌≤◌}
-use lib.ListN.{length, get_or}
+use Prim.Native.Nat.{◌+◌, ◌-◌}
+use lib.ListN.{get_or}
 use Rattle.buffers.specs.Columns.{Filled}
 use Rattle.column_blocks.proofs.runs.step_back.Given as goal
 
 abbrev pub invariant-loop-k : goal.invariant-loop-k
-invariant-loop-k l = (l.k ≤ length l.counts) × Filled (λ m. l.i + (m - l.at) - get_or l.counts (m - l.at) 0) l.initial.starts l.at (l.at + l.k) l.starts
-
-abbrev pub decreases-loop-k : goal.decreases-loop-k
-decreases-loop-k l = length l.counts - l.k
+invariant-loop-k l = Filled (λ m. l.i + (m - l.at) - get_or l.counts (m - l.at) 0) l.initial.starts l.at (l.at + l.k) l.starts

@@ -1,11 +1,7 @@
 -- Each turn passes a block whose starts are its ends.
-use Prim.Native.Nat.{◌-◌}
-use lib.ListN.{length}
+use Prim.Native.Nat.{◌*◌}
 use Rattle.edits.specs.Laying.{HeadPassed}
 use Rattle.edits.proofs.front.widthless_blocks.Given as goal
 
-abbrev pub invariant-loop-i : goal.invariant-loop-i
-invariant-loop-i l = HeadPassed l.starts l.ends l.i
-
-abbrev pub decreases-loop-i : goal.decreases-loop-i
-decreases-loop-i l = length l.starts - l.i
+abbrev pub invariant-loop-block : goal.invariant-loop-block
+invariant-loop-block l = HeadPassed l.starts l.ends (l.block * 64)

@@ -4,7 +4,4 @@ use Rattle.find.proofs.Candidates.{Candidate}
 use Rattle.find.proofs.search.first_candidate.Given as goal
 
 abbrev pub invariant-loop-j : goal.invariant-loop-j
-invariant-loop-j l = Candidate l.a l.b l.first l.last l.j (64 - l.left) × ((l.left ≤ 64) × (l.j ≤ 64))
-
-abbrev pub decreases-loop-j : goal.decreases-loop-j
-decreases-loop-j l = 64 - l.j
+invariant-loop-j l = Candidate l.a l.b l.first l.last l.j (64 - l.left) × (l.left ≤ 64)

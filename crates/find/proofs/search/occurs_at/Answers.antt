@@ -9,4 +9,4 @@ returns-then-text-p c = occurs-not _ _ _ (omega arith) c.if-text-p.true
 
 pub returns : goal.returns
 unfolding occurs_at
-returns c = c.same_bytes.ensures
+returns c = c.same.ensures

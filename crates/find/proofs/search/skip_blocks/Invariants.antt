@@ -1,11 +1,7 @@
 -- Each turn passes 64 positions at which the literal cannot stand.
-use Prim.Native.Nat.{◌-◌}
-use lib.ListN.{length}
+use Rattle.std.proofs.Common.{◌+◌, ◌*◌}
 use Rattle.find.specs.Searching.{Absent}
 use Rattle.find.proofs.search.skip_blocks.Given as goal
 
-abbrev pub invariant-loop-i : goal.invariant-loop-i
-invariant-loop-i l = Absent l.text l.literal l.from l.i
-
-abbrev pub decreases-loop-i : goal.decreases-loop-i
-decreases-loop-i l = length l.text - l.i
+abbrev pub invariant-loop-k : goal.invariant-loop-k
+invariant-loop-k l = Absent l.text l.literal l.from (l.from + 64 * l.k)

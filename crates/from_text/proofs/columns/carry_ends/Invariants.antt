@@ -5,6 +5,3 @@ use Rattle.from_text.proofs.columns.carry_ends.Given as goal
 
 abbrev pub invariant-loop-i : goal.invariant-loop-i
 invariant-loop-i l = (l.from ≤ l.i) × EndsFrom l.text l.initial.ends l.ends l.end l.i
-
-abbrev pub decreases-loop-i : goal.decreases-loop-i
-decreases-loop-i l = l.i

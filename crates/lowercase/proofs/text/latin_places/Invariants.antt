@@ -1,11 +1,6 @@
 -- Each turn lays a place, and passes it where it is one.
-use Prim.Native.Nat.{◌-◌}
-use lib.ListN.{length}
 use Rattle.lowercase.proofs.Fixing.{Placing}
 use Rattle.lowercase.proofs.text.latin_places.Given as goal
 
 abbrev pub invariant-loop-i : goal.invariant-loop-i
 invariant-loop-i l = Placing l.block l.initial.places l.places l.n l.i
-
-abbrev pub decreases-loop-i : goal.decreases-loop-i
-decreases-loop-i l = length l.block - l.i

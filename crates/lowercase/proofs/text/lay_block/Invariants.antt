@@ -1,12 +1,7 @@
 -- Each turn lays one byte, by comparison.
-use Prim.Native.Nat.{◌-◌}
-use lib.ListN.{length}
 use Rattle.buffers.proofs.Splice.{Written}
 use Rattle.lowercase.specs.Laying.{lowered_each}
 use Rattle.lowercase.proofs.text.lay_block.Given as goal
 
 abbrev pub invariant-loop-i : goal.invariant-loop-i
 invariant-loop-i l = Written (lowered_each l.block) l.initial.out l.at l.out l.i
-
-abbrev pub decreases-loop-i : goal.decreases-loop-i
-decreases-loop-i l = length l.block - l.i

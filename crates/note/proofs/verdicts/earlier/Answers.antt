@@ -1,17 +1,16 @@
 -- One verdict that accepts leaves the other; of two refusals the one of lower rank is given.
-use Rattle.note.proofs.FirstMet.{earlier-first, earlier-second, earlier-less, earlier-most}
+use mathlib.Core.Path.{◌∙◌}
+use Rattle.note.proofs.FirstMet.{earlier-first, earlier-second, earlier-both}
+use Rattle.note.proofs.Order.{least-rank}
 use Rattle.note.proofs.verdicts.earlier.Goals as goal
 
-pub returns-then-rank : goal.returns-then-rank
-returns-then-rank c =
-    earlier-less c.in-Refused.is c.in-Refused-w.is c.rank.ensures c.rank-in-Refused-w.ensures c.if-rank.true
+pub returns-in-Ok-default : goal.returns-in-Ok-default
+returns-in-Ok-default c = earlier-first c.in-Ok-default.is-0
 
-pub returns-in-Accepted : goal.returns-in-Accepted
-returns-in-Accepted c = earlier-first c.in-Accepted.is
+pub returns-in-Err-Ok : goal.returns-in-Err-Ok
+returns-in-Err-Ok c = earlier-second c.in-Err-Ok.is-0 c.in-Err-Ok.is-1
 
-pub returns-in-Accepted-w : goal.returns-in-Accepted-w
-returns-in-Accepted-w c = earlier-second c.in-Refused.is c.in-Accepted-w.is
-
-pub returns-else-rank : goal.returns-else-rank
-returns-else-rank c =
-    earlier-most c.in-Refused.is c.in-Refused-w.is c.rank.ensures c.rank-in-Refused-w.ensures c.if-rank.false
+pub returns-in-Err-Err : goal.returns-in-Err-Err
+returns-in-Err-Err c =
+    let two = c.in-Err-Err in
+    earlier-both two.is-0 two.is-1 (c.min.ensures ∙ least-rank two.j two.k)

@@ -1,9 +1,6 @@
-use Rattle.numbers.proofs.Decimal.{none-counted, one-counted, all-counted}
+use Rattle.numbers.proofs.Decimal.{one-counted, all-counted}
 use native.Mathlib.Omega.{arith}
 use Rattle.numbers.proofs.decimals.count_digits.Goals as goal
-
-pub loop-left-init : goal.loop-left-init
-loop-left-init c = none-counted
 
 pub loop-left-preserved : goal.loop-left-preserved
 loop-left-preserved c = one-counted c.loop-left.invariant (omega arith)

@@ -7,8 +7,5 @@ loop-i-init c = no_digit c.count_digits-count.ensures c.requires
 pub loop-i-preserved : goal.loop-i-preserved
 loop-i-preserved c = digit-laid c.loop-i.invariant c.loop-i-test.true
 
-pub shape_of-out : goal.shape_of-out
-shape_of-out c = c.loop-i.invariant.same
-
 pub returns : goal.returns
 returns c = digits-laid c.loop-i.invariant c.loop-i-test.false c.count_digits-count.ensures

@@ -4,6 +4,3 @@ use Rattle.numbers.proofs.decimals.write_decimal.Given as goal
 
 abbrev pub invariant-loop-i : goal.invariant-loop-i
 invariant-loop-i l = Shrinking l.number l.initial.out l.at l.out l.left l.i
-
-abbrev pub decreases-loop-i : goal.decreases-loop-i
-decreases-loop-i l = l.i

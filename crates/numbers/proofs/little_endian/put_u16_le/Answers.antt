@@ -1,14 +1,8 @@
--- Two stores.
-use lib.ListN.{length-set}
-use Rattle.numbers.proofs.LittleEndian.{value-stored}
-use native.Mathlib.Omega.{arith}
+use mathlib.Core.Path.{◌∙◌, ap}
+use Rattle.buffers.specs.Splice.{splice}
+use Rattle.numbers.proofs.LittleEndian.{bytes-two}
 use Rattle.numbers.proofs.little_endian.put_u16_le.Goals as goal
 
-pub bounds-out-at-2 : goal.bounds-out-at-2
-bounds-out-at-2 c = simp length-set (omega arith)
-
-pub shape_of-out : goal.shape_of-out
-shape_of-out c = simp length-set
-
 pub returns : goal.returns
-returns c = value-stored _ _ _ (omega arith) c.requires
+returns c =
+    c.copy.ensures ∙ ap (splice c.args.out.now c.args.at) (c.to_le_bytes.ensures ∙ bytes-two c.args.value)

@@ -1,12 +1,8 @@
 -- Every byte of the block so far can stand where it does.
-use Prim.Native.Nat.{◌-◌, ◌≤◌}
 use mathlib.Core.Path.{◌≡◌}
 use Rattle.buffers.specs.Every.{every_below}
 use Rattle.pattern.specs.Placed.{placed_byte}
 use Rattle.pattern.proofs.blocks.all_placed.Given as goal
 
 abbrev pub invariant-loop-j : goal.invariant-loop-j
-invariant-loop-j l = (l.j ≤ 80) × (l.ok ≡ every_below l.j (placed_byte l.list l.i))
-
-abbrev pub decreases-loop-j : goal.decreases-loop-j
-decreases-loop-j l = 80 - l.j
+invariant-loop-j l = l.ok ≡ every_below l.j (placed_byte l.list l.i)

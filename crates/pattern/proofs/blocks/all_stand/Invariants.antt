@@ -1,12 +1,8 @@
 -- Every place of the block so far ends on a boundary.
-use Prim.Native.Nat.{◌-◌, ◌≤◌}
 use mathlib.Core.Path.{◌≡◌}
 use Rattle.buffers.specs.Every.{every_below}
 use Rattle.pattern.specs.Placed.{end_stands}
 use Rattle.pattern.proofs.blocks.all_stand.Given as goal
 
 abbrev pub invariant-loop-k : goal.invariant-loop-k
-invariant-loop-k l = (l.k ≤ 16) × (l.ok ≡ every_below l.k (end_stands l.text l.list l.i))
-
-abbrev pub decreases-loop-k : goal.decreases-loop-k
-decreases-loop-k l = 16 - l.k
+invariant-loop-k l = l.ok ≡ every_below l.k (end_stands l.text l.list l.i)

@@ -9,16 +9,16 @@ write_field-second-requires c = start-room _ _ _ c.args.out.now _ c.requires
 pub write_field-third-requires : goal.write_field-third-requires
 write_field-third-requires c = end-room _ _ _ _ _ c.requires c.write_field-second.ensures
 
-pub copy_bytes-requires : goal.copy_bytes-requires
-copy_bytes-requires c = bytes-room _ _ _ _ _ c.requires c.write_field-second.ensures c.write_field-third.ensures
+pub copy-requires : goal.copy-requires
+copy-requires c = bytes-room _ _ _ _ _ c.requires c.write_field-second.ensures c.write_field-third.ensures
 
 pub overflow_add-last : goal.overflow_add-last
 overflow_add-last c =
-    omega (arith, ending-room _ _ _ _ _ c.requires c.write_field-second.ensures c.write_field-third.ensures c.copy_bytes.ensures)
+    omega (arith, ending-room _ _ _ _ _ c.requires c.write_field-second.ensures c.write_field-third.ensures c.copy.ensures)
 
-pub fill_bytes-requires : goal.fill_bytes-requires
-fill_bytes-requires c =
-    ending-room _ _ _ _ _ c.requires c.write_field-second.ensures c.write_field-third.ensures c.copy_bytes.ensures
+pub fill-requires : goal.fill-requires
+fill-requires c =
+    ending-room _ _ _ _ _ c.requires c.write_field-second.ensures c.write_field-third.ensures c.copy.ensures
 
 pub overflow_add-result : goal.overflow_add-result
 overflow_add-result c =
@@ -26,9 +26,9 @@ overflow_add-result c =
       arith,
       ending-room _ _ _ _ _ c.requires
           c.write_field-second.ensures
-          c.write_field-third.ensures c.copy_bytes.ensures,
+          c.write_field-third.ensures c.copy.ensures,
     )
 
 pub returns : goal.returns
 returns c =
-    line-laid _ _ _ _ _ c.requires c.write_field-second.ensures c.write_field-third.ensures c.copy_bytes.ensures c.fill_bytes.ensures
+    line-laid _ _ _ _ _ c.requires c.write_field-second.ensures c.write_field-third.ensures c.copy.ensures c.fill.ensures

@@ -34,4 +34,4 @@ pub shape_of-out : goal.shape_of-out
 shape_of-out c = c.loop-i.invariant.same
 
 pub returns : goal.returns
-returns c = every-line c.loop-i.invariant c.requires.1 c.loop-i-test.false
+returns c = every-line c.loop-i.invariant c.requires.1 (omega arith)

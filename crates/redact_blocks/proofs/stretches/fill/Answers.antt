@@ -13,4 +13,4 @@ overflow_cast-last c =
 pub returns : goal.returns
 returns c =
     padded-laid c.requires c.char_start-first.ensures c.char_end-last.ensures c.copy_front_over.ensures
-    c.fill_offsets_over.ensures c.fill_offsets_over-2.ensures
+    c.fill_over.ensures c.fill_over-2.ensures

@@ -12,5 +12,5 @@ overflow_cast-last c =
 
 pub returns : goal.returns
 returns c =
-    padded-exact c.requires c.char_start-first.ensures c.char_end-last.ensures c.copy_bytes.ensures
-    c.fill_offsets.ensures c.fill_offsets-2.ensures
+    padded-exact c.requires c.char_start-first.ensures c.char_end-last.ensures c.copy.ensures
+    c.fill.ensures c.fill-2.ensures

@@ -6,7 +6,7 @@ use Rattle.redact_blocks.proofs.stretches.lay_block.Goals as goal
 pub returns-then-max_byte-lt128 : goal.returns-then-max_byte-lt128
 returns-then-max_byte-lt128 c =
     plain-laid c.args.text.now (omega (arith, c.requires.text_bound, c.if-max_byte-lt128.true)) c.requires.stretch_room.0
-    c.copy_bytes_block.ensures c.count_up.ensures c.count_up-then-max_byte-lt128.ensures
+    c.copy_block.ensures c.count_up.ensures c.count_up-then-max_byte-lt128.ensures
 
 pub starts_block-requires : goal.starts_block-requires
 starts_block-requires c =
@@ -19,11 +19,11 @@ ends_block-requires c =
 pub returns-then-max_byte-lt240 : goal.returns-then-max_byte-lt240
 returns-then-max_byte-lt240 c =
     block-laid c.requires.stretch_room.0
-    c.copy_bytes_block.ensures
+    c.copy_block.ensures
     c.starts_block.ensures c.ends_block.ensures
 
 pub returns : goal.returns
 returns c =
     block-laid c.requires.stretch_room.0
-    c.copy_bytes_block.ensures
+    c.copy_block.ensures
     c.starts_block-2.ensures c.ends_block-2.ensures

@@ -1,11 +1,6 @@
 -- Each turn gathers one word.
-use Prim.Native.Nat.{◌-◌}
-use lib.ListN.{length}
 use Rattle.redact_main.proofs.Gathers.{Gathering}
 use Rattle.redact_main.proofs.gathering.gather_arguments.Given as goal
 
 abbrev pub invariant-loop-k : goal.invariant-loop-k
-invariant-loop-k g l = Gathering l.initial.words l.initial.sizes l.words l.sizes l.at l.k
-
-abbrev pub decreases-loop-k : goal.decreases-loop-k
-decreases-loop-k g l = length l.sizes - l.k
+invariant-loop-k g l = Gathering l.initial.words l.initial.sizes l.words l.sizes l.at

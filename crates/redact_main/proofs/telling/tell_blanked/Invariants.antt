@@ -1,11 +1,6 @@
 -- Each turn tells of one literal.
-use Prim.Native.Nat.{◌-◌, ◌/◌}
-use lib.ListN.{length}
 use Rattle.word_pairs.proofs.Words.{At}
 use Rattle.redact_main.proofs.telling.tell_blanked.Given as goal
 
 abbrev pub invariant-loop-k : goal.invariant-loop-k
 invariant-loop-k g l = At l.words l.sizes l.k l.at
-
-abbrev pub decreases-loop-k : goal.decreases-loop-k
-decreases-loop-k g l = length l.sizes / 2 - l.k

@@ -8,8 +8,8 @@ copy_front_over-requires c = content-source c.requires.0 _ c.if-place.true c.req
 pub returns-then-place : goal.returns-then-place
 returns-then-place c = place-filled _ _ _ _ c.if-place.true c.copy_front_over.ensures
 
-pub copy_bytes_over-requires : goal.copy_bytes_over-requires
-copy_bytes_over-requires c = place-source c.requires.0 c.if-place.false
+pub copy_over-requires : goal.copy_over-requires
+copy_over-requires c = place-source c.requires.0 c.if-place.false
 
 pub returns : goal.returns
-returns c = place_kept _ _ _ _ c.if-place.false c.copy_bytes_over.ensures
+returns c = place_kept _ _ _ _ c.if-place.false c.copy_over.ensures

@@ -6,4 +6,4 @@ pub returns-then-content-gt16 : goal.returns-then-content-gt16
 returns-then-content-gt16 c = filled-by _ _ _ (content-alone _) c.lay_text.ensures
 
 pub returns : goal.returns
-returns c = filled-by _ _ _ (content-padded _ _ c.copy_bytes.ensures) c.lay_text-2.ensures
+returns c = filled-by _ _ _ (content-padded _ _ c.copy.ensures) c.lay_text-2.ensures

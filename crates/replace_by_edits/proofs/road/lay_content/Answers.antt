@@ -11,5 +11,5 @@ before_end-requires-2 c = let room = c.requires in omega (arith, room.onward, ro
 
 pub returns : goal.returns
 returns c =
-    all-content c.copy_bytes.ensures c.before_end.ensures c.fill_offsets.ensures
-    c.before_end-2.ensures c.fill_offsets-2.ensures
+    all-content c.copy.ensures c.before_end.ensures c.fill.ensures
+    c.before_end-2.ensures c.fill-2.ensures

@@ -1,29 +1,33 @@
--- By the number.
-use Rattle.replayed_edits.proofs.Replaying.{edits, lowercases, maps, ranges, redacts, replaces, roads, scripts}
+-- By the call.
+use Rattle.replayed_edits.proofs.Replaying.{answers}
 use Rattle.replayed_edits.proofs.publishing.answered.Goals as goal
 
-pub returns-in-10 : goal.returns-in-10
-returns-in-10 c = replaces c.in-10.is c.replace.ensures
+pub returns-in-Replace : goal.returns-in-Replace
+returns-in-Replace c = answers c.in-Replace.is c.replace.ensures
 
-pub returns-in-14 : goal.returns-in-14
-returns-in-14 c = redacts c.in-14.is c.redact.ensures
+pub returns-in-Redact : goal.returns-in-Redact
+returns-in-Redact c = answers c.in-Redact.is c.redact.ensures
 
-pub returns-in-19 : goal.returns-in-19
-returns-in-19 c = ranges c.in-19.is c.transform_range.ensures
+pub returns-in-TransformRange : goal.returns-in-TransformRange
+returns-in-TransformRange c = answers c.in-TransformRange.is c.transform_range.ensures
 
-pub returns-in-20 : goal.returns-in-20
-returns-in-20 c = scripts c.in-20.is c.transform.ensures
+pub returns-in-Transform : goal.returns-in-Transform
+returns-in-Transform c = answers c.in-Transform.is c.transform.ensures
 
-pub returns-in-21 : goal.returns-in-21
-returns-in-21 c = maps c.in-21.is c.map.ensures
+pub returns-in-Map : goal.returns-in-Map
+returns-in-Map c = answers c.in-Map.is c.map.ensures
 
-pub returns-in-26 : goal.returns-in-26
-returns-in-26 c = lowercases c.in-26.is c.lowercase.ensures
+pub returns-in-Filter : goal.returns-in-Filter
+returns-in-Filter c = answers c.in-Filter.is c.filter.ensures
 
-pub returns-in-27 : goal.returns-in-27
-returns-in-27 c = roads c.in-27.is c.replace_by_edits.ensures
+pub returns-in-Append : goal.returns-in-Append
+returns-in-Append c = answers c.in-Append.is c.append.ensures
 
-pub returns-in_default : goal.returns-in_default
-returns-in_default c =
-    let none = c.in_default.in_default-own.rest in
-    edits none.0.0.0.0.0.0.1 none.0.0.0.0.0.1 none.0.0.0.0.1 none.0.0.0.1 none.0.0.1 none.0.1 none.1 c.edit.ensures
+pub returns-in-Prepend : goal.returns-in-Prepend
+returns-in-Prepend c = answers c.in-Prepend.is c.prepend.ensures
+
+pub returns-in-Lowercase : goal.returns-in-Lowercase
+returns-in-Lowercase c = answers c.in-Lowercase.is c.lowercase.ensures
+
+pub returns-in-ReplaceByEdits : goal.returns-in-ReplaceByEdits
+returns-in-ReplaceByEdits c = answers c.in-ReplaceByEdits.is c.replace_by_edits.ensures

@@ -2,8 +2,8 @@
 use Rattle.replayed_edits.proofs.Replaying.{cleared, counted}
 use Rattle.replayed_edits.proofs.publishing.published.Goals as goal
 
-pub returns-then-call-eq-CLEAR : goal.returns-then-call-eq-CLEAR
-returns-then-call-eq-CLEAR c = cleared c.if-call-eq-CLEAR.true c.clear.ensures
+pub returns-in-Clear : goal.returns-in-Clear
+returns-in-Clear c = cleared c.in-Clear.is c.clear.ensures
 
-pub returns : goal.returns
-returns c = counted c.if-call-eq-CLEAR.false c.answered-answer.ensures c.is_published.ensures
+pub returns-in-Edit : goal.returns-in-Edit
+returns-in-Edit c = counted c.in-Edit.is c.answered-answer.ensures c.is_published.ensures

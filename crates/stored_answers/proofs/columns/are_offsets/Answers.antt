@@ -7,4 +7,4 @@ use Rattle.stored_answers.proofs.columns.are_offsets.Goals as goal
 
 pub returns : goal.returns
 returns c =
-    same-column (limit + 1) (limit + 1) c.args.column.now _ c.same_offsets.ensures c.offsets-n.ensures.laid (sym c.zeros-expected.ensures)
+    same-column (limit + 1) (limit + 1) c.args.column.now _ c.same.ensures c.offsets-n.ensures.laid (sym c.zeros-expected.ensures)

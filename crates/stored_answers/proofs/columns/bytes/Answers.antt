@@ -6,15 +6,15 @@ use native.Mathlib.Omega.{arith}
 use Rattle.stored_answers.proofs.Splice.{first-laid}
 use Rattle.stored_answers.proofs.columns.bytes.Goals as goal
 
-pub slice_bounds-copy_bytes-end : goal.slice_bounds-copy_bytes-end
-slice_bounds-copy_bytes-end c = sym (length-take-le c.least_of_two-n.result c.field-field.result.now (omega arith))
+pub slice_bounds-copy-end : goal.slice_bounds-copy-end
+slice_bounds-copy-end c = sym (length-take-le c.min-n.result c.field-field.result.now (omega arith))
 
-pub copy_bytes-requires : goal.copy_bytes-requires
-copy_bytes-requires c =
-    let size : length (take c.least_of_two-n.result c.field-field.result.now) ≡ c.least_of_two-n.result =
-    length-take-le c.least_of_two-n.result c.field-field.result.now (omega arith) in
+pub copy-requires : goal.copy-requires
+copy-requires c =
+    let size : length (take c.min-n.result c.field-field.result.now) ≡ c.min-n.result =
+    length-take-le c.min-n.result c.field-field.result.now (omega arith) in
     omega arith
 
 pub returns : goal.returns
 returns c =
-    record { prefix_len = (first-laid _ _ _ _ c.least_of_two-n.ensures c.copy_bytes.ensures c.field-field.ensures).0; laid = (first-laid _ _ _ _ c.least_of_two-n.ensures c.copy_bytes.ensures c.field-field.ensures).1 }
+    record { prefix_len = (first-laid _ _ _ _ c.min-n.ensures c.copy.ensures c.field-field.ensures).0; laid = (first-laid _ _ _ _ c.min-n.ensures c.copy.ensures c.field-field.ensures).1 }

@@ -5,7 +5,7 @@ use Rattle.stored_answers.proofs.Differences.{none-summed, one-summed, all-summe
 use Rattle.stored_answers.proofs.columns.numbers.Goals as goal
 
 pub loop-i-init : goal.loop-i-init
-loop-i-init c = none-summed (256 ^ 4) _ _ _ (omega arith) c.least_of_two-n.ensures
+loop-i-init c = none-summed (256 ^ 4) _ _ _ (omega arith) c.min-n.ensures
 
 pub loop-i-preserved : goal.loop-i-preserved
 loop-i-preserved c = one-summed c.loop-i.invariant c.loop-i-test.true c.number.ensures refl (omega arith)
@@ -15,4 +15,4 @@ shape_of-dst c = c.loop-i.invariant.laying.same
 
 pub returns : goal.returns
 returns c =
-    record { prefix_len = (all-summed c.loop-i.invariant c.loop-i-test.false c.least_of_two-n.ensures c.field-field.ensures).0; laid = (all-summed c.loop-i.invariant c.loop-i-test.false c.least_of_two-n.ensures c.field-field.ensures).1 }
+    record { prefix_len = (all-summed c.loop-i.invariant (omega arith) c.min-n.ensures c.field-field.ensures).0; laid = (all-summed c.loop-i.invariant (omega arith) c.min-n.ensures c.field-field.ensures).1 }

@@ -1,10 +1,7 @@
 -- Each turn adds one more difference.
-use Prim.Native.Nat.{◌-◌, ◌^◌}
+use Prim.Native.Nat.{◌^◌}
 use Rattle.stored_answers.proofs.Differences.{Summing}
 use Rattle.stored_answers.proofs.columns.numbers.Given as goal
 
 abbrev pub invariant-loop-i : goal.invariant-loop-i
 invariant-loop-i l = Summing (256 ^ 4) l.field l.initial.dst l.n l.dst l.last l.i
-
-abbrev pub decreases-loop-i : goal.decreases-loop-i
-decreases-loop-i l = l.n - l.i

@@ -1,3 +1,4 @@
+use native.Mathlib.Omega.{arith}
 use mathlib.Core.Path.{refl}
 use Rattle.stored_answers.proofs.Splice.{counted}
 use Rattle.stored_answers.proofs.Packing.{none-unpacked, one-unpacked, all-unpacked}
@@ -14,4 +15,4 @@ shape_of-dst c = c.loop-k.invariant.laying.same
 
 pub returns : goal.returns
 returns c =
-    record { prefix_len = counted _ _ c.loop-k.invariant.within; laid = all-unpacked c.loop-k.invariant c.loop-k-test.false refl }
+    record { prefix_len = counted _ _ c.loop-k.invariant.within; laid = all-unpacked c.loop-k.invariant (omega arith) refl }

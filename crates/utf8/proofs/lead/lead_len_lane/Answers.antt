@@ -4,4 +4,4 @@ use Rattle.utf8.proofs.LeadLen.{width-lead}
 use Rattle.utf8.proofs.lead.lead_len_lane.Goals as goal
 
 pub returns : goal.returns
-returns c = width-lead _ (omega arith) c.saturating_sub_u8-lead.ensures c.min_u8.ensures c.max_u8.ensures
+returns c = width-lead _ (omega arith) c.saturating_sub-lead.ensures c.min.ensures c.max.ensures

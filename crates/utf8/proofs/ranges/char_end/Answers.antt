@@ -1,10 +1,8 @@
-use mathlib.Core.Path.{◌∙◌, sym}
+use mathlib.Core.Path.{◌≡◌, ◌∙◌, sym}
 use native.Mathlib.Omega.{arith}
-use Rattle.utf8.proofs.CharRanges.{end_none, end_step, end_found, end-last}
+use lib.ListN.{length}
+use Rattle.utf8.proofs.CharRanges.{end_step, end_found, end-last}
 use Rattle.utf8.proofs.ranges.char_end.Goals as goal
-
-pub loop-k-init : goal.loop-k-init
-loop-k-init c = end_none _ _ (omega arith)
 
 pub returns-then-not-continues : goal.returns-then-not-continues
 returns-then-not-continues c =
@@ -14,4 +12,6 @@ pub loop-k-preserved : goal.loop-k-preserved
 loop-k-preserved c = end_step c.loop-k.invariant c.loop-k-test.true (sym c.continues.ensures ∙ c.if-not-continues.false)
 
 pub returns : goal.returns
-returns c = end-last c.requires.0 c.loop-k.invariant (omega arith)
+returns c =
+    let end : c.loop-k.k ≡ length c.args.text.now = omega (arith, c.loop-k.invariant.most) in
+    end-last c.requires.0 (rw end at c.loop-k.invariant) (omega arith)

@@ -1,10 +1,7 @@
-use mathlib.Core.Path.{◌∙◌, refl, sym}
+use mathlib.Core.Path.{◌∙◌, sym}
 use native.Mathlib.Omega.{arith}
 use Rattle.utf8.proofs.CharRanges.{char_start-begins, start-step, start_first}
 use Rattle.utf8.proofs.ranges.char_start.Goals as goal
-
-pub loop-k-init : goal.loop-k-init
-loop-k-init c = record { here = refl; most = omega arith }
 
 pub returns-then-not-continues : goal.returns-then-not-continues
 returns-then-not-continues c =

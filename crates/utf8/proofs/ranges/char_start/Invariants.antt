@@ -4,6 +4,3 @@ use Rattle.utf8.proofs.ranges.char_start.Given as goal
 
 abbrev pub invariant-loop-k : goal.invariant-loop-k
 invariant-loop-k l = StartBack l.text l.i l.k
-
-abbrev pub decreases-loop-k : goal.decreases-loop-k
-decreases-loop-k l = l.k

@@ -1,18 +1,8 @@
-use Rattle.validity_blocks.proofs.Valid.{flag-none, flag-more, flag-done, read_plain, rest-between}
+use native.Mathlib.Omega.{arith}
+use Rattle.validity_blocks.proofs.Valid.{each_between}
 use Rattle.validity_blocks.proofs.blocks.valid_plain.Goals as goal
 
-pub loop-j-init : goal.loop-j-init
-loop-j-init c = flag-none
-
-pub standing_plain-requires : goal.standing_plain-requires
-standing_plain-requires c =
-    let pre = c.requires in
-    (rest-between _ 1 _ pre.1 pre.2, rest-between _ 2 _ pre.1 pre.2, rest-between _ 3 _ pre.1 pre.2)
-
-pub loop-j-preserved : goal.loop-j-preserved
-loop-j-preserved c =
-    let low = c.requires.1 in
-    flag-more _ c.loop-j.invariant c.loop-j-test.true (read_plain _ _ low c.standing_plain.ensures) c.min_u8-flag.ensures
-
-pub returns : goal.returns
-returns c = flag-done c.loop-j.invariant c.loop-j-test.false
+pub all_stand-requires-clause-callable : goal.all_stand-requires-clause-callable
+all_stand-requires-clause-callable c j inside =
+    let four = each_between _ c.requires.1 c.requires.2 j inside in
+    (omega (arith, four.0.low), four.1, four.2, four.3)

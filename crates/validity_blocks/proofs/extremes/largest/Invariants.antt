@@ -1,10 +1,6 @@
 -- The larger of the largest so far and the largest of the rest is the text's.
-use Rattle.std.proofs.Common.{◌-◌, length}
 use Rattle.validity_blocks.proofs.Largest.{LargestSoFar}
 use Rattle.validity_blocks.proofs.extremes.largest.Given as goal
 
-abbrev pub invariant-loop-i : goal.invariant-loop-i
-invariant-loop-i l = LargestSoFar l.s l.most l.i
-
-abbrev pub decreases-loop-i : goal.decreases-loop-i
-decreases-loop-i l = length l.s - l.i
+abbrev pub invariant-loop-b : goal.invariant-loop-b
+invariant-loop-b l = LargestSoFar l.s l.most l.b-index

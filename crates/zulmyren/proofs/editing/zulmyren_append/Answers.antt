@@ -2,4 +2,4 @@
 use Rattle.zulmyren.proofs.editing.zulmyren_append.Goals as goal
 
 pub returns : goal.returns
-returns c = record { answer = c.append.result; told = c.edited_to_c.ensures; met = c.append.ensures }
+returns c = record { answer = c.append.result; told = c.from.ensures; met = c.append.ensures }

@@ -2,4 +2,4 @@
 use Rattle.zulmyren.proofs.editing.zulmyren_filter.Goals as goal
 
 pub returns : goal.returns
-returns c = record { answer = c.filter.result; told = c.edited_to_c.ensures; met = c.filter.ensures }
+returns c = record { answer = c.filter.result; told = c.from.ensures; met = c.filter.ensures }

@@ -2,4 +2,4 @@
 use Rattle.zulmyren.proofs.editing.zulmyren_lowercase.Goals as goal
 
 pub returns : goal.returns
-returns c = record { answer = c.lowercase.result; told = c.edited_to_c.ensures; met = c.lowercase.ensures }
+returns c = record { answer = c.lowercase.result; told = c.from.ensures; met = c.lowercase.ensures }

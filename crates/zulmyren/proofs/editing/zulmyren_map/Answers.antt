@@ -2,4 +2,4 @@
 use Rattle.zulmyren.proofs.editing.zulmyren_map.Goals as goal
 
 pub returns : goal.returns
-returns c = record { answer = c.map.result; told = c.edited_to_c.ensures; met = c.map.ensures }
+returns c = record { answer = c.map.result; told = c.from.ensures; met = c.map.ensures }

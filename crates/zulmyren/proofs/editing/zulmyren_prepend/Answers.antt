@@ -2,4 +2,4 @@
 use Rattle.zulmyren.proofs.editing.zulmyren_prepend.Goals as goal
 
 pub returns : goal.returns
-returns c = record { answer = c.prepend.result; told = c.edited_to_c.ensures; met = c.prepend.ensures }
+returns c = record { answer = c.prepend.result; told = c.from.ensures; met = c.prepend.ensures }

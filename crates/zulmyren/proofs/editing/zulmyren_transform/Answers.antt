@@ -2,4 +2,4 @@
 use Rattle.zulmyren.proofs.editing.zulmyren_transform.Goals as goal
 
 pub returns : goal.returns
-returns c = record { answer = c.transform.result; told = c.edited_to_c.ensures; met = c.transform.ensures }
+returns c = record { answer = c.transform.result; told = c.from.ensures; met = c.transform.ensures }

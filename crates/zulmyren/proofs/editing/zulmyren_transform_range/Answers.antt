@@ -4,4 +4,4 @@ use Rattle.zulmyren.proofs.editing.zulmyren_transform_range.Goals as goal
 
 pub returns : goal.returns
 returns c =
-    range-edit _ c.args.of_original c.args.start c.args.end _ _ c.side_of.ensures c.range_of-range.ensures c.transform_range.ensures c.edited_to_c.ensures
+    range-edit _ c.args.of_original c.args.start c.args.end _ _ c.side_of.ensures c.range_of-range.ensures c.transform_range.ensures c.from.ensures

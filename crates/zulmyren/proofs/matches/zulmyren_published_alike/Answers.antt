@@ -4,4 +4,4 @@ use Rattle.zulmyren.specs.Calls.{compared_of}
 use Rattle.zulmyren.proofs.matches.zulmyren_published_alike.Goals as goal
 
 pub returns : goal.returns
-returns c = c.comparison_to_c.ensures ∙ ap compared_of c.published_alike.ensures.answer
+returns c = c.from.ensures ∙ ap compared_of c.published_alike.ensures.answer

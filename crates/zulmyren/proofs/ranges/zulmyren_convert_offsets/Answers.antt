@@ -6,4 +6,4 @@ use Rattle.zulmyren.proofs.ranges.zulmyren_convert_offsets.Goals as goal
 
 pub returns : goal.returns
 returns c =
-    range-call (convert_offsets limit _) _ _ _ c.side_of.ensures c.range_of-range.ensures c.convert_offsets.ensures c.range_to_c.ensures
+    range-call (convert_offsets limit _) _ _ _ c.side_of.ensures c.range_of-range.ensures c.convert_offsets.ensures c.from.ensures

@@ -6,4 +6,4 @@ use Rattle.zulmyren.proofs.ranges.zulmyren_get_range.Goals as goal
 
 pub returns : goal.returns
 returns c =
-    range-call (get_range limit _) _ _ _ c.side_of.ensures c.range_of-range.ensures c.get_range.ensures c.range_to_c.ensures
+    range-call (get_range limit _) _ _ _ c.side_of.ensures c.range_of-range.ensures c.get_range.ensures c.from.ensures

@@ -7,4 +7,4 @@ returns c =
     slice-call c.args.of_original c.args.start c.args.end
     c.side_of.ensures
     c.range_of-range.ensures
-    c.slice.ensures c.slice_to_c.ensures
+    c.slice.ensures c.from.ensures

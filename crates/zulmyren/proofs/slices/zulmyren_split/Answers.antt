@@ -4,4 +4,4 @@ use Rattle.zulmyren.proofs.slices.zulmyren_split.Goals as goal
 
 pub returns : goal.returns
 returns c =
-    split-call c.args.behavior c.args.drop_empty c.behavior_of.ensures c.empty_of.ensures c.split.ensures c.cut_to_c.ensures
+    split-call c.args.behavior c.args.drop_empty c.behavior_of.ensures c.empty_of.ensures c.split.ensures c.from.ensures

@@ -4,4 +4,4 @@ use Rattle.zulmyren.specs.Calls.{letters_of}
 use Rattle.zulmyren.proofs.texts.zulmyren_letter_count.Goals as goal
 
 pub returns : goal.returns
-returns c = c.letters_to_c.ensures ∙ ap letters_of c.letter_count.ensures
+returns c = c.from.ensures ∙ ap letters_of c.letter_count.ensures

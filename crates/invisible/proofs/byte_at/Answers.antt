@@ -1,7 +1,0 @@
--- Within the text, and after it.
-use mathlib.Core.Path.{sym}
-use lib.ListN.{get_or-eq_default}
-use Rattle.invisible.proofs.byte_at.Goals as goal
-
-pub returns : goal.returns
-returns c = sym (get_or-eq_default c.args.text.now 0 c.if-i-text.false)

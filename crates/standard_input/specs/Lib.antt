@@ -1,2 +1,0 @@
--- What reading is held to.
-pub mod Counting
