@@ -6,7 +6,7 @@
  *     mkdir -p target
  *     gcc -std=c99 -Iinclude -o target/redact_example examples/redact.c crates/zulmyren_c/out/libzulmyren_c.a
  *   With a release, take -Idist/include and dist/lib/libzulmyren.a. Beside these, only a C library is needed, for
- *   memcpy, memmove and memset.
+ *   memcpy and memset.
  *
  * TWO WAYS TO CALL
  *   Most calls are here twice. First come the calls as the library has them, on plain pointers and numbers

@@ -13,12 +13,15 @@ ghost use Rattle.buffers.specs.Splice.{splice};
 // A position in a text, as a column of alignments holds it.
 pub type Offset = u16;
 
-// `src` is in `dst` from `at` on; all else is as it was.
+// `src` is in `dst` from `at` on; all else is as it was. A loop over the elements: the library's `copy_from_slice` tests
+// for an overlap, also where a caller's block is in a local array, and `filter` then misses its aim.
 pub fn copy<T: Copy>(src: &[T], dst: &mut [T], at: usize)
     requires { at + length src.now ≤ length dst.old }
     ensures { dst.new ≡ splice dst.old at src.now }
 {
-    dst[at..at + src.len()].copy_from_slice(src);
+    for (k, x) in src.iter().enumerate() {
+        dst[at + k] = *x;
+    }
 }
 
 // `count` times `value` is in `dst` from `at` on; all else is as it was.
