@@ -28,7 +28,8 @@ struct Tally {
     differing: u64,
 }
 
-// Whether the call answers as the case says.
+// Whether the call answers as the case says. A `match`: each call has buffers of its own, and a closure for each would
+// be no plainer.
 fn agrees(call: Call, case: &[u8]) -> bool {
     match call {
         Call::WellFormed => texts::well_formed(case),
