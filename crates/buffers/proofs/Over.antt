@@ -118,6 +118,16 @@ all-reached {whole} {d₀} {at} {d} l =
     let end : length whole ≡ at = sym (ap length is) ∙ length-take-le at d (omega (arith, l.room)) in
     sym (take-append-drop at d) ∙ rw (is, ← end, l.beyond)
 
+-- a run in one block
+pub short-block :
+    {A : Type 0} {src : List A} {from to : ℕ} {d : List A} {at until : ℕ} → Source src from to d at until → to - from ≤ 64 → to + 64 ≤ length src
+    → at + (to - from) + 64 ≤ until → {d₁ : List A} → d₁ ≡ splice d at (part src from (from + 64)) → Over (part src from to) d at until d₁
+short-block {src = src} {from = from} {to = to} {d = d} {at = at} {until = until} s few long below is =
+    let onward = s.onward in
+    let all : length (part src from (from + 64)) ≡ 64 = omega (arith, length_part src from (from + 64) (omega (arith, onward))) in
+    rw (part-front src from to (from + 64) (omega arith)) at
+    (over-front (to - from) (over-exact (part src from (from + 64)) d at until (omega (arith, s.until_room)) is) (omega arith) (omega (arith, s.until_room)) (omega arith))
+
 -- the front of a block
 pub front-block : {A : Type 0} {src : List A} {count : ℕ} {d : List A} {at until : ℕ} → Source src 0 count d at until → count ≤ 16 → 16 ≤ length src → at + 16 ≤ until → {d₁ : List A} → d₁ ≡ splice d at (part src 0 16) → Over (part src 0 count) d at until d₁
 front-block {src = src} {count = count} {d = d} {at = at} {until = until} s few long below is =

@@ -5,7 +5,7 @@ use mathlib.Core.Path.{◌≡◌, ◌∙◌, ap, refl, sym}
 use mathlib.Core.List.{List, [], ◌∷◌, ◌++◌, append_assoc, append-nil}
 use native.Mathlib.Numerals.{add-one}
 use native.Mathlib.Omega.{arith}
-use lib.ListN.{length, get_or, set, take, drop, replicate, length-append, length-take, length-drop, length-set, length-replicate, take-append-drop, drop_of_length-le, get_or-append}
+use lib.ListN.{length, get_or, set, take, drop, replicate, length-append, length-take, length-drop, length-set, length-replicate, get_or-replicate, take-append-drop, drop_of_length-le, get_or-append}
 use lib.Seq.{take_at, drop_at, drop-drop, drop-cons, length-take-le, take-length, get_or-take, get_or-drop, ext_get_or, set_split, take-set-le, take-take, take-add, set_at, take-append_seam, drop-append_seam, take_all, paste, paste-zero, paste-suc}
 use borrow.Rule.Slice.PartMut.{put_mid, Post-is}
 use Rattle.buffers.specs.Splice.{part, splice, overlay, Laid}
@@ -181,9 +181,17 @@ all-written {s = s} {j = j} w done =
     let full : j ≡ length s = omega (arith, w.most) in
     w.now_is ∙ rw (full, take-length s)
 
+-- a run of one value, n times
+pub one_same : (n v : ℕ) {d₀ d : List ℕ} {at j : ℕ} → Written (replicate n v) d₀ at d j → at + n ≤ length d₀ → j < n → Written (replicate n v) d₀ at (set d (at + j) v) (j + 1)
+one_same n v {j = j} w room more =
+    one_more w (simp length-replicate room) (simp length-replicate more) (sym (get_or-replicate n j v 0 more))
+
+pub all_same : (n v : ℕ) {d₀ d : List ℕ} {at j : ℕ} → Written (replicate n v) d₀ at d j → n ≤ j → d ≡ splice d₀ at (replicate n v)
+all_same n v w done = all-written w (simp length-replicate done)
+
 -- one value at each index
-pub all_same : {A : Type 0} (xs : List A) (i : ℕ) (v : A) → take i xs ≡ replicate i v → (n : ℕ) → length xs ≡ n → n ≤ i → xs ≡ replicate n v
-all_same xs i v so_far n long done =
+pub each_same : {A : Type 0} (xs : List A) (i : ℕ) (v : A) → take i xs ≡ replicate i v → (n : ℕ) → length xs ≡ n → n ≤ i → xs ≡ replicate n v
+each_same xs i v so_far n long done =
     let whole : xs ≡ replicate i v = sym (take_all i xs (omega arith)) ∙ so_far in
     let reach : i ≡ n = sym (length-replicate i v) ∙ sym (ap length whole) ∙ long in
     rw reach at whole

@@ -17,13 +17,18 @@ pub fn copy_block<T: Copy, const N: usize>(src: &[T], i: usize, dst: &mut [T], a
     copy(&block, dst, at);
 }
 
-// What `src` has from `from` up to `to` is in `dst` from `at` on.
+// What `src` has from `from` up to `to` is in `dst` from `at` on. A run of one block needs no loop: most runs are short.
 pub fn copy_over<T: Copy>(src: &[T], from: usize, to: usize, dst: &mut [T], at: usize, until: usize)
     requires { Source src.now from to dst.old at until }
     ensures { Over (part src.now from to) dst.old at until dst.new }
 {
-    if src.len() - to < 64 || until.saturating_sub(at + (to - from)) < 64 {
+    let end = at + (to - from);
+    if src.len() - to < 64 || until < end || until - end < 64 {
         copy(&src[from..to], dst, at);
+        return;
+    }
+    if to - from <= 64 {
+        copy_block::<T, 64>(src, from, dst, at);
         return;
     }
     for k in 0..(to - from).div_ceil(64) {
@@ -36,7 +41,7 @@ pub fn copy_front_over<T: Copy>(src: &[T], count: usize, dst: &mut [T], at: usiz
     requires { Source src.now 0 count dst.old at until }
     ensures { Over (part src.now 0 count) dst.old at until dst.new }
 {
-    if count <= 16 && 16 <= src.len() && 16 <= until.saturating_sub(at) {
+    if count <= 16 && 16 <= src.len() && at <= until && 16 <= until - at {
         copy_block::<T, 16>(src, 0, dst, at);
         return;
     }
@@ -48,7 +53,7 @@ pub fn fill_over<T: Copy>(value: T, count: usize, dst: &mut [T], at: usize, unti
     requires { (at + count ≤ length dst.old) × (until ≤ length dst.old) }
     ensures { Over (replicate count value) dst.old at until dst.new }
 {
-    if count <= 16 && 16 <= until.saturating_sub(at) {
+    if count <= 16 && at <= until && 16 <= until - at {
         fill(value, 16, dst, at);
         return;
     }

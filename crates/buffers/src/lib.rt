@@ -29,7 +29,7 @@ pub fn fill<T: Copy>(value: T, count: usize, dst: &mut [T], at: usize)
     requires { at + count ≤ length dst.old }
     ensures { dst.new ≡ splice dst.old at (replicate count value) }
 {
-    for x in dst[at..at + count].iter_mut() {
-        *x = value;
+    for j in 0..count {
+        dst[at + j] = value;
     }
 }

@@ -1,18 +1,21 @@
 -- Laws of `ascii`: the largest byte tells it, part by part; a text that is ASCII is well-formed.
-use Prim.Native.Nat.{ℕ, ◌≤◌, ◌<◌, max}
+use Prim.Native.Nat.{ℕ, ◌+◌, ◌-◌, ◌≤◌, ◌<◌, max}
 use mathlib.Core.Path.{◌≡◌, ◌∙◌, ap, refl, sym}
 use mathlib.Core.Bool.{Bool, true, false, ◌&&◌}
-use mathlib.Core.List.{List, [], ◌∷◌, ◌++◌}
+use mathlib.Core.List.{List, [], ◌∷◌}
 use borrow.Author.Tests.{lt-ltb, le-ltb, ltb-true}
 use native.Mathlib.Omega.{arith}
 use lib.Dec.{ltb}
-use lib.ListN.{length, get_or}
+use lib.ListN.{length, get_or, take, drop, length-drop}
+use lib.Seq.{drop-drop, take-length}
 use Rattle.buffers.specs.Every.{every_below}
+use Rattle.buffers.specs.Splice.{part}
 use Rattle.buffers.proofs.Cases.{le-or-lt}
 use Rattle.buffers.proofs.Every.{every-cons, every-at}
 use Rattle.utf8.specs.Formed.{formed, well_formed}
 use Rattle.utf8.proofs.Formed.{announced-one, asked-one}
 use Rattle.validity_blocks.specs.Extremes.{largest}
+use Rattle.validity_blocks.proofs.Largest.{largest-parts}
 use Rattle.validity.specs.Texts.{ascii, AsciiFormed}
 
 max-below : (a b n : ℕ) → ltb (max a b) n ≡ (ltb a n && ltb b n)
@@ -31,33 +34,34 @@ largest-ascii (b ∷ s) =
     ∙ ap (λ (r : Bool). ltb b 0x80 && r) (largest-ascii s)
     ∙ sym (every-cons (length s) (λ i. ltb (get_or (b ∷ s) i 0) 0x80))
 
-largest-append : (a b : List ℕ) → largest (a ++ b) ≡ max (largest a) (largest b)
-unfolding largest
-largest-append [] b = omega arith
-largest-append (x ∷ a) b = omega (arith, largest-append a b)
+-- the loop: the first i bytes are below 80, so that what is left tells what the text does
+pub record AsciiSoFar (s : List ℕ) (i : ℕ) : Type 0 where
+  pub most : i ≤ length s
+  pub rest : ltb (largest (drop i s)) 0x80 ≡ ascii s
 
--- the loop: the bytes before `rest` are below 80, so that `rest` tells what the text does
-pub record AsciiSoFar (s rest : List ℕ) : Type 0 where
-  pub tells : ltb (largest rest) 0x80 ≡ ascii s
+pub ascii-none : {s : List ℕ} → AsciiSoFar s 0
+ascii-none {s} = record { most = omega arith; rest = largest-ascii s }
 
-pub ascii-none : {s rest : List ℕ} → rest ≡ s → AsciiSoFar s rest
-ascii-none {s} whole = record { tells = rw whole (largest-ascii s) }
+-- m is the largest of the n bytes from i on
+module _ {s : List ℕ} {i m : ℕ} (n : ℕ) (k : AsciiSoFar s i) (h : i + n ≤ length s) (here : m ≡ largest (part s i (i + n))) where
+  ascii-parts : ascii s ≡ (ltb m 0x80 && ltb (largest (drop (i + n) s)) 0x80)
+  ascii-parts =
+      let size : i + n - i ≡ n = omega arith in
+      let part-here = rw size at here in
+      sym k.rest
+      ∙ ap (λ (b : ℕ). ltb b 0x80) (sym (largest-parts n (drop i s)))
+      ∙ max-below (largest (take n (drop i s))) (largest (drop n (drop i s))) 0x80
+      ∙ rw (part-here, drop-drop n i s)
 
--- m is the largest byte of the next block
-ascii-parts : {s rest : List ℕ} {m : ℕ} (block after : List ℕ) → AsciiSoFar s rest → rest ≡ block ++ after → m ≡ largest block → ascii s ≡ (ltb m 0x80 && ltb (largest after) 0x80)
-ascii-parts block after k cut here =
-    sym k.tells ∙ rw (cut, largest-append block after, here) (max-below (largest block) (largest after) 0x80)
+  pub ascii_more : m < 0x80 → AsciiSoFar s (i + n)
+  ascii_more low = record { most = h; rest = sym (ascii-parts ∙ rw (lt-ltb m 0x80 low)) }
 
-pub ascii_more : {s rest : List ℕ} {m : ℕ} (block after : List ℕ) → AsciiSoFar s rest → rest ≡ block ++ after → m ≡ largest block → m < 0x80 → AsciiSoFar s after
-ascii_more {m = m} block after k cut here low = record { tells = sym (ascii-parts block after k cut here ∙ rw (lt-ltb m 0x80 low)) }
+  pub ascii-not : 0x80 ≤ m → ascii s ≡ false
+  ascii-not high = ascii-parts ∙ rw (le-ltb m 0x80 high)
 
-pub ascii-not : {s rest : List ℕ} {m : ℕ} (block after : List ℕ) → AsciiSoFar s rest → rest ≡ block ++ after → m ≡ largest block → 0x80 ≤ m → ascii s ≡ false
-ascii-not {m = m} block after k cut here high = ascii-parts block after k cut here ∙ rw (le-ltb m 0x80 high)
-
-pub ascii-done : {s rest : List ℕ} → AsciiSoFar s rest → length rest ≡ 0 → true ≡ ascii s
-unfolding largest
-ascii-done {rest = []} k none = k.tells
-ascii-done {rest = b ∷ rest} k none = absurd (omega arith)
+pub ascii-done : {s : List ℕ} {i m : ℕ} → AsciiSoFar s i → m ≡ largest (part s i (length s)) → ltb m 0x80 ≡ ascii s
+ascii-done {s} {i} k here =
+    let rest = rw (← length-drop i s, take-length (drop i s)) at here in ap (λ (b : ℕ). ltb b 0x80) rest ∙ k.rest
 
 pub ascii-at : (s : List ℕ) → ascii s ≡ true → (i : ℕ) → i < length s → get_or s i 0 < 0x80
 unfolding ascii

@@ -19,12 +19,14 @@ const BLOCK: usize = 384;
 pub fn is_ascii(s: &[u8]) -> bool
     ensures { result ≡ ascii s.now }
 {
-    for block in s.chunks(ASCII_BLOCK) {
-        if 0x80 <= largest(block) {
+    let blocks = s.len() / ASCII_BLOCK;
+    for k in 0..blocks {
+        let i = k * ASCII_BLOCK;
+        if 0x80 <= largest(&s[i..i + ASCII_BLOCK]) {
             return false;
         }
     }
-    true
+    largest(&s[blocks * ASCII_BLOCK..]) < 0x80
 }
 
 // The byte at `k` of the text after three bytes 0; past its end is 0 too.

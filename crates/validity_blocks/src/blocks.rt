@@ -5,7 +5,7 @@ ghost use Rattle.validity_blocks.specs.Extremes.{largest, least_lead};
 ghost use Rattle.validity_blocks.specs.Valid.{AtEach, invalid, valid_first};
 
 use crate::bytes::{invalid, invalid_plain, invalid_plain_four, invalid_three, invalid_two};
-use crate::extremes::{Bounds, bounds_of};
+use crate::extremes::bounds_of;
 
 // Whether each byte of `s` but the first three can stand where it does, by a test that tells where one cannot.
 // No way out stands in the loop, so that it is vectorised. The parts are cut once: read at one index, they are loaded
@@ -66,29 +66,19 @@ fn valid_plain_four(s: &[u8]) -> bool
     all_stand(s, invalid_plain_four)
 }
 
-// The bounds of a block: of its first three bytes, and of the rest, which is as long as a loop over lanes likes.
-fn block_bounds(s: &[u8]) -> Bounds
-    requires { 3 ≤ length s.now }
-    ensures { (result.most ≡ largest s.now) × (result.least ≡ least_lead s.now) }
-{
-    let front = bounds_of(&s[..3]);
-    let back = bounds_of(&s[3..]);
-    Bounds {
-        most: front.most.max(back.most),
-        least: front.least.min(back.least),
-    }
-}
-
 // Whether each byte of `s` but the first three can stand where it does, by the test that the largest byte and the
 // least lead byte ask for.
 pub fn valid_block(s: &[u8]) -> bool
     requires { 3 ≤ length s.now }
     ensures { result ≡ valid_first s.now (length s.now - 3) }
 {
-    let Bounds { most, least } = block_bounds(s);
+    let front = bounds_of(&s[..3]);
+    let back = bounds_of(&s[3..]);
+    let most = front.most.max(back.most);
     if most < 0x80 {
         return true;
     }
+    let least = front.least.min(back.least);
     if least < 2 {
         return valid_four(s);
     }

@@ -1,7 +1,8 @@
 -- Each turn writes the value once more.
-use mathlib.Core.Path.{◌≡◌}
-use lib.ListN.{take, replicate}
+use Rattle.std.proofs.Common.{◌≡◌, length}
+use lib.ListN.{replicate}
+use lib.Seq.{paste}
 use Rattle.buffers.proofs.fill.Given as goal
 
-abbrev pub invariant-loop-x : goal.invariant-loop-x
-invariant-loop-x g l = take l.x-index l.x-items ≡ replicate l.x-index l.value
+abbrev pub invariant-loop-j : goal.invariant-loop-j
+invariant-loop-j g l = (l.dst ≡ paste l.initial.dst l.at (replicate l.count l.value) l.j) × (length l.dst ≡ length l.initial.dst)

@@ -1,22 +1,23 @@
-use mathlib.Core.Path.{◌∙◌, ap, sym}
+use Prim.Native.Nat.{◌+◌, ◌*◌, ◌/◌}
+use mathlib.Core.Path.{◌≡◌, sym}
 use native.Mathlib.Omega.{arith}
-use Rattle.std.specs.Slice.Iter.{chunks_rest, chunks_size}
+use lib.ListN.{length}
 use Rattle.validity.proofs.Ascii.{ascii-none, ascii_more, ascii-not, ascii-done}
 use Rattle.validity.proofs.is_ascii.Goals as goal
 
-pub loop-block-init : goal.loop-block-init
-loop-block-init c =
-    let same = c.into_iter-block-iterator.ensures.into_iter_gives in
-    (omega (arith, ap chunks_size same, c.chunks-block-items.ensures.size), tt, ascii-none (ap chunks_rest same ∙ c.chunks-block-items.ensures.rest))
+pub loop-k-init : goal.loop-k-init
+loop-k-init c = ascii-none
 
 pub returns-then-largest-ge128 : goal.returns-then-largest-ge128
 returns-then-largest-ge128 c =
-    sym (ascii-not _ _ c.loop-block.invariant.2 c.in-Some.ensures.steps.1.0 c.largest.ensures c.if-largest-ge128.true)
+    sym (ascii-not 1024 c.loop-k.invariant (omega arith) c.largest.ensures c.if-largest-ge128.true)
 
-pub loop-block-preserved : goal.loop-block-preserved
-loop-block-preserved c =
-    let step = c.in-Some.ensures.steps in
-    (omega (arith, step.0), tt, ascii_more _ _ c.loop-block.invariant.2 step.1.0 c.largest.ensures c.if-largest-ge128.false)
+pub loop-k-preserved : goal.loop-k-preserved
+loop-k-preserved c =
+    let next : (c.loop-k.k + 1) * 1024 ≡ c.loop-k.k * 1024 + 1024 = omega arith in
+    rw next (ascii_more 1024 c.loop-k.invariant (omega arith) c.largest.ensures c.if-largest-ge128.false)
 
 pub returns : goal.returns
-returns c = ascii-done c.loop-block.invariant.2 c.in-None.ensures.steps.1.0
+returns c =
+    let all : length c.args.s.now / 1024 ≡ c.loop-k.k = omega arith in
+    ascii-done c.loop-k.invariant (rw all at c.largest-2.ensures)

@@ -3,5 +3,5 @@ use native.Mathlib.Omega.{arith}
 use Rattle.buffers.proofs.Over.{front-block}
 use Rattle.buffers.proofs.blocks.copy_front_over.Goals as goal
 
-pub returns-then-saturating_sub-ge16 : goal.returns-then-saturating_sub-ge16
-returns-then-saturating_sub-ge16 g c = front-block c.requires (omega arith) (omega arith) (omega arith) c.copy_block.ensures
+pub returns-then-until-at-ge16 : goal.returns-then-until-at-ge16
+returns-then-until-at-ge16 g c = front-block c.requires (omega arith) (omega arith) (omega arith) c.copy_block.ensures

@@ -4,8 +4,8 @@ use lib.ListN.{length-replicate}
 use Rattle.buffers.proofs.Over.{over-exact, over-same}
 use Rattle.buffers.proofs.blocks.fill_over.Goals as goal
 
-pub returns-then-saturating_sub-ge16 : goal.returns-then-saturating_sub-ge16
-returns-then-saturating_sub-ge16 g c = over-same _ 16 _ _ _ c.if-count-le16.true (omega arith) c.requires.1 c.fill.ensures
+pub returns-then-until-at-ge16 : goal.returns-then-until-at-ge16
+returns-then-until-at-ge16 g c = over-same _ 16 _ _ _ c.if-count-le16.true (omega arith) c.requires.1 c.fill.ensures
 
 pub returns : goal.returns
 returns g c =
