@@ -49,6 +49,9 @@ unfolding splice
 over-splice {r} {d₀} {d} {at} o below =
     sym (take-append-drop (at + length r) d) ∙ rw (o.front, o.beyond (at + length r) (omega arith) below)
 
+pub over-wider : {r d₀ d : List ℕ} {at until : ℕ} (further : ℕ) → Over r d₀ at until d → until ≤ further → Over r d₀ at further d
+over-wider further o h = record { front = o.front; beyond = λ k past below. o.beyond k past (omega arith); same = o.same }
+
 -- and it is there
 pub over-run : {r d₀ d : List ℕ} {at until : ℕ} → Over r d₀ at until d → at + length r ≤ length d₀ → part d at (at + length r) ≡ r
 over-run {r} {d₀} {d} {at} o room =

@@ -24,6 +24,13 @@ tab-nil : tab_at [] ≡ 0
 unfolding tab_at
 tab-nil = refl
 
+pub tab-most : (s : List ℕ) → tab_at s ≤ length s
+tab-most [] = omega (arith, tab-nil)
+tab-most (b ∷ s) =
+    true-or-false (eqb b 0x09)
+    (λ t. rw (tab-cons b s, t) (omega arith))
+    (λ f. rw (tab-cons b s, f) (omega (arith, tab-most s)))
+
 -- a place with no tab before it, and the line's end or a tab at it
 pub first-tab : (s : List ℕ) (r : ℕ) → r ≤ length s → ((k : ℕ) → k < r → get_or s k 0 ≡ 0x09 → ⊥) → (r < length s → get_or s r 0 ≡ 0x09) → r ≡ tab_at s
 first-tab [] r within before found = omega (arith, tab-nil)

@@ -6,7 +6,10 @@ use mathlib.Core.List.{List, [], ◌∷◌}
 use native.Mathlib.Omega.{arith}
 use lib.Dec.{eqb}
 use Rattle.std.proofs.lemmas.List.Sums.{count_by-le-length, sum_by-cons}
-use lib.ListN.{length, drop, get_or, set}
+use borrow.Author.Tests.{eq-eqb, ne_eqb}
+use native.Mathlib.Numerals.{add-one}
+use lib.ListN.{length, drop, get_or, set, drop_of_length-le}
+use lib.Seq.{drop-cons}
 use Rattle.buffers.specs.Splice.{overlay}
 use Rattle.buffers.proofs.Splice.{Laying, none-laid, piece-laid, all_laid, store-one}
 use Rattle.find.specs.Matching.{found_places}
@@ -86,6 +89,30 @@ module _ {which : Word} {text bytes sizes column₀ column : List ℕ} {at k : �
 -- how many are 0
 pub zeros-cons : (x : ℕ) (xs : List ℕ) → zero_count (x ∷ xs) ≡ cond (eqb x 0) 1 0 + zero_count xs
 zeros-cons x xs = sum_by-cons (λ (y : ℕ). cond (eqb y 0) 1 0) x xs
+
+zero-cons : (xs : List ℕ) (i : ℕ) → i < length xs → zero_count (drop i xs) ≡ zero_count (get_or xs i 0 ∷ drop (i + 1) xs)
+zero-cons xs i h = let cut : drop i xs ≡ get_or xs i 0 ∷ drop (i + 1) xs = drop-cons xs i 0 h ∙ rw (add-one i) in ap zero_count cut
+
+pub record Zeros (column : List ℕ) (count i : ℕ) : Type 0 where
+  pub total : count + zero_count (drop i column) ≡ zero_count column
+  pub few : count ≤ i
+
+pub none-zero : (column : List ℕ) → Zeros column 0 0
+none-zero column = record { total = omega arith; few = omega arith }
+
+module _ {column : List ℕ} {count i : ℕ} (z : Zeros column count i) (h : i < length column) where
+  pub zero_more : get_or column i 0 ≡ 0 → Zeros column (count + 1) (i + 1)
+  zero_more is =
+      let here : zero_count (drop i column) ≡ 1 + zero_count (drop (i + 1) column) = zero-cons column i h ∙ zeros-cons (get_or column i 0) (drop (i + 1) column) ∙ rw (eq-eqb _ _ is) in
+      record { total = omega (arith, z.total, here); few = omega (arith, z.few) }
+
+  pub other_more : (get_or column i 0 ≡ 0 → ⊥) → Zeros column count (i + 1)
+  other_more is =
+      let here : zero_count (drop i column) ≡ 0 + zero_count (drop (i + 1) column) = zero-cons column i h ∙ zeros-cons (get_or column i 0) (drop (i + 1) column) ∙ rw (ne_eqb _ _ is) in
+      record { total = omega (arith, z.total, here); few = omega (arith, z.few) }
+
+pub zeros-end : {column : List ℕ} {count i : ℕ} → Zeros column count i → length column ≤ i → count ≡ zero_count column
+zeros-end {column} {count} {i} z h = omega (arith, z.total, ap zero_count (drop_of_length-le column h))
 
 pub zeros-few : (xs : List ℕ) → zero_count xs ≤ length xs
 zeros-few xs = count_by-le-length _ xs

@@ -106,5 +106,11 @@ const NONE: u32 = 0;
 pub fn zeros(column: &[u32]) -> usize
     ensures { result ≡ zero_count column.now }
 {
-    column.iter().filter(|x| **x == NONE).count()
+    let mut count = 0;
+    for x in column {
+        if *x == NONE {
+            count += 1;
+        }
+    }
+    count
 }
