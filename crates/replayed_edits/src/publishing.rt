@@ -67,18 +67,20 @@ fn published(
     }
 }
 
-// A call that publishes a note. An inner function: `at` is below 80, so that adding to it does not wrap.
-pub fn on_publishing(
-    call: PublishingCall,
+// A call that publishes a note, by its name or by its number. An inner function: `at` is below 80, so that adding to it
+// does not wrap.
+pub fn on_publishing<C: Into<PublishingCall>>(
+    call: C,
     case: &[u8],
     at: usize,
     starts: &[Offset],
     ends: &[Offset],
 ) -> bool
     requires { at < 80 }
-    ensures { Published call case.now at starts.now ends.now
+    ensures { (is : PublishingCall) × (C.converts call is
+        × Published is case.now at starts.now ends.now
         (take (limit + 1) (field_of at case.now)) (offset_column limit (field_of (at + 1) case.now))
-        (offset_column limit (field_of (at + 2) case.now)) result }
+        (offset_column limit (field_of (at + 2) case.now)) result) }
 {
     let mut out = large_buffer();
     let mut out_starts = zeros();
@@ -87,7 +89,7 @@ pub fn on_publishing(
     let s = offsets(case, at + 1, &mut out_starts);
     let e = offsets(case, at + 2, &mut out_ends);
     published(
-        call,
+        call.into(),
         case,
         at,
         starts,

@@ -84,6 +84,7 @@ pub fn filter(
         out.old out_starts.old out_ends.old
         result out.new out_starts.new out_ends.new }
 {
+    let flags = field(case, 5);
     zulmyren_filter(
         &NormalizedString {
             original: field(case, 0),
@@ -92,7 +93,7 @@ pub fn filter(
             ends,
             original_shift: value(case, 4),
         },
-        field(case, 5),
+        flags,
         out,
         out_starts,
         out_ends,
@@ -112,6 +113,7 @@ pub fn append(
         out.old out_starts.old out_ends.old
         result out.new out_starts.new out_ends.new }
 {
+    let appended = field(case, 5);
     zulmyren_append(
         &NormalizedString {
             original: field(case, 0),
@@ -120,7 +122,7 @@ pub fn append(
             ends,
             original_shift: value(case, 4),
         },
-        field(case, 5),
+        appended,
         out,
         out_starts,
         out_ends,
@@ -140,6 +142,7 @@ pub fn prepend(
         out.old out_starts.old out_ends.old
         result out.new out_starts.new out_ends.new }
 {
+    let prepended = field(case, 5);
     zulmyren_prepend(
         &NormalizedString {
             original: field(case, 0),
@@ -148,7 +151,7 @@ pub fn prepend(
             ends,
             original_shift: value(case, 4),
         },
-        field(case, 5),
+        prepended,
         out,
         out_starts,
         out_ends,

@@ -119,18 +119,25 @@ fn listed_beside(
     )
 }
 
-// A call that takes no columns leaves those of the note.
+// The call by its name or by its number. One that takes no columns leaves those of the note.
 // An inner function: `at` is below 90, so that adding to it does not wrap.
-pub fn on_pairs(call: PairsCall, case: &[u8], at: usize, starts: &[Offset], ends: &[Offset]) -> bool
+pub fn on_pairs<C: Into<PairsCall>>(
+    call: C,
+    case: &[u8],
+    at: usize,
+    starts: &[Offset],
+    ends: &[Offset],
+) -> bool
     requires { at < 90 }
-    ensures { PairsReplayed call case.now (at + 5) starts.now ends.now
+    ensures { (is : PairsCall) × (C.converts call is
+        × PairsReplayed is case.now (at + 5) starts.now ends.now
         (numbers_of (field_of at case.now)) (numbers_of (field_of (at + 1) case.now))
         (take 256 (field_of (at + 2) case.now)) (numbers_of (field_of (at + 3) case.now))
-        (numbers_of (field_of (at + 4) case.now)) result }
+        (numbers_of (field_of (at + 4) case.now)) result) }
 {
     let mut from = [0; FEW];
     let mut to = [0; FEW];
     let f = numbers(case, at, &mut from);
     let t = numbers(case, at + 1, &mut to);
-    listed_beside(call, case, at, starts, ends, &from[..f], &to[..t])
+    listed_beside(call.into(), case, at, starts, ends, &from[..f], &to[..t])
 }

@@ -5,3 +5,4 @@ pub mod Framing
 pub mod Packing
 pub mod Differences
 pub mod Lending
+pub mod Calls

@@ -1,4 +1,7 @@
-// The calls that are replayed, by what they take.
+// The calls that are replayed, by what they take. Some are passed by their numbers too: a call's number is its place in
+// `CALLS`.
+ghost use Rattle.std.specs.Prelude.{◌≡◌};
+ghost use Rattle.stored_answers.specs.Calls.{edit_call, pairs_call, publishing_call};
 
 // One on a note and a range.
 #[derive(Clone, Copy)]
@@ -13,6 +16,18 @@ pub enum RangeCall {
 pub enum PairsCall {
     CharOffsetsAll,
     ConvertAll,
+}
+
+// Any number but that of `char_offsets_all` is taken for `convert_all`.
+impl From<u8> for PairsCall {
+    ghost from_gives = { λ number call. call ≡ pairs_call number };
+
+    fn from(number: u8) -> PairsCall {
+        match number {
+            3 => PairsCall::CharOffsetsAll,
+            _ => PairsCall::ConvertAll,
+        }
+    }
 }
 
 // One that publishes a note, and answers with its length.
@@ -30,11 +45,42 @@ pub enum EditCall {
     ReplaceByEdits,
 }
 
+// Any number but those of the others is taken for `prepend`.
+impl From<u8> for EditCall {
+    ghost from_gives = { λ number call. call ≡ edit_call number };
+
+    fn from(number: u8) -> EditCall {
+        match number {
+            10 => EditCall::Replace,
+            14 => EditCall::Redact,
+            19 => EditCall::TransformRange,
+            20 => EditCall::Transform,
+            21 => EditCall::Map,
+            22 => EditCall::Filter,
+            23 => EditCall::Append,
+            26 => EditCall::Lowercase,
+            27 => EditCall::ReplaceByEdits,
+            _ => EditCall::Prepend,
+        }
+    }
+}
+
 // One that publishes a note: clearing answers with two lengths.
 #[derive(Clone, Copy)]
 pub enum PublishingCall {
     Clear,
     Edit(EditCall),
+}
+
+impl From<u8> for PublishingCall {
+    ghost from_gives = { λ number call. call ≡ publishing_call number };
+
+    fn from(number: u8) -> PublishingCall {
+        match number {
+            25 => PublishingCall::Clear,
+            _ => PublishingCall::Edit(EditCall::from(number)),
+        }
+    }
 }
 
 // One on a note.

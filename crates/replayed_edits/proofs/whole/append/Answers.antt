@@ -5,4 +5,4 @@ use Rattle.replayed_edits.proofs.whole.append.Goals as goal
 
 pub returns : goal.returns
 returns c =
-    whole-lent _ _ _ c.field.ensures c.field-2.ensures c.value.ensures AppendTold c.field-3.ensures c.zulmyren_append.ensures
+    whole-lent _ _ _ c.field.ensures c.field-2.ensures c.value.ensures AppendTold c.field-appended.ensures c.zulmyren_append.ensures

@@ -5,4 +5,4 @@ use Rattle.replayed_edits.proofs.whole.filter.Goals as goal
 
 pub returns : goal.returns
 returns c =
-    whole-lent _ _ _ c.field.ensures c.field-2.ensures c.value.ensures FilterTold c.field-3.ensures c.zulmyren_filter.ensures
+    whole-lent _ _ _ c.field.ensures c.field-2.ensures c.value.ensures FilterTold c.field-flags.ensures c.zulmyren_filter.ensures

@@ -5,4 +5,4 @@ use Rattle.replayed_edits.proofs.whole.prepend.Goals as goal
 
 pub returns : goal.returns
 returns c =
-    whole-lent _ _ _ c.field.ensures c.field-2.ensures c.value.ensures PrependTold c.field-3.ensures c.zulmyren_prepend.ensures
+    whole-lent _ _ _ c.field.ensures c.field-2.ensures c.value.ensures PrependTold c.field-prepended.ensures c.zulmyren_prepend.ensures

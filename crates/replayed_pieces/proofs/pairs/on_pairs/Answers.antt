@@ -4,5 +4,6 @@ use Rattle.replayed_pieces.proofs.Replaying.{pairs-lent}
 use Rattle.replayed_pieces.proofs.pairs.on_pairs.Goals as goal
 
 pub returns : goal.returns
-returns c =
-    pairs-lent (numbers-filled _ c.numbers-f.ensures.laid) (numbers-filled _ c.numbers-t.ensures.laid) c.listed_beside.ensures
+returns g c =
+    let replayed = pairs-lent (numbers-filled _ c.numbers-f.ensures.laid) (numbers-filled _ c.numbers-t.ensures.laid) c.listed_beside.ensures in
+    (_, (c.into.ensures, replayed))
