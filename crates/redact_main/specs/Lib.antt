@@ -1,3 +1,4 @@
--- What the program gathers and tells.
+-- What the program is asked for, gathers and tells.
+pub mod Asked
 pub mod Gathering
 pub mod Telling

@@ -1,5 +1,6 @@
 // The arguments that the program was started with. Their bytes need not be UTF-8.
-ghost use Rattle.std.specs.Prelude.{◌≡◌, ◌≤◌, length};
+ghost use Rattle.std.specs.Prelude.{◌≡◌, ◌≤◌, IfSome, length};
+ghost use Rattle.redact_main.specs.Asked.{CountFits};
 
 use buffers::equality::same;
 use std::env::FillError;
@@ -90,7 +91,9 @@ fn mode_asked(rt: &impl Env) -> Option<Mode> {
 }
 
 // After `pairs` there are a literal and a filler at least, and as many literals as fillers; after `names` a file.
-fn source_asked(rt: &impl Env, count: usize) -> Option<Source> {
+fn source_asked(rt: &impl Env, count: usize) -> Option<Source>
+    ensures { IfSome result (λ source. CountFits source count) }
+{
     if argument_is(rt, 3, b"pairs") && 5 < count && count % 2 == 0 {
         return Some(Source::Pairs);
     }
@@ -101,7 +104,9 @@ fn source_asked(rt: &impl Env, count: usize) -> Option<Source> {
 }
 
 // What a program was asked for that was started with `count` arguments, its own name among them.
-pub fn order_asked(rt: &impl Env, count: usize) -> Option<Order> {
+pub fn order_asked(rt: &impl Env, count: usize) -> Option<Order>
+    ensures { IfSome result (λ order. CountFits order.source count) }
+{
     let output = output_asked(rt)?;
     let mode = mode_asked(rt)?;
     let source = source_asked(rt, count)?;

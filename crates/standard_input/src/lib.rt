@@ -3,6 +3,7 @@
 #![tactic(auto)]
 
 ghost use Rattle.std.specs.Prelude.{◌≡◌, ◌≤◌, IfOk, length};
+ghost use Rattle.std.specs.Str.{IsUtf8};
 
 use std::fs::File;
 use std::io;
@@ -17,8 +18,10 @@ pub fn large_buffer() -> [u8; 65536]
     [0; 65536]
 }
 
-// The file of this name.
-pub fn open<R: Files>(rt: &R, name: &[u8]) -> io::Result<R::File> {
+// The file of this name. What the system has of that name cannot be told; a name that is not UTF-8 opens none.
+pub fn open<R: Files>(rt: &R, name: &[u8]) -> io::Result<R::File>
+    ensures { IfOk result (λ _. IsUtf8 name.now) }
+{
     match from_utf8(name) {
         Ok(path) => File::open(rt, path),
         Err(_) => Err(io::Error::new(io::ErrorKind::InvalidFilename, "its name is not UTF-8")),
